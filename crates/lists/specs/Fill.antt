@@ -1,0 +1,55 @@
+-- Loops that fill or change a slice place by place, where a function gives the entries.
+use mathlib.Core.Path.{_≡_, refl, sym, _∙_, ap, subst}
+use mathlib.Core.List.{List}
+use Prim.Native.Nat.{ℕ, _+_, _-_, _≤_, _<_}
+use native.Mathlib.Nat.{not-suc-le-zero, ne-of-gt, ne-of-lt}
+use native.Mathlib.Omega.{arith}
+use native.Mathlib.Decide.{ℕ-discrete}
+use lib.ListN.{length, getD, set}
+use lib.Seq.{getD-set-same, getD-set-other, ext-getD}
+use Rattle.lists.specs.Tabulate.{tabulate, tabulate-is}
+
+abbrev pub entryOf : List ℕ → ℕ → ℕ
+entryOf s i = getD s i 0
+
+-- the places from i below k have what f gives
+abbrev pub Filled : (ℕ → ℕ) → List ℕ → ℕ → ℕ → Type 0
+Filled f s i k = (j : ℕ) → i ≤ j → j < k → getD s j 0 ≡ f j
+
+-- setting the place after them
+pub fill-next : (f : ℕ → ℕ) (s : List ℕ) (i k v : ℕ) → k < length s → v ≡ f k → Filled f s i k → Filled f (set s k v) i (k + 1)
+fill-next f s i k v l e h j m u = go (ℕ-discrete j k)
+  where
+    go : Dec (j ≡ k) → getD (set s k v) j 0 ≡ f j
+    go (yes r) = ap (λ (t : ℕ). getD (set s k v) t 0) r ∙ getD-set-same s k v 0 l ∙ e ∙ ap f (sym r)
+    go (no r) = getD-set-other s k j v 0 r ∙ h j m (omega arith)
+
+-- setting the place before them
+pub fill-before : (f : ℕ → ℕ) (s : List ℕ) (i k v : ℕ) → i < length s → v ≡ f i → Filled f s (i + 1) k → Filled f (set s i v) i k
+fill-before f s i k v l e h j m u = go (ℕ-discrete j i)
+  where
+    go : Dec (j ≡ i) → getD (set s i v) j 0 ≡ f j
+    go (yes r) = ap (λ (t : ℕ). getD (set s i v) t 0) r ∙ getD-set-same s i v 0 l ∙ e ∙ ap f (sym r)
+    go (no r) = getD-set-other s i j v 0 r ∙ h j (omega arith) u
+
+-- walking on: the place passed is no more among those untouched
+pub fill-rest : (f : ℕ → ℕ) (s : List ℕ) (i k v : ℕ) → Filled f s i k → Filled f (set s i v) (i + 1) k
+fill-rest f s i k v h j m u = getD-set-other s i j v 0 (ne-of-gt (omega arith)) ∙ h j (omega arith) u
+
+-- the same for a walk from the end to the front
+pub fill-back : (f : ℕ → ℕ) (s : List ℕ) (i k v : ℕ) → 0 < i → i ≤ length s → v ≡ f (i - 1) → Filled f s i k → Filled f (set s (i - 1) v) (i - 1) k
+fill-back f s i k v l u e h =
+    let n : i ≡ i - 1 + 1 = omega arith in
+    fill-before f s (i - 1) k v (omega arith) e (subst (λ (m : ℕ). Filled f s m k) n h)
+
+pub fill-front : (f : ℕ → ℕ) (s : List ℕ) (i v : ℕ) → Filled f s 0 i → Filled f (set s (i - 1) v) 0 (i - 1)
+fill-front f s i v h j m u = getD-set-other s (i - 1) j v 0 (ne-of-lt u) ∙ h j m (omega arith)
+
+pub filled-none : (f : ℕ → ℕ) (s : List ℕ) (i k : ℕ) → k ≤ i → Filled f s i k
+filled-none f s i k l j m u = absurd (not-suc-le-zero {n = 0} (omega arith))
+
+pub filled-is : (f : ℕ → ℕ) (s : List ℕ) (n : ℕ) → length s ≡ n → Filled f s 0 n → s ≡ tabulate n f
+filled-is f s n e h = tabulate-is n f s e (λ (i : ℕ) (l : i < n). h i (omega arith) l)
+
+pub filled-own : (s : List ℕ) (i k : ℕ) → Filled (entryOf s) s i k
+filled-own s i k j m u = refl

@@ -1,0 +1,11 @@
+pub mod Choice
+pub mod All
+pub mod Rising
+pub mod Range
+pub mod Maps
+pub mod Pieces
+pub mod Number
+pub mod Bytes
+pub mod Tabulate
+pub mod Fill
+pub mod Tests

@@ -1,0 +1,31 @@
+-- Numbers and their digits.
+use mathlib.Core.Path.{_≡_, sym, ap, _∙_, subst}
+use mathlib.Core.List.{List, [], _∷_, _++_}
+use Prim.Native.Nat.{ℕ, suc, _+_, _*_, _^_, _<_}
+use native.Mathlib.Nat.{zero-add, add-comm, add-assoc, mul-add, mul-assoc, mul-comm, one-mul, pow-zero, pow-suc, zero-lt-suc}
+use lib.Arith.{digits-lt}
+use lib.ListN.{length, getD}
+
+-- the number with the given digits to the base b, lowest first
+unfoldable pub number : ℕ → List ℕ → ℕ
+number b [] = 0
+number b (d ∷ ds) = d + b * number b ds
+
+pub number-append : (b : ℕ) (xs ys : List ℕ) → number b (xs ++ ys) ≡ number b xs + b ^ length xs * number b ys
+unfolding number
+number-append b [] ys = sym (zero-add (b ^ 0 * number b ys) ∙ ap (λ (k : ℕ). k * number b ys) (pow-zero b) ∙ one-mul (number b ys))
+number-append b (x ∷ xs) ys =
+    ap (λ (k : ℕ). x + b * k) (number-append b xs ys)
+    ∙ ap (λ (k : ℕ). x + k) (mul-add b (number b xs) (b ^ length xs * number b ys))
+    ∙ sym (add-assoc x (b * number b xs) (b * (b ^ length xs * number b ys)))
+    ∙ ap (λ (k : ℕ). x + b * number b xs + k)
+    (sym (mul-assoc b (b ^ length xs) (number b ys)) ∙ ap (λ (k : ℕ). k * number b ys) (mul-comm b (b ^ length xs) ∙ sym (pow-suc b (length xs))))
+
+-- with digits below the base, the number is below the power of the base
+pub number-lt : (b : ℕ) (ds : List ℕ) → ((i : ℕ) → getD ds i 0 < b) → number b ds < b ^ length ds
+unfolding number
+number-lt b [] h = subst (λ (x : ℕ). 0 < x) (sym (pow-zero b)) (zero-lt-suc 0)
+number-lt b (d ∷ ds) h =
+    subst (λ (x : ℕ). d + b * number b ds < x) (sym (pow-suc b (length ds)))
+    (subst (λ (x : ℕ). x < b ^ length ds * b) (add-comm (number b ds * b) d ∙ ap (λ (x : ℕ). d + x) (mul-comm (number b ds) b))
+    (digits-lt (number-lt b ds (λ i. h (suc i))) (h 0)))

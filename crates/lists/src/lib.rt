@@ -1,0 +1,1 @@
+// Definitions and laws over lists of numbers: see specs/. No function.
