@@ -1,0 +1,146 @@
+-- The sum of the products of two lists of numbers, modulo q.
+use mathlib.Core.Path.{_≡_, refl, sym, _∙_, ap, ap₂}
+use mathlib.Core.List.{List, [], _∷_}
+use Prim.Native.Nat.{ℕ, zero, suc, _+_, _*_, _/_, _%_, _≤_, _<_}
+use native.Mathlib.Nat.{mod-lt, le-refl, suc-inj, suc-ne-zero, not-suc-le-zero, le-of-suc-le-suc, div-add-mod', mul-le-mul, div-lt-iff-lt-mul}
+use native.Mathlib.Numerals.{add-one}
+use native.Mathlib.Omega.{arith}
+use lib.Dec.{lit<}
+use lib.ListN.{length, getD, take}
+use lib.Seq.{take-length}
+use Rattle.algebra.specs.Prime.{q}
+use Rattle.algebra.specs.Field.{K, of, same-mod, of-add, of-mul, of-zero, of-one, _⊕_, _⊗_, 𝟏, dv, ring, dif-path, ⊗-zero, ⊗-one, ⊗-comm}
+use Rattle.algebra.specs.Columns.{powN}
+use Rattle.algebra.specs.Numbers.{ofs, evalN, evalN-below, of-evalN, of-injective}
+use Rattle.algebra.specs.Poly.{eval}
+use Rattle.lists.specs.Tabulate.{tabulate-is, tabulateFrom, tabulate}
+use Rattle.lists.specs.Fill.{Filled, entryOf}
+use Rattle.algebra.specs.Divided.{of-mod}
+use Rattle.algebra.specs.Interp.{dot}
+
+unfoldable pub products : List ℕ → List ℕ → ℕ
+products [] bs = 0
+products (a ∷ as′) [] = 0
+products (a ∷ as′) (b ∷ bs) = a * b + products as′ bs
+
+unfoldable pub dotN : List ℕ → List ℕ → ℕ
+dotN xs ys = products xs ys % q
+
+pub dotN-below : (xs ys : List ℕ) → dotN xs ys < q
+unfolding dotN
+dotN-below xs ys = mod-lt _ (lit< tt)
+
+of-products : (xs ys : List ℕ) → of (products xs ys) ≡ dot (ofs xs) (ofs ys)
+unfolding products dot
+of-products [] ys = of-zero
+of-products (a ∷ xs) [] = of-zero
+of-products (a ∷ xs) (b ∷ ys) = sym (of-add (a * b) (products xs ys)) ∙ ap₂ _⊕_ (sym (of-mul a b)) (of-products xs ys)
+
+pub of-dotN : (xs ys : List ℕ) → of (dotN xs ys) ≡ dot (ofs xs) (ofs ys)
+unfolding dotN
+of-dotN xs ys = of-mod (products xs ys) ∙ of-products xs ys
+
+-- ---- a loop from the first product to the last
+pub products-suc : (xs ys : List ℕ) (i : ℕ) → i < length xs → i < length ys
+    → products (take (suc i) xs) (take (suc i) ys) ≡ products (take i xs) (take i ys) + getD xs i 0 * getD ys i 0
+unfolding products
+products-suc [] ys i l m = absurd (not-suc-le-zero l)
+products-suc (a ∷ xs) [] i l m = absurd (not-suc-le-zero m)
+products-suc (a ∷ xs) (b ∷ ys) zero l m = omega arith
+products-suc (a ∷ xs) (b ∷ ys) (suc i) l m = omega (arith, products-suc xs ys i (le-of-suc-le-suc l) (le-of-suc-le-suc m))
+
+-- The sums of the lower and the upper halves of the first i products. Shut, so that omega does not read its large numbers.
+unfoldable pub Halves : List ℕ → List ℕ → ℕ → ℕ → ℕ → Type 0
+Halves xs ys i low high = low + 8589934592 * high ≡ products (take i xs) (take i ys)
+
+pub halves-none : (xs ys : List ℕ) → Halves xs ys 0 0 0
+unfolding Halves products
+halves-none xs ys = refl
+
+-- one product more
+pub halves-turn : (xs ys : List ℕ) (i low high p : ℕ) → i < length xs → length ys ≡ length xs → p ≡ getD xs i 0 * getD ys i 0
+    → Halves xs ys i low high → Halves xs ys (i + 1) (low + p % 8589934592) (high + p / 8589934592)
+unfolding Halves
+halves-turn xs ys i low high p l m e h =
+    omega (arith, div-add-mod' p 8589934592)
+    ∙ sym (products-suc xs ys i l (omega arith))
+    ∙ ap (λ (k : ℕ). products (take k xs) (take k ys)) (sym (add-one i))
+
+-- all products: 2^33 is 2 q + 10
+pub halves-done : (xs ys : List ℕ) (i low high : ℕ) → i ≡ length xs → length ys ≡ length xs → Halves xs ys i low high → (low + 10 * high) % q ≡ dotN xs ys
+unfolding dotN Halves
+halves-done xs ys i low high e m h =
+    same-mod (low + 10 * high) (low + 8589934592 * high) (2 * high) 0 (omega arith)
+    ∙ ap (λ (t : ℕ). t % q) (h ∙ ap₂ products (ap (λ (k : ℕ). take k xs) e ∙ take-length xs) (ap (λ (k : ℕ). take k ys) (e ∙ sym m) ∙ take-length ys))
+
+-- a product of two 32-bit numbers
+pub product-bound : (a b : ℕ) → a < 4294967296 → b < 4294967296 → a * b ≤ 18446744065119617025
+product-bound a b l m = mul-le-mul {n₂ = 4294967295} {m₂ = 4294967295} (omega arith) (omega arith)
+
+pub low-turn : (low i p : ℕ) → low ≤ 8589934591 * i → low + p % 8589934592 ≤ 8589934591 * (i + 1)
+low-turn low i p h = let l : p % 8589934592 < 8589934592 = mod-lt p (lit< tt) in omega arith
+
+pub high-turn : (high i p : ℕ) → p < 18446744073709551616 → high ≤ 2147483647 * i → high + p / 8589934592 ≤ 2147483647 * (i + 1)
+high-turn high i p u h = let l : p / 8589934592 < 2147483648 = div-lt-iff-lt-mul {k = 8589934592} {x = p} {y = 2147483648} (lit< tt) .1 u in small high i (p / 8589934592) l h
+  where
+    small : (high i d : ℕ) → d < 2147483648 → high ≤ 2147483647 * i → high + d ≤ 2147483647 * (i + 1)
+    small high i d l h = omega arith
+
+pub sum-bound : (s i : ℕ) → i < 65536 → s ≤ 2147483647 * (i + 1) → s < 18446744073709551616
+sum-bound s i l h = omega arith
+
+-- ---- a row times c added, entry by entry
+unfoldable pub accumulateN : List ℕ → ℕ → List ℕ → List ℕ
+accumulateN [] c row = []
+accumulateN (a ∷ acc) c [] = a ∷ acc
+accumulateN (a ∷ acc) c (b ∷ row) = ((a + c * b) % q) ∷ accumulateN acc c row
+
+pub accumulatedAt : List ℕ → ℕ → List ℕ → ℕ → ℕ
+accumulatedAt acc c row i = (getD acc i 0 + c * getD row i 0) % q
+
+pub accumulated-turn : (acc row now : List ℕ) (c i n v : ℕ) → i < n → Filled (entryOf acc) now i n → v ≡ (getD now i 0 + c * getD row i 0) % q → v ≡ accumulatedAt acc c row i
+unfolding accumulatedAt
+accumulated-turn acc row now c i n v l h e = e ∙ ap (λ (t : ℕ). (t + c * getD row i 0) % q) (h i (le-refl i) l)
+
+accumulateN-at : (acc row : List ℕ) (c i : ℕ) → length row ≡ length acc → i < length acc → getD (accumulateN acc c row) i 0 ≡ accumulatedAt acc c row i
+unfolding accumulateN accumulatedAt
+accumulateN-at [] row c i e l = absurd (not-suc-le-zero l)
+accumulateN-at (a ∷ acc) [] c i e l = absurd (suc-ne-zero _ (sym e))
+accumulateN-at (a ∷ acc) (b ∷ row) c zero e l = refl
+accumulateN-at (a ∷ acc) (b ∷ row) c (suc i) e l = accumulateN-at acc row c i (suc-inj e) (le-of-suc-le-suc l)
+
+pub length-accumulateN : (acc row : List ℕ) (c : ℕ) → length (accumulateN acc c row) ≡ length acc
+unfolding accumulateN
+length-accumulateN [] row c = refl
+length-accumulateN (a ∷ acc) [] c = refl
+length-accumulateN (a ∷ acc) (x ∷ row) c = ap suc (length-accumulateN acc row c)
+
+pub accumulateN-is : (acc row : List ℕ) (c : ℕ) → length row ≡ length acc → tabulate (length acc) (accumulatedAt acc c row) ≡ accumulateN acc c row
+accumulateN-is acc row c e =
+    sym (tabulate-is (length acc) (accumulatedAt acc c row) (accumulateN acc c row) (length-accumulateN acc row c) (λ (i : ℕ) (l : i < length acc). accumulateN-at acc row c i e l))
+
+pub folded-turn : (acc row now : List ℕ) (c i n v : ℕ) → i < n → Filled (entryOf acc) now i n → v ≡ (getD row i 0 + c * getD now i 0) % q → v ≡ accumulatedAt row c acc i
+unfolding accumulatedAt
+folded-turn acc row now c i n v l h e = e ∙ ap (λ (t : ℕ). (getD row i 0 + c * t) % q) (h i (le-refl i) l)
+
+-- ---- a polynomial's value is its dot product with the powers
+powers-dot : (x : K) (f : ℕ → ℕ) (i : ℕ) (p : List ℕ) → ((i : ℕ) → of (f (suc i)) ≡ x ⊗ of (f i)) → dot (ofs (tabulateFrom i (length p) f)) (ofs p) ≡ of (f i) ⊗ eval (ofs p) x
+unfolding dot eval
+powers-dot x f i [] h = sym (⊗-zero (of (f i)))
+powers-dot x f i (a ∷ p) h =
+    ap (λ (t : K). of (f i) ⊗ of a ⊕ t) (powers-dot x f (suc i) p h ∙ ap (λ (t : K). t ⊗ eval (ofs p) x) (h i))
+    ∙ step (of (f i)) (of a) x (eval (ofs p) x)
+  where
+    step : (c a x u : K) → c ⊗ a ⊕ x ⊗ c ⊗ u ≡ c ⊗ (a ⊕ x ⊗ u)
+    step c a x u = rw (← dv c, ← dv a, ← dv x, ← dv u) (simp ring (dif-path _ _ _ _ (omega arith)))
+
+pub dot-powersN : (p : List ℕ) (x : ℕ) → dotN (tabulate (length p) (powN x)) p ≡ evalN p x
+unfolding powN
+dot-powersN p x =
+    of-injective _ _ (dotN-below (tabulate (length p) (powN x)) p) (evalN-below p x)
+    (of-dotN (tabulate (length p) (powN x)) p
+    ∙ powers-dot (of x) (powN x) 0 p (λ (i : ℕ). of-mod _ ∙ sym (of-mul x (powN x i)))
+    ∙ one (eval (ofs p) (of x)) ∙ sym (of-evalN p x))
+  where
+    one : (a : K) → of 1 ⊗ a ≡ a
+    one a = ap (λ (t : K). t ⊗ a) of-one ∙ ⊗-comm 𝟏 a ∙ ⊗-one a

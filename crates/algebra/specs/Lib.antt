@@ -1,0 +1,17 @@
+pub mod Prime
+pub mod Field
+pub mod Poly
+pub mod Interp
+pub mod Lagrange
+pub mod Rows
+pub mod Numbers
+pub mod Table
+pub mod Inverse
+pub mod Columns
+pub mod Divided
+pub mod Consecutive
+pub mod Cases
+pub mod Batch
+pub mod Dot
+pub mod Basis
+pub mod Weights

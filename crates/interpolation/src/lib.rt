@@ -1,0 +1,149 @@
+// Interpolation over the field: over any points, and over consecutive ones by the table.
+ghost use mathlib.Core.Path.{_≡_};
+ghost use Prim.Native.Nat.{_+_, _-_, _<_, _≤_};
+ghost use lib.ListN.{length};
+ghost use Rattle.algebra.specs.Prime.{q};
+ghost use Rattle.lists.specs.All.{Distinct};
+ghost use Rattle.algebra.specs.Numbers.{Elements, interpN};
+ghost use Rattle.algebra.specs.Divided.{prodN, nevN, sweepN, nformN, Points, NewtonWeights, Samples};
+ghost use Rattle.lists.specs.Range.{upFrom};
+use field::Element;
+use field::inverse;
+use field::inverse_factorials;
+use field::multiply;
+use field::multiply_add;
+use field::point;
+use field::subtract;
+use field::subtract_product;
+
+// The product of the differences of z to the points.
+fn product_at(points: &[u32], z: Element) -> Element
+    requires { ⌜ Elements (now points) ⌝ }
+    ensures { λ r. ⌜ r .0 ≡ prodN (now (points .entry)) (z .0) ⌝ }
+{
+    let mut value = Element(1);
+    let mut i = points.len();
+    while 0 < i {
+        i -= 1;
+        let d = subtract(z, Element(points[i]));
+        value = multiply(d, value);
+    }
+    value
+}
+
+// The value at z of Newton's form with these points and coefficients.
+fn newton_at(points: &[u32], coefficients: &[u32], z: Element) -> Element
+    requires { ⌜ Elements (now points) × (length (now coefficients) ≡ length (now points)) ⌝ }
+    ensures { λ r. ⌜ r .0 ≡ nevN (now (points .entry)) (now (coefficients .entry)) (z .0) ⌝ }
+{
+    let mut value = Element(0);
+    let mut i = points.len();
+    while 0 < i {
+        i -= 1;
+        let d = subtract(z, Element(points[i]));
+        value = multiply_add(Element(coefficients[i]), d, value);
+    }
+    value
+}
+
+// The first coefficient, plus X - x times the polynomial of the others.
+fn sweep(s: &mut [u32], x: Element)
+    requires { ⌜ x .0 < q ⌝ }
+    ensures { λ _. ⌜ now (s .exit) ≡ sweepN (x .0) (now (s .entry)) ⌝ }
+{
+    let n = s.len();
+    let mut i = 1;
+    while i < n {
+        let v = subtract_product(Element(s[i - 1]), x, Element(s[i]));
+        s[i - 1] = v.0;
+        i += 1;
+    }
+}
+
+// Newton's form expanded in place.
+fn expand(points: &[u32], s: &mut [u32])
+    requires { ⌜ Elements (now points) × (length (now s) ≡ length (now points)) ⌝ }
+    ensures { λ _. ⌜ now (s .exit) ≡ nformN (now (points .entry)) (now (s .entry)) ⌝ }
+{
+    let mut k = points.len();
+    while 0 < k {
+        k -= 1;
+        let x = Element(points[k]);
+        sweep(&mut s[k..], x);
+    }
+}
+
+// The coefficients of the polynomial through the values at the points.
+// Each weight is the inverse of the product of its point's differences to the points before it.
+fn interpolate_with(points: &[u32], values: &[u32], weights: &[u32], out: &mut [u32])
+    requires { ⌜ Points (now points) (now values) (now weights) (now out) ⌝ }
+    ensures { λ _. ⌜ now (out .exit) ≡ interpN (now (points .entry)) (now (values .entry)) ⌝ }
+{
+    let n = points.len();
+    let mut k = 0;
+    while k < n {
+        let a = newton_at(&points[..k], &out[..k], Element(points[k]));
+        let d = subtract(Element(values[k]), a);
+        let v = multiply(d, Element(weights[k]));
+        out[k] = v.0;
+        k += 1;
+    }
+    expand(points, out);
+}
+
+// The weights of any points that differ.
+fn fill_weights(points: &[u32], weights: &mut [u32])
+    requires { ⌜ Elements (now points) × Distinct (now points) × (length (now weights) ≡ length (now points)) ⌝ }
+    ensures { λ _. ⌜ NewtonWeights (now (points .entry)) (now (weights .exit)) (length (now (points .entry))) ⌝ }
+{
+    let n = points.len();
+    let mut k = 0;
+    while k < n {
+        let p = product_at(&points[..k], Element(points[k]));
+        let w = inverse(p);
+        weights[k] = w.0;
+        k += 1;
+    }
+}
+
+// Room for points or weights. A function of its own, so that a caller's goals do not show 320 zeros.
+fn blank() -> [u32; 320] {
+    [0u32; 320]
+}
+
+// The coefficients of the polynomial through the values at the points.
+pub fn interpolate(points: &[u32], values: &[u32], out: &mut [u32])
+    requires { ⌜ Samples (now points) (now values) (now out) × (length (now points) ≤ 320) ⌝ }
+    ensures { λ _. ⌜ now (out .exit) ≡ interpN (now (points .entry)) (now (values .entry)) ⌝ }
+{
+    let n = points.len();
+    let mut weights = blank();
+    fill_weights(points, &mut weights[..n]);
+    interpolate_with(points, values, &weights[..n], out);
+}
+
+// The points first, first + 1, ..
+pub fn consecutive(first: Element, out: &mut [u32])
+    requires { ⌜ first .0 + length (now out) ≤ q ⌝ }
+    ensures { λ _. ⌜ now (out .exit) ≡ upFrom (first .0) (length (now (out .entry))) ⌝ }
+{
+    let n = out.len();
+    let mut i = 0;
+    while i < n {
+        let x = point(first, i);
+        out[i] = x.0;
+        i += 1;
+    }
+}
+
+// The coefficients of the polynomial through the values at first, first + 1, ..: the weights are the table's entries.
+pub fn interpolate_from(first: Element, values: &[u32], out: &mut [u32])
+    requires { ⌜ (first .0 + length (now values) ≤ q) × (length (now values) ≤ 320) × Elements (now values) × (length (now out) ≡ length (now values)) ⌝ }
+    ensures { λ _. ⌜ now (out .exit) ≡ interpN (upFrom (first .0) (length (now (values .entry)))) (now (values .entry)) ⌝ }
+{
+    let n = values.len();
+    let mut points = blank();
+    consecutive(first, &mut points[..n]);
+    let table = inverse_factorials();
+    interpolate_with(&points[..n], values, &table[..n], out);
+}
