@@ -1,0 +1,34 @@
+-- `sponge::keccak::theta_effect` meets its contract.
+use mathlib.Core.Path.{refl, ap}
+use lib.Bits.{bitXor}
+use Rattle.sponge.specs.Keccak.{parity}
+use Rattle.sponge.proofs.Literal.{cons}
+use borrow.Author.Needs.{needs}
+use Rattle.sponge.proofs.keccak.theta_effect.Statement.{statement}
+use Rattle.sponge.proofs.keccak.theta_effect.Tie as tie
+
+returns : tie.Need-returns
+returns c =
+    let c5 = c in
+    let c4 = c5 .before in
+    let c3 = c4 .before in
+    let c2 = c3 .before in
+    let c1 = c2 .before in
+    (cons (ap (bitXor (parity (c1 .before .args .t1) 4)) (c1 .rotate .ensures))
+    (cons (ap (bitXor (parity (c1 .before .args .t1) 0)) (c2 .rotate2 .ensures))
+    (cons (ap (bitXor (parity (c1 .before .args .t1) 1)) (c3 .rotate3 .ensures))
+    (cons (ap (bitXor (parity (c1 .before .args .t1) 2)) (c4 .rotate4 .ensures))
+    (cons (ap (bitXor (parity (c1 .before .args .t1) 3)) (c5 .rotate5 .ensures))
+    refl)))))
+
+pub theta-effect-spec : {M : Type 1} → statement M
+theta-effect-spec =
+    tie.close
+    (tie.spec
+    (λ c. search needs) (λ c. search needs) (λ c. search needs) (λ c. search needs) (λ c. search needs)
+    (λ c. search needs) (λ c. search needs) (λ c. search needs) (λ c. search needs) (λ c. search needs)
+    (λ c. search needs) (λ c. search needs) (λ c. search needs) (λ c. search needs) (λ c. search needs)
+    (λ c. search needs) (λ c. search needs) (λ c. search needs) (λ c. search needs) (λ c. search needs)
+    (λ c. search needs) (λ c. search needs) (λ c. search needs) (λ c. search needs) (λ c. search needs)
+    (λ c κs. search needs) (λ c κs. search needs) (λ c κs. search needs) (λ c κs. search needs) (λ c κs. search needs)
+    returns)

@@ -1,0 +1,4 @@
+pub mod Lane
+pub mod Keccak
+pub mod Shake
+pub mod Digest

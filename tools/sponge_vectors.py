@@ -1,0 +1,44 @@
+#!/usr/bin/env python3
+"""Writes crates/vectors/stdout, what the program `vectors` must print, from Python's hashlib.
+
+  tools/sponge_vectors.py           write the file
+  tools/sponge_vectors.py --check   compare it, and fail where it differs
+
+Each line is 32 bytes of SHAKE256 in hexadecimal: of the empty message, of 200 bytes 0xa3, and of the first n bytes of the
+pattern, for n from 0 to 307. Byte i of the pattern is (7 i + 3) mod 256.
+"""
+
+import hashlib
+import pathlib
+import sys
+
+STDOUT = pathlib.Path(__file__).resolve().parent.parent / "crates" / "vectors" / "stdout"
+
+# NIST's published examples for FIPS 202: SHAKE256 of 0 bits and of 1600 bits, the first 32 bytes of each.
+PUBLISHED = [
+    (b"", "46b9dd2b0ba88d13233b3feb743eeb243fcd52ea62b81b82b50c27646ed5762f"),
+    (b"\xa3" * 200, "cd8a920ed141aa0407a22d59288652e9d9f1a7ee0c1e7c1ca699424da84a904d"),
+]
+
+
+def digest(message):
+    return hashlib.shake_256(message).hexdigest(32)
+
+
+def main():
+    for message, published in PUBLISHED:
+        if digest(message) != published:
+            sys.exit("hashlib disagrees with a published example of %d bytes" % len(message))
+    pattern = bytes((7 * i + 3) % 256 for i in range(307))
+    lines = [published for _, published in PUBLISHED] + [digest(pattern[:n]) for n in range(308)]
+    text = "".join(line + "\n" for line in lines)
+    if sys.argv[1:] == []:
+        STDOUT.write_text(text)
+    elif sys.argv[1:] == ["--check"]:
+        if STDOUT.read_text() != text:
+            sys.exit("%s is not what hashlib gives" % STDOUT)
+    else:
+        sys.exit(__doc__)
+
+
+main()
