@@ -1,0 +1,308 @@
+-- Completeness: to each well-formed question that names a commitment's root and sizes the opener makes a reply, and it is accepted with the true values.
+use mathlib.Core.Path.{_≡_, refl, sym, ap, ap₂, _∙_, subst}
+use mathlib.Core.Bool.{true, false, not}
+use mathlib.Core.List.{List, [], _∷_, _++_, map, flatten, append-nil, map-map, List·Memᴰ as Mem, List·Memᴰ·head as here, List·Memᴰ·tail as there}
+use Prim.Native.Nat.{ℕ, zero, suc, _+_, _-_, _*_, _^_, _<_}
+use native.Mathlib.Nat.{zero-add, le-of-eq}
+use native.Mathlib.Omega.{arith}
+use lib.Dec.{eqb}
+use lib.ListN.{length, getD, length-map}
+use borrow.Author.Tests.{eq-eqb}
+use Rattle.sponge.specs.Digest.{digest}
+use Rattle.lists.specs.Range.{upFrom, at-run, length-upFrom, upFrom-of}
+use Rattle.tree.specs.Sets.{missing}
+use Rattle.lists.specs.Bytes.{Bytes, bytesOf, Small}
+use Rattle.tree.specs.Tree.{at, allParts, opened, rootFrom}
+use Rattle.lists.specs.Maps.{map-cong, getD-map-in}
+use Rattle.lists.specs.All.{Sized, Below, below-mem, All, all-imp, all-append, all-each}
+use Rattle.tree.proofs.Counts.{missing-bound}
+use Rattle.tree.proofs.Complete.{complete}
+use Rattle.tree.proofs.RoundTrip.{opened-sized}
+use Rattle.algebra.specs.Numbers.{evalN, interpN, valuesAtN, Elements}
+use Rattle.lists.specs.Pieces.{pieces}
+use Rattle.lists.specs.Tests.{Test, all, each, same, passed, pass, every-true, true-every, true-all, true-each, same-refl}
+use Rattle.scheme.specs.Sizes.{elements}
+use Rattle.scheme.specs.Sizes.{Sizes, arity, levels, nodePrefix, leaves, rows, width, points}
+use Rattle.scheme.specs.Layers.{Lent, rowPolynomials, polynomialValues, evaluationAnswer, batchingAnswer}
+use Rattle.scheme.specs.Question.{Question, readQuestion, questionTests, questionVerdict}
+use Rattle.scheme.specs.Reply.{Reply, readReply, replyLength, replyBound, recordWords, rowValues, maskValue, recordLength, missingNodes}
+use Rattle.tree.specs.Leaf.{leafString}
+use Rattle.scheme.specs.Commit.{lentOk, filledOk, lentElements, tableOf, treeOf, leafRecord, lastDigest}
+use Rattle.scheme.specs.Open.{openedBatching, openedAnswers, openedRecords, openedNodes, replyOf, openTests, openVerdict, opening}
+use Rattle.scheme.specs.Check.{leafAt, recordAt, challengeOf, batchingOf, pointOf, answerOf, replyElements, leafStrings, replyRoot, batchingAt, evaluationAt, replyTests, checkVerdict, checkValues, checking, checkingC}
+use Rattle.scheme.specs.Honest.{trueValues, Right, Replied, Completeness}
+use Rattle.scheme.proofs.Accepted.{Asked, well-formed, question-numbers}
+use Rattle.scheme.proofs.Bound.{some-children, leaves-are, indices-length, points-length, getD-in}
+use Rattle.scheme.proofs.Row.{combination-length, combination-below, evaluation-honest, batching-honest, values-honest}
+use Rattle.scheme.proofs.Whole.{whole-length, back-batching, back-answers, back-records, back-nodes}
+use Rattle.scheme.proofs.Lent.{small, below-elements, Rights, rights}
+use Rattle.scheme.proofs.Committed.{committing-is, rec, record-length, record-below, record-rows, record-mask, level, level-length, level-at, digests, digests-sized, digests-length, tree-parts, last-is, filled, table-below}
+
+-- ---- lists
+
+shift : {A : Type 0} (f : ℕ → A) (x : ℕ) (ys : List ℕ) (a n : ℕ) → map (λ b. f (getD (x ∷ ys) b 0)) (upFrom (suc a) n) ≡ map (λ b. f (getD ys b 0)) (upFrom a n)
+unfolding upFrom
+shift f x ys a zero = refl
+shift f x ys a (suc n) = ap (λ (t : List _). f (getD ys a 0) ∷ t) (shift f x ys (suc a) n)
+
+all-places : {A : Type 0} (f : ℕ → A) (ys : List ℕ) → map (λ a. f (getD ys a 0)) (upFrom 0 (length ys)) ≡ map f ys
+unfolding upFrom
+all-places f [] = refl
+all-places f (y ∷ ys) = ap (λ (t : List _). f y ∷ t) (shift f y ys 0 (length ys) ∙ all-places f ys)
+
+map-places : {A : Type 0} (f : ℕ → A) (xs : List ℕ) (n : ℕ) → length xs ≡ n → map (λ a. f (getD xs a 0)) (upFrom 0 n) ≡ map f xs
+map-places f xs n e = ap (λ (k : ℕ). map (λ a. f (getD xs a 0)) (upFrom 0 k)) (sym e) ∙ all-places f xs
+
+all-in : {A : Type 0} (P : A → Type 0) (f : ℕ → A) (xs : List ℕ) → ((x : ℕ) → Mem x xs → P (f x)) → All P (map f xs)
+all-in P f [] h = tt
+all-in P f (x ∷ xs) h = (h x (here refl), all-in P f xs (λ y m. h y (there m)))
+
+in-run : (n p : ℕ) → Mem p (upFrom 0 n) → p < n
+in-run n p m = subst (λ (k : ℕ). p < k) (zero-add n) (upFrom-of 0 n p m .1)
+
+opened-length : (b h : ℕ) (t : List Bytes) (s : List ℕ) → length (opened b h t s) ≡ length (missing b h s)
+unfolding opened
+opened-length b h t s = length-map (missing b h s) _
+
+module _ (question : Bytes) (l : Lent) (wf : questionVerdict question ≡ 0) (right : Right (readQuestion question .sizes) l)
+    (named : readQuestion question .root ≡ lastDigest (treeOf (readQuestion question .sizes) l)) where
+  abbrev pub u : Question
+  u = readQuestion question
+
+  abbrev pub s : Sizes
+  s = u .sizes
+
+  pub r : Rights s l
+  r = rights s l right
+
+  a : Asked u
+  a = well-formed question wf
+
+  abbrev pub P : List (List ℕ)
+  P = rowPolynomials s l
+
+  ci : length (u .indices) ≡ s .ℓ
+  ci = indices-length question
+
+  pub leaf-in : (b : ℕ) → b < s .ℓ → leafAt u b < leaves s
+  leaf-in b m = below-mem (leaves s) (u .indices) (a .indices-below) (leafAt u b) (getD-in (u .indices) b (subst (λ (n : ℕ). b < n) (sym ci) m))
+
+  in-tree : Below (arity s ^ levels s) (u .indices)
+  in-tree = subst (λ (n : ℕ). Below n (u .indices)) (sym (leaves-are s)) (a .indices-below)
+
+  -- ---- the four parts of the reply
+  abbrev pub bs : List (List ℕ)
+  bs = openedBatching u l
+
+  abbrev pub ans : List (List ℕ)
+  ans = openedAnswers u l
+
+  abbrev pub xs : List Bytes
+  xs = openedRecords u l (tableOf s l)
+
+  abbrev pub ns : List Bytes
+  ns = openedNodes u (treeOf s l)
+
+  abbrev pub reply : Bytes
+  reply = bytesOf (flatten bs) ++ (bytesOf (flatten ans) ++ (flatten xs ++ flatten ns))
+
+  abbrev pub R : Reply
+  R = readReply u reply
+
+  cb : length bs ≡ s .η
+  cb = length-map (upFrom 0 (s .η)) _ ∙ length-upFrom 0 (s .η)
+
+  ca : length ans ≡ u .m
+  ca = length-map (u .evaluationPoints) _ ∙ points-length question
+
+  cx : length xs ≡ s .ℓ
+  cx = length-map (u .indices) _ ∙ ci
+
+  ns-are : ns ≡ opened (arity s) (levels s) (digests s l r) (u .indices)
+  ns-are = ap (λ (t : List Bytes). opened (arity s) (levels s) t (u .indices)) (tree-parts s l r)
+
+  cn : length ns ≡ length (missingNodes u)
+  cn = opened-length (arity s) (levels s) (allParts (treeOf s l)) (u .indices)
+
+  lb : Sized (width s) bs
+  lb = all-each (λ (x : List ℕ). length x ≡ width s) _ (upFrom 0 (s .η)) (λ k. combination-length (width s) _ _)
+
+  la : Sized (width s) ans
+  la = all-each (λ (x : List ℕ). length x ≡ width s) _ (u .evaluationPoints) (λ z. combination-length (width s) z _)
+
+  lx : Sized (recordLength s) xs
+  lx = all-in (λ (x : Bytes). length x ≡ recordLength s) _ (u .indices) (λ i m. record-length s l r i (below-mem (leaves s) (u .indices) (a .indices-below) i m))
+
+  ln : Sized 32 ns
+  ln =
+      subst (λ (x : List Bytes). Sized 32 x) (sym ns-are)
+      (opened-sized (arity s) (levels s) (digests s l r) (u .indices) (some-children s) (digests-sized s l r) (le-of-eq (sym (digests-length s l r))) in-tree)
+
+  bb : All Elements bs
+  bb = all-each Elements _ (upFrom 0 (s .η)) (λ k. combination-below (width s) _ _)
+
+  ba : All Elements ans
+  ba = all-each Elements _ (u .evaluationPoints) (λ z. combination-below (width s) z _)
+
+  sb : All Small bs
+  sb = all-imp small bs bb
+
+  sa : All Small ans
+  sa = all-imp small ans ba
+
+  reply-length : length reply ≡ replyLength u
+  reply-length = whole-length u bs ans xs ns cb ca cx cn lb la lx ln sb sa
+
+  -- ---- what stands in it
+  pub batching-is : (k : ℕ) → k < s .η → batchingOf R k ≡ batchingAnswer s l k (challengeOf u k)
+  batching-is k m =
+      ap (λ (x : List (List ℕ)). getD x k []) (back-batching u bs ans xs ns cb ca cx cn lb la lx ln sb sa)
+      ∙ at-run (λ k. batchingAnswer s l k (challengeOf u k)) 0 (s .η) k [] m
+      ∙ ap (λ (k : ℕ). batchingAnswer s l k (challengeOf u k)) (zero-add k)
+
+  answer-is : (p : ℕ) → p < u .m → answerOf R p ≡ evaluationAnswer s l (pointOf u p)
+  answer-is p m =
+      ap (λ (x : List (List ℕ)). getD x p []) (back-answers u bs ans xs ns cb ca cx cn lb la lx ln sb sa)
+      ∙ getD-map-in (evaluationAnswer s l) (u .evaluationPoints) p 0 [] (subst (λ (n : ℕ). p < n) (sym (points-length question)) m)
+
+  pub record-is : (b : ℕ) → b < s .ℓ → recordAt R b ≡ rec s l r (leafAt u b)
+  record-is b m =
+      ap (λ (x : List Bytes). getD x b []) (back-records u bs ans xs ns cb ca cx cn lb la lx ln sb sa)
+      ∙ getD-map-in (leafRecord s (tableOf s l) (l .nonces)) (u .indices) b 0 [] (subst (λ (n : ℕ). b < n) (sym ci) m)
+
+  -- ---- its tests
+  elements-ok : replyElements u R ≡ true
+  unfolding replyElements
+  elements-ok =
+      true-every _ (
+        ap (all elements) (back-batching u bs ans xs ns cb ca cx cn lb la lx ln sb sa) ∙ true-all elements bs (all-imp below-elements bs bb),
+        (
+          ap (all elements) (back-answers u bs ans xs ns cb ca cx cn lb la lx ln sb sa) ∙ true-all elements ans (all-imp below-elements ans ba),
+          (
+            ap (all (λ x. elements (recordWords s x))) (back-records u bs ans xs ns cb ca cx cn lb la lx ln sb sa)
+                ∙ true-all (λ x. elements (recordWords s x)) xs
+                (all-in (λ (x : Bytes). elements (recordWords s x) ≡ true) _ (u .indices) (λ i m. below-elements (recordWords s (rec s l r i)) (record-below s l r i (below-mem (leaves s) (u .indices) (a .indices-below) i m)))),
+            tt,
+          ),
+        ),
+      )
+
+  strings-are : leafStrings u R ≡ map (λ i. leafString i (rec s l r i)) (u .indices)
+  unfolding leafStrings
+  strings-are =
+      map-cong (upFrom 0 (s .ℓ)) (λ b m. ap (leafString (leafAt u b)) (record-is b (in-run (s .ℓ) b m)))
+      ∙ map-places (λ i. leafString i (rec s l r i)) (u .indices) (s .ℓ) ci
+
+  digests-are : map digest (leafStrings u R) ≡ map (at (level s l r)) (u .indices)
+  digests-are =
+      ap (map digest) strings-are
+      ∙ map-map digest (λ i. leafString i (rec s l r i)) (u .indices)
+      ∙ map-cong (u .indices) (λ i m. sym (level-at s l r i (below-mem (leaves s) (u .indices) (a .indices-below) i m)))
+
+  root-ok : replyRoot u R ≡ u .root
+  unfolding replyRoot
+  root-ok =
+      ap₂ (λ (ds : List Bytes) (x : List Bytes). rootFrom digest (arity s) (nodePrefix s) (levels s) (u .indices) ds x) digests-are
+      (back-nodes u bs ans xs ns cb ca cx cn lb la lx ln sb sa ∙ ns-are ∙ sym (append-nil (opened (arity s) (levels s) (digests s l r) (u .indices))))
+      ∙ complete digest (arity s) (nodePrefix s) (some-children s) (levels s) (level s l r) (u .indices) [] (level-length s l r ∙ sym (leaves-are s)) in-tree (leafAt u 0)
+      (getD-in (u .indices) 0 (subst (λ (n : ℕ). 0 < n) (sym ci) (a .sizes-good .ℓ-low)))
+      ∙ sym (last-is s l r)
+      ∙ sym named
+
+  batching-ok : each (s .η) (λ k. each (s .ℓ) (batchingAt u R k)) ≡ true
+  unfolding batchingAt
+  batching-ok =
+      true-each (s .η) _ (λ k m. true-each (s .ℓ) _ (λ b n.
+      let i : ℕ = leafAt u b in
+      eq-eqb _ _
+      (ap (λ (x : List ℕ). evalN x i) (batching-is k m)
+      ∙ batching-honest s l r k (challengeOf u k) i m
+      ∙ ap₂ (λ (x : ℕ) (y : List ℕ). evalN (x ∷ y) (challengeOf u k)) (sym (record-mask s l r i k (leaf-in b n) m)) (sym (record-rows s l r i (leaf-in b n)))
+      ∙ ap (λ (x : Bytes). evalN (maskValue s x k ∷ rowValues s x) (challengeOf u k)) (sym (record-is b n)))))
+
+  evaluation-ok : each (u .m) (λ p. each (s .ℓ) (evaluationAt u R p)) ≡ true
+  unfolding evaluationAt
+  evaluation-ok =
+      true-each (u .m) _ (λ p m. true-each (s .ℓ) _ (λ b n.
+      let i : ℕ = leafAt u b in
+      eq-eqb _ _
+      (ap (λ (x : List ℕ). evalN (interpN (points s) x) i) (answer-is p m)
+      ∙ evaluation-honest s l r (pointOf u p) i
+      ∙ ap (λ (y : List ℕ). evalN y (pointOf u p)) (sym (record-rows s l r i (leaf-in b n)) ∙ ap (rowValues s) (sym (record-is b n))))))
+
+  values-are : checkValues u R ≡ trueValues s l (u .evaluationPoints)
+  unfolding checkValues trueValues
+  values-are =
+      ap flatten
+      (map-cong (upFrom 0 (u .m)) (λ p m.
+      ap (polynomialValues s (pointOf u p)) (answer-is p (in-run (u .m) p m))
+      ∙ values-honest s l r (pointOf u p))
+      ∙ map-places (λ z. map (λ p. evalN p z) (pieces (s .μ * s .ν) (s .w) (l .coefficients))) (u .evaluationPoints) (u .m) (points-length question))
+
+  question-passed : All (λ (t : Test). t .1 ≡ false) (questionTests question)
+  question-passed = passed (questionTests question) (question-numbers question) wf
+
+  check-passes : (unit n : ℕ) → n ≡ unit * (s .w * u .m) → checkVerdict unit question reply n ≡ 0
+  unfolding checkVerdict replyTests
+  check-passes unit n e =
+      pass _
+      (all-append (λ (t : Test). t .1 ≡ false) (questionTests question) _ question-passed (
+        ap not (eq-eqb n (unit * (s .w * u .m)) e),
+        (
+          ap not (eq-eqb (length reply) (replyLength u) reply-length),
+          (
+            ap not elements-ok,
+            (
+              ap not (ap (λ (x : Bytes). same x (u .root)) root-ok ∙ same-refl (u .root)),
+              (ap not batching-ok, (ap not evaluation-ok, tt)),
+            ),
+          ),
+        ),
+      ))
+
+  pub checks : (values : List ℕ) → length values ≡ s .w * u .m → checking question reply values ≡ (0, trueValues s l (u .evaluationPoints))
+  unfolding checking
+  checks values e = rw (check-passes 1 (length values) (e ∙ omega arith), values-are)
+
+  checksC : (values : Bytes) → length values ≡ 4 * (s .w * u .m) → checkingC question reply values ≡ (0, bytesOf (trueValues s l (u .evaluationPoints)))
+  unfolding checkingC
+  checksC values e = rw (check-passes 4 (length values) e, values-are)
+
+  open-passes : (buffer : Bytes) → length buffer ≡ replyBound s (u .m) → openVerdict question l (tableOf s l) (treeOf s l) buffer ≡ 0
+  unfolding openVerdict openTests
+  open-passes buffer e =
+      pass _
+      (all-append (λ (t : Test). t .1 ≡ false) (questionTests question) _ question-passed (
+        ap not (true-every (lentOk s l ∷ filledOk s (tableOf s l) (treeOf s l) ∷ eqb (length buffer) (replyBound s (u .m)) ∷ []) (right .lengths, (filled s l r, (eq-eqb _ _ e, tt)))),
+        (
+          ap not (true-every (elements (tableOf s l) ∷ lentElements l) (below-elements (tableOf s l) (table-below s l r), every-true (lentElements l) (right .elements))),
+          (ap not (ap (same (lastDigest (treeOf s l))) named ∙ same-refl (lastDigest (treeOf s l))), tt),
+        ),
+      ))
+
+  pub reply-is : reply ≡ replyOf u l (tableOf s l) (treeOf s l)
+  unfolding replyOf
+  reply-is = refl
+
+  -- the opened rows are the committed ones
+  pub rows-are : (b : ℕ) → b < s .ℓ → rowValues s (recordAt R b) ≡ valuesAtN P (leafAt u b)
+  rows-are b m = ap (rowValues s) (record-is b m) ∙ record-rows s l r (leafAt u b) (leaf-in b m)
+
+  replied : (buffer : Bytes) → length buffer ≡ replyBound s (u .m) → Replied s l question buffer
+  unfolding opening replyOf
+  replied buffer e = record {
+    reply = reply;
+    length-right = reply-length;
+    length-fits = omega (arith, reply-length, e, missing-bound 1 (s .h) (u .indices) (a .indices-rising), ap (λ (n : ℕ). n * 1 * s .h) ci);
+    opened = rw (open-passes buffer e, ← reply-length);
+    checked = checks;
+    checkedC = checksC;
+  }
+
+pub completeness : (s : Sizes) (l : Lent) → Completeness s l
+completeness s l right = (
+  committing-is s l right,
+  λ question buffer names e.
+      subst (λ (t : Sizes). Right t l → readQuestion question .root ≡ lastDigest (treeOf t l) → length buffer ≡ replyBound t (readQuestion question .m) → Replied t l question buffer)
+      (names .sizes) (λ rt nm le. replied question l (names .well-formed) rt nm buffer le) right (names .root) e,
+)

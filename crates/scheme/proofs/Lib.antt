@@ -1,0 +1,17 @@
+pub mod Accepted
+pub mod Bound
+pub mod Values
+pub mod Facts
+pub mod Replies
+pub mod Lent
+pub mod Row
+pub mod Whole
+pub mod Committed
+pub mod Complete
+pub mod Cases
+pub mod Walk
+pub mod Printed
+pub mod Both
+pub mod Encoded
+pub mod Honesty
+pub mod Reading

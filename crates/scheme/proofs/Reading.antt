@@ -1,0 +1,90 @@
+-- Reading aids: short laws that say of a definition what the paper says of its word.
+use mathlib.Core.Path.{_≡_, sym, ap}
+use mathlib.Core.Logic.{_⊎_, ⊎-elim, _≢_}
+use mathlib.Core.Bool.{Bool, true, false}
+use mathlib.Core.List.{List, map, List·Memᴰ as Mem}
+use Prim.Native.Nat.{ℕ, _-_, _≤_, _<_}
+use native.Mathlib.Omega.{arith}
+use lib.Dec.{eqb}
+use lib.ListN.{length}
+use borrow.Author.Tests.{eqb-true}
+use Rattle.lists.specs.Choice.{pick, tested}
+use Rattle.lists.specs.All.{All, Distinct, all-append}
+use Rattle.lists.specs.Bytes.{Bytes}
+use Rattle.lists.specs.Tests.{Test, verdict-within}
+use Rattle.algebra.specs.Numbers.{evalN, interpN, interpN-values, Elements}
+use Rattle.algebra.specs.Cases.{interpN-is}
+use Rattle.tree.specs.Sets.{missing}
+use Rattle.tree.proofs.Missing.{Above, Missing, sibling, missing-of, missing-in, missing-sibling, sibling-missing}
+use Rattle.scheme.specs.Sizes.{Sizes}
+use Rattle.scheme.specs.Layers.{Lent}
+use Rattle.scheme.specs.Question.{questionTests, questionVerdict}
+use Rattle.scheme.specs.Commit.{commitTests, commitVerdict, committing}
+use Rattle.scheme.specs.Open.{openTests, openVerdict, opening}
+use Rattle.scheme.specs.Check.{replyTests, checkVerdict, checking, checkingC}
+
+-- ---- `interpN xs ys` is the one polynomial of degree below the number of points that takes the values ys at the points xs
+
+pub interpolation-takes : (xs ys : List ℕ) → Elements xs → Distinct xs → Elements ys → length ys ≡ length xs → map (λ (x : ℕ). evalN (interpN xs ys) x) xs ≡ ys
+interpolation-takes = interpN-values
+
+pub interpolation-only : (xs ys p : List ℕ) → Elements xs → Distinct xs → Elements ys → length ys ≡ length xs → Elements p → length p ≡ length xs
+    → map (λ (x : ℕ). evalN p x) xs ≡ ys → p ≡ interpN xs ys
+interpolation-only xs ys p bx d by ly bp lp e = sym (interpN-is xs ys p bx d by bp lp ly e)
+
+-- ---- the missing nodes of a set are those not above (or in) the set whose sibling is
+
+pub missing-means : (h : ℕ) (s : List ℕ) (k p : ℕ) → Mem (k, p) (missing 2 h s) → (k < h) × (Above 2 s (k, p) → ⊥) × Above 2 s (k, sibling p)
+missing-means h s k p m = let o : Missing 2 h s (k, p) = missing-of 2 h s (k, p) (omega arith) m in (o .under, o .not-above, missing-sibling h s k p o)
+
+pub means-missing : (h : ℕ) (s : List ℕ) (k p : ℕ) → k < h → (Above 2 s (k, p) → ⊥) → Above 2 s (k, sibling p) → Mem (k, p) (missing 2 h s)
+means-missing h s k p l n a = missing-in 2 h s k p (omega arith) (sibling-missing h s k p l n a)
+
+-- ---- a refusal leaves every lent slice as it was
+
+kept : (v : ℕ) (filled before : List ℕ) → v ≢ 0 → pick (eqb v 0) filled before ≡ before
+kept v filled before n = ⊎-elim (λ (h : eqb v 0 ≡ true). absurd (n (eqb-true v 0 h))) (λ (h : eqb v 0 ≡ false). ap (λ (t : Bool). pick t filled before) h) (tested (eqb v 0))
+
+pub commit-refused : (s : Sizes) (l : Lent) (table : List ℕ) (nodes : Bytes) → committing s l table nodes .0 ≢ 0
+    → (committing s l table nodes .1 ≡ table) × (committing s l table nodes .2 ≡ nodes)
+unfolding committing
+commit-refused s l table nodes n = (kept _ _ table n, kept _ _ nodes n)
+
+pub open-refused : (question : Bytes) (l : Lent) (table : List ℕ) (nodes buffer : Bytes) → opening question l table nodes buffer .0 ≢ 0
+    → opening question l table nodes buffer .2 ≡ buffer
+unfolding opening
+open-refused question l table nodes buffer n = kept _ _ buffer n
+
+pub check-refused : (question reply : Bytes) (values : List ℕ) → checking question reply values .0 ≢ 0 → checking question reply values .1 ≡ values
+unfolding checking
+check-refused question reply values n = kept _ _ values n
+
+pub check-refused-C : (question reply values : Bytes) → checkingC question reply values .0 ≢ 0 → checkingC question reply values .1 ≡ values
+unfolding checkingC
+check-refused-C question reply values n = kept _ _ values n
+
+-- ---- verdicts lie between 0 and 10
+
+AtMost : List Test → Type 0
+AtMost ts = All (λ (t : Test). t .0 ≤ 10) ts
+
+question-within : (b : Bytes) → AtMost (questionTests b)
+unfolding AtMost questionTests
+question-within b = omega arith
+
+pub question-verdict-within : (b : Bytes) → questionVerdict b ≤ 10
+unfolding AtMost
+question-verdict-within b = verdict-within 10 (questionTests b) (question-within b)
+
+pub commit-verdict-within : (s : Sizes) (l : Lent) (table : List ℕ) (nodes : Bytes) → commitVerdict s l table nodes ≤ 10
+unfolding commitVerdict commitTests
+commit-verdict-within s l table nodes = verdict-within 10 (commitTests s l table nodes) (omega arith)
+
+pub open-verdict-within : (question : Bytes) (l : Lent) (table : List ℕ) (nodes buffer : Bytes) → openVerdict question l table nodes buffer ≤ 10
+unfolding openVerdict openTests AtMost
+open-verdict-within question l table nodes buffer =
+    verdict-within 10 (openTests question l table nodes buffer) (all-append (λ (t : Test). t .0 ≤ 10) (questionTests question) _ (question-within question) (omega arith))
+
+pub check-verdict-within : (unit : ℕ) (question reply : Bytes) (n : ℕ) → checkVerdict unit question reply n ≤ 10
+unfolding checkVerdict replyTests AtMost
+check-verdict-within unit question reply n = verdict-within 10 _ (all-append (λ (t : Test). t .0 ≤ 10) (questionTests question) _ (question-within question) (omega arith))

@@ -1,0 +1,68 @@
+-- The starred small instances: a row holds what the definitions give and what the paper says.
+use mathlib.Core.List.{List, [], _∷_, _++_, map, flatten}
+use Prim.Native.Nat.{ℕ, _+_, _-_, _*_, _%_}
+use lib.ListN.{take, getD, replicate}
+use Rattle.tree.specs.Sets.{Node, missing}
+use Rattle.algebra.specs.Prime.{q}
+use Rattle.algebra.specs.Inverse.{invN}
+use Rattle.algebra.specs.Numbers.{evalN, valuesAtN}
+use Rattle.scheme.specs.Sizes.{Sizes, arity, levels, columns, leafPoint}
+use Rattle.scheme.specs.Layers.{Lent, rowPolynomials, maskPolynomial, batchingAnswer, evaluationAnswer, polynomialValues}
+use Rattle.scheme.specs.Commit.{commitVerdict}
+
+-- case P: h = 1, all other sizes 1; coefficient 5, tail 9, mask 7 + 2X, γ 10
+abbrev pub sizesP : Sizes
+sizesP = record { h = 1; μ = 1; ν = 1; w = 1; ℓ = 1; η = 1 }
+
+abbrev pub lentP : ℕ → Lent
+lentP x = record { coefficients = x ∷ []; tails = 9 ∷ []; masks = 7 ∷ 2 ∷ []; nonces = replicate 64 0 }
+
+abbrev pub rowsP : List (List ℕ)
+rowsP = rowPolynomials sizesP (lentP 5)
+
+abbrev pub answerP : List ℕ
+answerP = batchingAnswer sizesP (lentP 5) 0 10
+
+-- μ = ν = 2, one polynomial 1 + 2X + 3X^2 + 4X^3
+abbrev pub sizes4 : Sizes
+sizes4 = record { h = 2; μ = 2; ν = 2; w = 1; ℓ = 1; η = 1 }
+
+abbrev pub columns4 : ℕ → List ℕ
+columns4 z =
+    take (columns sizes4) (evaluationAnswer sizes4 (record { coefficients = 1 ∷ 2 ∷ 3 ∷ 4 ∷ []; tails = 0 ∷ 0 ∷ []; masks = 0 ∷ 0 ∷ 0 ∷ []; nonces = replicate 128 0 }) z)
+
+abbrev pub values4 : ℕ → List ℕ
+values4 z = polynomialValues sizes4 z (columns4 z)
+
+-- wν = 4 and N = 8
+abbrev pub sizes8 : ℕ → Sizes
+sizes8 ℓ = record { h = 3; μ = 1; ν = 4; w = 1; ℓ = ℓ; η = 1 }
+
+-- the verdict of committing for them and ℓ, everything 0 and of the right lengths
+abbrev pub verdict8 : ℕ → ℕ
+verdict8 ℓ =
+    commitVerdict (sizes8 ℓ)
+    (record { coefficients = replicate 4 0; tails = replicate ℓ 0; masks = replicate (4 + ℓ) 0; nonces = replicate 256 0 }) (replicate 16 0) (replicate 480 0)
+
+-- the verdict of committing in case P with the coefficient x
+abbrev pub verdictP : ℕ → ℕ
+verdictP x = commitVerdict sizesP (lentP x) (replicate 4 0) (replicate 96 0)
+
+-- missing nodes: level and number of each
+abbrev pub missing8 : List ℕ → List ℕ
+missing8 s = flatten (map (λ (n : Node). n .0 ∷ n .1 ∷ []) (missing (arity (sizes8 4)) (levels (sizes8 4)) s))
+
+abbrev pub starred : List (List ℕ × List ℕ)
+starred =
+    (((q - 1) * (q - 1) % q) ∷ invN 2 ∷ (((q - 1) + (q - 1)) % q) ∷ [], 1 ∷ 2147483646 ∷ (q - 2) ∷ [])
+    ∷ (valuesAtN rowsP (leafPoint 0) ++ valuesAtN rowsP (leafPoint 1), 4294967288 ∷ 1 ∷ [])
+    ∷ (answerP, 4294967268 ∷ 42 ∷ [])
+    ∷ (evalN answerP (leafPoint 1) ∷ (evalN (maskPolynomial sizesP (lentP 5) 0) (leafPoint 1) + 10 * getD (valuesAtN rowsP (leafPoint 1)) 0 0) ∷ [], 19 ∷ (9 + 10) ∷ [])
+    ∷ (columns4 10 ++ values4 10, 21 ∷ 43 ∷ 4321 ∷ [])
+    ∷ (columns4 0 ++ values4 0, 1 ∷ 3 ∷ 1 ∷ [])
+    ∷ (missing8 (0 ∷ 1 ∷ []), 1 ∷ 1 ∷ 2 ∷ 1 ∷ [])
+    ∷ (missing8 (0 ∷ 4 ∷ []), 0 ∷ 1 ∷ 0 ∷ 5 ∷ 1 ∷ 1 ∷ 1 ∷ 3 ∷ [])
+    ∷ (missing8 (0 ∷ 1 ∷ 2 ∷ 3 ∷ []), 2 ∷ 1 ∷ [])
+    ∷ (verdict8 4 ∷ verdict8 5 ∷ [], 0 ∷ 1 ∷ [])
+    ∷ (verdictP 4294967290 ∷ verdictP 4294967291 ∷ [], 0 ∷ 3 ∷ [])
+    ∷ []

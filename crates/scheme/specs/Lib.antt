@@ -1,0 +1,12 @@
+pub mod Sizes
+pub mod Layers
+pub mod Question
+pub mod Reply
+pub mod Commit
+pub mod Open
+pub mod Check
+pub mod Collect
+pub mod Honest
+pub mod HonestCalls
+pub mod Cases
+pub mod Program

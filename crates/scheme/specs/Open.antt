@@ -1,0 +1,62 @@
+-- Opening: its tests, and the reply to a question.
+use mathlib.Core.Bool.{not}
+use mathlib.Core.List.{List, [], _∷_, _++_, map, flatten}
+use Prim.Native.Nat.{ℕ, _+_, _-_}
+use lib.Dec.{eqb}
+use lib.ListN.{length, getD, drop}
+use Rattle.lists.specs.Choice.{pick}
+use Rattle.lists.specs.Range.{upFrom}
+use Rattle.lists.specs.Bytes.{Bytes, bytesOf}
+use Rattle.tree.specs.Tree.{allParts, opened}
+use Rattle.lists.specs.Tests.{Test, verdictOf, every, same}
+use Rattle.scheme.specs.Sizes.{elements}
+use Rattle.scheme.specs.Sizes.{Sizes, arity, levels}
+use Rattle.scheme.specs.Layers.{Lent, batchingAnswer, evaluationAnswer}
+use Rattle.scheme.specs.Question.{Question, readQuestion, questionTests}
+use Rattle.scheme.specs.Reply.{replyBound, replyLength}
+use Rattle.scheme.specs.Commit.{lentOk, filledOk, lentElements, leafRecord, lastDigest, after}
+
+-- the reply: R_k for each repetition, an answer for each point, a record for each index, the missing nodes
+abbrev pub openedBatching : Question → Lent → List (List ℕ)
+openedBatching u l = map (λ k. batchingAnswer (u .sizes) l k (getD (u .challenges) k 0)) (upFrom 0 (u .sizes .η))
+
+abbrev pub openedAnswers : Question → Lent → List (List ℕ)
+openedAnswers u l = map (evaluationAnswer (u .sizes) l) (u .evaluationPoints)
+
+abbrev pub openedRecords : Question → Lent → List ℕ → List Bytes
+openedRecords u l table = map (leafRecord (u .sizes) table (l .nonces)) (u .indices)
+
+abbrev pub openedNodes : Question → Bytes → List Bytes
+openedNodes u nodes = opened (arity (u .sizes)) (levels (u .sizes)) (allParts nodes) (u .indices)
+
+unfoldable pub replyOf : Question → Lent → List ℕ → Bytes → Bytes
+replyOf u l table nodes =
+    bytesOf (flatten (openedBatching u l))
+    ++ (bytesOf (flatten (openedAnswers u l)) ++ (flatten (openedRecords u l table) ++ flatten (openedNodes u nodes)))
+
+-- its tests
+unfoldable pub openTests : Bytes → Lent → List ℕ → Bytes → Bytes → List Test
+openTests question l table nodes buffer =
+    let u : Question = readQuestion question in
+    let s : Sizes = u .sizes in
+    questionTests question
+    ++ ((2, not (every (lentOk s l ∷ filledOk s table nodes ∷ eqb (length buffer) (replyBound s (u .m)) ∷ [])))
+    ∷ (3, not (every (elements table ∷ lentElements l)))
+    ∷ (8, not (same (lastDigest nodes) (u .root)))
+    ∷ [])
+
+unfoldable pub openVerdict : Bytes → Lent → List ℕ → Bytes → Bytes → ℕ
+openVerdict question l table nodes buffer = verdictOf (openTests question l table nodes buffer)
+
+-- what opening does: its verdict, the reply's true length (0 with a refusal), and the buffer, whose bytes after the reply stay
+unfoldable pub opening : Bytes → Lent → List ℕ → Bytes → Bytes → ℕ × ℕ × Bytes
+opening question l table nodes buffer =
+    let u : Question = readQuestion question in
+    let v : ℕ = openVerdict question l table nodes buffer in
+    (v, pick (eqb v 0) (replyLength u) 0, after v (replyOf u l table nodes ++ drop (replyLength u) buffer) buffer)
+
+-- its entry for C, where the length is lent: a refusal leaves it as it was
+unfoldable pub openingC : Bytes → Lent → List ℕ → Bytes → Bytes → ℕ → ℕ × ℕ × Bytes
+openingC question l table nodes buffer before =
+    let r : ℕ × ℕ × Bytes = opening question l table nodes buffer in
+    (r .0, pick (eqb (r .0) 0) (r .1) before, r .2)

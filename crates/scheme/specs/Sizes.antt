@@ -1,0 +1,78 @@
+-- The sizes of a commitment, and the numbers that follow from them.
+use mathlib.Core.Bool.{Bool}
+use mathlib.Core.List.{List, [], _∷_}
+use Prim.Native.Nat.{ℕ, _+_, _-_, _*_, _^_}
+use lib.Dec.{leb, ltb}
+use Rattle.algebra.specs.Prime.{q}
+use Rattle.lists.specs.Bytes.{Bytes}
+use Rattle.lists.specs.Range.{upFrom}
+use Rattle.lists.specs.Tests.{every, all, within}
+
+-- depth h, rows μ, columns per polynomial ν, polynomials w, opened leaves ℓ, batching repetitions η
+pub record Sizes : Type 0 where
+  pub h : ℕ
+  pub μ : ℕ
+  pub ν : ℕ
+  pub w : ℕ
+  pub ℓ : ℕ
+  pub η : ℕ
+
+abbrev pub sizesOf : ℕ → ℕ → ℕ → ℕ → ℕ → ℕ → Sizes
+sizesOf h μ ν w ℓ η = record { h = h; μ = μ; ν = ν; w = w; ℓ = ℓ; η = η }
+
+-- the children of a node of the tree, the levels below its root, and what a node's string begins with
+abbrev pub arity : Sizes → ℕ
+arity s = 2
+
+abbrev pub levels : Sizes → ℕ
+levels s = s .h
+
+abbrev pub nodePrefix : Sizes → Bytes
+nodePrefix s = 1 ∷ []
+
+-- N, the number of leaves
+abbrev pub leaves : Sizes → ℕ
+leaves s = 2 ^ s .h
+
+-- all columns, wν
+abbrev pub columns : Sizes → ℕ
+columns s = s .w * s .ν
+
+-- the rows of the matrix
+abbrev pub rows : Sizes → ℕ
+rows s = s .μ
+
+-- d + 1: the value points and the tail points, and the coefficients of a row's polynomial
+abbrev pub width : Sizes → ℕ
+width s = columns s + s .ℓ
+
+-- d, the row degree bound
+abbrev pub degree : Sizes → ℕ
+degree s = width s - 1
+
+-- the values of a leaf record: rows, then masks
+abbrev pub recordValues : Sizes → ℕ
+recordValues s = rows s + s .η
+
+-- e_i, the point of leaf i
+abbrev pub leafPoint : ℕ → ℕ
+leafPoint i = i
+
+-- the value points N to N + wν - 1 and the ℓ tail points after them
+abbrev pub points : Sizes → List ℕ
+points s = upFrom (leaves s) (width s)
+
+-- each size in its range, and wν + ℓ at most N
+unfoldable pub sizesOk : Sizes → Bool
+sizesOk s =
+    every
+    (within 1 12 (s .h) ∷ within 1 64 (s .μ) ∷ within 1 256 (s .ν) ∷ within 1 256 (s .w) ∷ leb (columns s) 256 ∷ within 1 64 (s .ℓ)
+    ∷ within 1 4 (s .η) ∷ leb (width s) (leaves s) ∷ [])
+
+-- m, the number of evaluation points, in its range
+abbrev pub pointsOk : ℕ → Bool
+pointsOk m = within 1 8 m
+
+-- field elements: words below q
+abbrev pub elements : List ℕ → Bool
+elements xs = all (λ x. ltb x q) xs

@@ -1,0 +1,1 @@
+// The SmallWood commitment: definitions in specs/, theorems in proofs/. No function.
