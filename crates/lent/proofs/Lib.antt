@@ -1,0 +1,4 @@
+pub mod Measures
+pub mod Parts
+pub mod Rows
+pub mod Strides
