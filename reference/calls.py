@@ -1,0 +1,243 @@
+"""Calls of the committer and the opener, with every lent slice before and after.
+
+As in cases.py, what the construction of a call tells is asserted while the call is made.
+"""
+
+from collections import namedtuple
+from itertools import combinations
+
+import smallwood as S
+from drafts import (
+    LAST_WORD, Draft, Lent, Source, allowed, ask, border_sizes, committed, lend, name, outputs, prefill,
+    random_commitment, true_values,
+)  # fmt: skip
+from faults import STAGES, faulty, spoil, turn
+from smallwood import Q, Question, Reply, Sizes
+
+# Committing: the sizes, what is lent, and table and tree before and after. Where a size exceeds 65535, or
+# 255 for one that a question holds in one byte, the label begins with "wide".
+CommitCall = namedtuple(
+    "CommitCall",
+    "label h mu nu w l eta coefficients tails masks nonces table tree number table_after tree_after",
+)
+
+# Opening: what is lent, and the reply buffer before and after; length is None after a refusal.
+OpenCall = namedtuple(
+    "OpenCall",
+    "label question coefficients tails masks nonces table tree buffer number length buffer_after",
+)
+
+WORDS = ("coefficients", "tails", "masks")
+
+
+def off_by(sequence, step):
+    """The slice longer or shorter by some items."""
+    if step < 0:
+        return sequence[:step]
+    return sequence + (bytes(step) if isinstance(sequence, bytes) else [0] * step)
+
+
+def with_word(words, at, word):
+    changed = list(words)
+    changed[at] = word
+    return changed
+
+
+# ---- Committing -------------------------------------------------------------------------------------
+
+
+def commit_call(label, s, lent, table, tree, number):
+    found, table_after, tree_after = S.commit(*s[:6], *lent, table, tree)
+    assert found == number, (label, found, number)
+    assert found == 0 or (table_after, tree_after) == (table, tree), label
+    label = "%s [h%d mu%d nu%d w%d l%d eta%d]" % (label, *s[:6])
+    return CommitCall(label, *s[:6], *lent, table, tree, found, table_after, tree_after)
+
+
+def accepted_commits():
+    for n in range(60):
+        src = Source("commit %d" % n)
+        s = src.sizes(6, 6, 30)
+        lent = lend(src, s, src.edgy if n % 2 else src.elements)
+        yield commit_call("commit: drawn %d" % n, s, lent, *outputs(s), 0)
+    for s in (
+        Sizes(1, 1, 1, 1, 1, 1, 1),
+        Sizes(1, 64, 1, 1, 1, 4, 8),
+        Sizes(3, 1, 4, 1, 4, 1, 1),
+        Sizes(7, 64, 8, 8, 64, 4, 8),
+        Sizes(9, 1, 256, 1, 64, 1, 8),
+        Sizes(9, 1, 1, 256, 64, 4, 2),
+        Sizes(12, 1, 1, 1, 1, 1, 1),
+        Sizes(12, 64, 256, 1, 64, 4, 8),
+    ):
+        c = random_commitment(s)
+        label = "commit: extreme [h%d mu%d nu%d w%d l%d eta%d]" % s[:6]
+        yield CommitCall(label, *s[:6], *c.lent, *outputs(s), 0, c.table, c.tree)
+
+
+def commit_calls():
+    yield from accepted_commits()
+    s = Sizes(2, 2, 1, 2, 2, 2, 1)
+    src = Source("commit refusals")
+    lent, (table, tree) = lend(src, s, src.elements), outputs(s)
+    for word in (0, Q - 1):
+        filled = lend(src, s, lambda count: [word] * count)
+        yield commit_call("commit: all words %d" % word, s, filled, table, tree, 0)
+    yield commit_call("commit: table of words over q", s, lent, [LAST_WORD] * len(table), tree, 0)
+    for t in dict.fromkeys(t._replace(m=1) for t in border_sizes()):
+        if not allowed(t):
+            yield commit_call("commit: sizes", t, lent, table, tree, 1)
+    for field in ("h", "mu", "nu", "w", "l", "eta"):
+        narrow = (65537, 65538) if field in ("nu", "w") else (257, 258, 65537)
+        for number in narrow + (2**31, 2**32 - 1):
+            t = s._replace(**{field: number})
+            yield commit_call("wide commit: sizes", t, lent, table, tree, 1)
+    yield commit_call("wide commit: product 0", s._replace(w=65536, nu=65536), lent, table, tree, 1)
+    for part in Lent._fields:
+        whole = getattr(lent, part)
+        for step in (-1, 1, -len(whole), len(whole), 32):
+            changed = lent._replace(**{part: off_by(whole, step)})
+            yield commit_call("commit: %s off by %d" % (part, step), s, changed, table, tree, 2)
+    for step in (-1, 1, -len(table), len(table)):
+        yield commit_call("commit: table off by %d" % step, s, lent, off_by(table, step), tree, 2)
+    for step in (-1, 1, -32, 32, -len(tree), len(tree)):
+        yield commit_call("commit: tree off by %d" % step, s, lent, table, off_by(tree, step), 2)
+    for part in WORDS:
+        whole = getattr(lent, part)
+        for at in range(len(whole)):
+            for word in (Q, LAST_WORD) if at in (0, len(whole) - 1) else (Q,):
+                label = "commit: %s %d is %d" % (part, at, word)
+                changed = lent._replace(**{part: with_word(whole, at, word)})
+                yield commit_call(label, s, changed, table, tree, 3)
+                yield commit_call(label + ", tree off by 1", s, changed, table, off_by(tree, 1), 2)
+        yield commit_call("commit: sizes, %s element" % part, s._replace(l=3), changed, table, tree, 1)
+        shorter = lent._replace(**{part: off_by(whole, -1)})
+        yield commit_call("commit: sizes, %s length" % part, s._replace(mu=0), shorter, table, tree, 1)
+
+
+# ---- Opening ----------------------------------------------------------------------------------------
+
+# The opener's tests in their order, each with its number.
+OPEN_STAGES = STAGES[:6] + (("lent length", 2), ("lent element", 3), ("lent root", 8))
+
+
+def open_call(label, question, lent, table, tree, buffer, number):
+    found, length, after = S.open_reply(question, *lent, table, tree, buffer)
+    assert found == number, (label, found, number)
+    assert (after, length) == (buffer, None) if found else after[length:] == buffer[length:], label
+    return OpenCall(label, question, *lent, table, tree, buffer, found, length, after)
+
+
+def reply_buffer(s):
+    return prefill(S.reply_bytes(s, s.l * s.h))
+
+
+def accepted_open(label, c, q):
+    """A call whose reply the check must accept, with the polynomials' values."""
+    label, question = "%s [%s]" % (label, name(q.sizes)), S.write_question(q)
+    call = open_call(label, question, c.lent, c.table, c.tree, reply_buffer(q.sizes), 0)
+    reply, values = call.buffer_after[: call.length], [0] * (q.sizes.w * q.sizes.m)
+    assert S.check(question, reply, values) == (0, true_values(c, q)), label
+    return call
+
+
+def accepted_opens():
+    for n in range(80):
+        src = Source("open %d" % n)
+        s = src.sizes(5, 6, 24)
+        c = committed(s, lend(src, s, src.edgy if n % 2 else src.elements))
+        q = ask(src, c, challenges=src.edgy(s.eta), points=src.edgy(s.m))
+        yield accepted_open("open: drawn %d" % n, c, q)
+    for s in (
+        Sizes(1, 1, 1, 1, 1, 1, 1),
+        Sizes(1, 64, 1, 1, 1, 4, 8),
+        Sizes(7, 64, 8, 8, 64, 4, 8),
+        Sizes(9, 1, 256, 1, 64, 1, 8),
+        Sizes(9, 1, 1, 256, 64, 4, 2),
+        Sizes(12, 1, 1, 1, 1, 1, 1),
+        Sizes(12, 64, 256, 1, 64, 4, 8),
+    ):
+        src, c = Source("open " + name(s)), random_commitment(s)
+        spread = [s.leaves // s.l * b for b in range(s.l)]
+        yield accepted_open("open: extreme, first leaves", c, ask(src, c, indices=list(range(s.l))))
+        yield accepted_open("open: extreme, spread leaves", c, ask(src, c, indices=spread))
+        yield accepted_open("open: extreme, drawn leaves", c, ask(src, c))
+
+
+def believed_opens(src, c, q):
+    """What the opener does not compare with one another: everything but root and question."""
+    question, buffer = S.write_question(q), reply_buffer(q.sizes)
+
+    def call(label, lent=c.lent, table=c.table, tree=c.tree, question=question):
+        return open_call("open: " + label, question, lent, table, tree, buffer, 0)
+
+    yield call("other table", table=src.elements(len(c.table)))
+    yield call("other tree under the root", tree=src.bytes(len(c.tree) - 32) + c.tree[-32:])
+    other = S.write_question(q._replace(root=b"\xff" * 32))
+    yield call("tree of bytes 255", tree=b"\xff" * len(c.tree), question=other)
+    yield call("nonces of bytes 255", lent=c.lent._replace(nonces=b"\xff" * len(c.lent.nonces)))
+    for part in WORDS:
+        drawn = src.elements(len(getattr(c.lent, part)))
+        yield call("other %s" % part, lent=c.lent._replace(**{part: drawn}))
+    exchanged = q.sizes._replace(w=q.sizes.nu, nu=q.sizes.w)
+    yield call("w and nu exchanged", question=S.write_question(q._replace(sizes=exchanged)))
+
+
+def faulty_open(c, q, faults, v):
+    """A call with these faults; v chooses among variants."""
+    number = next(number for stage, number in OPEN_STAGES if stage in faults)
+    question = faulty(Draft(q, Reply([], [], [], [])), faults, v)[0]
+    slices = dict(c.lent._asdict(), table=c.table, tree=c.tree, buffer=reply_buffer(q.sizes))
+    if "lent root" in faults:
+        slices["tree"] = spoil(c.tree, turn((-1, -32, -7), v))
+    if "lent element" in faults:
+        part = turn(WORDS + ("table",), v)
+        slices[part] = with_word(slices[part], turn((0, -1), v // 4), turn((Q, LAST_WORD), v))
+    if "lent length" in faults:
+        part = turn(list(slices), v)
+        slices[part] = off_by(slices[part], turn((-1, 1), v // 7))
+    *lent, table, tree, buffer = slices.values()
+    label = "open faults: %s; variant %d" % (", ".join(faults), v)
+    return open_call(label, question, Lent(*lent), table, tree, buffer, number)
+
+
+def open_calls():
+    yield from accepted_opens()
+    s = Sizes(3, 2, 2, 1, 3, 2, 2)
+    src, c = Source("open faults"), random_commitment(s)
+    q = ask(src, c)
+    question, buffer = S.write_question(q), reply_buffer(s)
+    yield from believed_opens(src, c, q)
+    for m in range(1, 9):
+        yield accepted_open("open: m %d" % m, c, ask(src, c, m))
+    for word, number in ((Q - 1, 0), (Q, 3), (LAST_WORD, 3)):
+        for part in WORDS:
+            for at in (0, -1):
+                label = "open: %s %d is %d" % (part, at, word)
+                lent = c.lent._replace(**{part: with_word(getattr(c.lent, part), at, word)})
+                yield open_call(label, question, lent, c.table, c.tree, buffer, number)
+        for at in range(len(c.table)) if word == Q else (0, -1):
+            label, table = "open: table %d is %d" % (at, word), with_word(c.table, at, word)
+            yield open_call(label, question, c.lent, table, c.tree, buffer, number)
+    for at in range(-32, 0):
+        tree = spoil(c.tree, at)
+        yield open_call("open: root byte %d" % at, question, c.lent, c.table, tree, buffer, 8)
+    reply_length = S.reply_bytes(s, len(S.missing_nodes(s.h, q.indices)))
+    for size in [0, reply_length] + [len(buffer) + step for step in (-32, -4, -1, 1, 32)]:
+        label, number = "open: buffer of %d bytes" % size, 2 if size != len(buffer) else 0
+        yield open_call(label, question, c.lent, c.table, c.tree, prefill(size), number)
+    for field in ("h", "mu", "nu", "w", "l", "eta"):  # other sizes than the committed ones
+        t = s._replace(**{field: getattr(s, field) + 1})
+        other = S.write_question(Question(t, q.root, [1] * t.eta, [1] * t.m, list(range(t.l))))
+        label = "open: %s more by 1" % field
+        yield open_call(label, other, c.lent, c.table, c.tree, reply_buffer(t), 2)
+    for cut in range(len(question)):
+        label = "open: question of %d bytes" % cut
+        yield open_call(label, question[:cut], c.lent, c.table, c.tree, buffer, 6)
+    stages = [stage for stage, _ in OPEN_STAGES]
+    for stage in stages:
+        for v in range(14):
+            yield faulty_open(c, q, [stage], v)
+    for v, pair in enumerate(combinations(stages, 2)):
+        for step in range(3):
+            yield faulty_open(c, q, pair, v + 5 * step)

@@ -1,0 +1,322 @@
+"""Commitments, questions and replies to make test inputs from: drawn, honest, simulated, altered."""
+
+from collections import namedtuple
+from functools import lru_cache
+from hashlib import shake_256
+
+import smallwood as S
+from smallwood import Q, Question, Reply, Sizes
+
+LAST_WORD = 2**32 - 1
+
+
+# ---- Deterministic source ---------------------------------------------------------------------------
+
+
+class Source:
+    """A stream of bytes from SHAKE256 of a label."""
+
+    def __init__(self, label):
+        self.label, self.blocks, self.pool = label, 0, b""
+
+    def bytes(self, count):
+        while len(self.pool) < count:
+            self.pool += shake_256(("%s/%d" % (self.label, self.blocks)).encode()).digest(1024)
+            self.blocks += 1
+        taken, self.pool = self.pool[:count], self.pool[count:]
+        return taken
+
+    def below(self, bound):
+        return int.from_bytes(self.bytes(8), "little") % bound
+
+    def between(self, low, high):
+        return low + self.below(high - low + 1)
+
+    def pick(self, choices):
+        return choices[self.below(len(choices))]
+
+    def elements(self, count):
+        return [self.below(Q) for _ in range(count)]
+
+    def edgy(self, count):
+        """Elements, often the field's ends."""
+        return [self.pick((0, 1, Q - 1, self.below(Q))) for _ in range(count)]
+
+    def nonzero(self):
+        return self.between(1, Q - 1)
+
+    def rising(self, bound, count):
+        """`count` different numbers below `bound`, in rising order."""
+        chosen = set()
+        while len(chosen) < count:
+            chosen.add(self.below(bound))
+        return sorted(chosen)
+
+    def sizes(self, max_h=5, max_mu=5, max_width=20):
+        h = self.between(1, max_h)
+        width = self.between(2, min(2**h, max_width))
+        l = self.between(1, min(width - 1, 64))
+        w = self.between(1, width - l)
+        nu = self.between(1, (width - l) // w)
+        return Sizes(h, self.between(1, max_mu), nu, w, l, self.between(1, 4), self.between(1, 8))
+
+
+def prefill(count):
+    """What a buffer holds before a call."""
+    return shake_256(b"prefill").digest(count)
+
+
+def ends(count):
+    """The first and the last of `count` places."""
+    return sorted({0, count - 1})
+
+
+def name(s):
+    return "h%d mu%d nu%d w%d l%d eta%d m%d" % s
+
+
+# ---- Commitments, drafts of a question with its reply -----------------------------------------------
+
+Lent = namedtuple("Lent", "coefficients tails masks nonces")
+Commitment = namedtuple("Commitment", "sizes lent table tree")
+
+
+def lend(src, s, fill):
+    words = fill(s.w * s.mu * s.nu), fill(s.mu * s.l), fill(s.eta * s.width)
+    return Lent(*words, src.bytes(32 * s.leaves))
+
+
+def outputs(s):
+    """Table and tree as they are lent: prefilled."""
+    return S.to_words(prefill(4 * s.leaves * s.record)), prefill(32 * (2 * s.leaves - 1))
+
+
+def committed(s, lent):
+    number, table, tree = S.commit(*s[:6], *lent, *outputs(s))
+    assert number == 0, s
+    return Commitment(s, lent, table, tree)
+
+
+@lru_cache(maxsize=None)
+def random_commitment(s):
+    src = Source("commitment " + name(s))
+    return committed(s, lend(src, s, src.elements))
+
+
+def product(a, b):
+    result = [0] * (len(a) + len(b) - 1)
+    for i, x in enumerate(a):
+        for j, y in enumerate(b):
+            result[i + j] = (result[i + j] + x * y) % Q
+    return result
+
+
+def vanishing(points):
+    """Coefficients of the product of X - p."""
+    result = [1]
+    for p in points:
+        result = product(result, [-p % Q, 1])
+    return result
+
+
+def add(a, b):
+    """Sum of coefficient lists; b is not longer."""
+    return [(x + y) % Q for x, y in zip(a, list(b) + [0] * (len(a) - len(b)))]
+
+
+def power_sum(values, x):
+    """Sum of x^j times value j."""
+    return sum(pow(x, j, Q) * v for j, v in enumerate(values)) % Q
+
+
+class Draft:
+    """A question and a reply in parts that can be altered, then written."""
+
+    def __init__(self, q, r):
+        self.sizes, self.root = q.sizes, q.root
+        self.challenges, self.points, self.indices = list(q.challenges), list(q.points), list(q.indices)
+        self.batchings, self.answers = [list(x) for x in r.batchings], [list(x) for x in r.answers]
+        self.leaves, self.nodes = [(list(v), n) for v, n in r.leaves], list(r.nodes)
+
+    def parts(self):
+        q = Question(self.sizes, self.root, self.challenges, self.points, self.indices)
+        return q, Reply(self.batchings, self.answers, self.leaves, self.nodes)
+
+    def copy(self):
+        return Draft(*self.parts())
+
+    def question(self):
+        return S.write_question(self.parts()[0])
+
+    def reply(self):
+        return S.write_reply(self.parts()[1])
+
+    def values(self):
+        """The values that the answers' columns give."""
+        s = self.sizes
+        return [
+            sum(pow(z, t * s.mu, Q) * answer[i * s.nu + t] for t in range(s.nu)) % Q
+            for z, answer in zip(self.points, self.answers)
+            for i in range(s.w)
+        ]
+
+    def rehash(self):
+        """Take for root what leaves and nodes hash to."""
+        digests = [S.digest(S.leaf_string(i, *leaf)) for i, leaf in zip(self.indices, self.leaves)]
+        self.root = S.root_of(self.sizes.h, self.indices, digests, self.nodes)
+        return self
+
+    def shift_batching(self, k, polynomial):
+        self.batchings[k] = add(self.batchings[k], polynomial)
+        return self
+
+    def shift_answer(self, p, polynomial):
+        """Add a polynomial of degree at most d to T."""
+        shift = [S.evaluate(polynomial, x) for x in S.grid_points(self.sizes)]
+        self.answers[p] = add(self.answers[p], shift)
+        return self
+
+    def change_value(self, b, at, difference):
+        """Change one value of opened leaf number b."""
+        values = self.leaves[b][0]
+        values[at] = (values[at] + difference) % Q
+        return self
+
+    def compensate(self, b, row, difference, repetitions):
+        """Change a row value of a leaf, and its mask values so that these repetitions do not see it."""
+        self.change_value(b, row, difference)
+        for k in repetitions:
+            hidden = -pow(self.challenges[k], row + 1, Q) * difference
+            self.change_value(b, self.sizes.mu + k, hidden)
+        return self
+
+    def others(self, b):
+        """Vanishes at every opened leaf but number b."""
+        return vanishing(self.indices[:b] + self.indices[b + 1 :])
+
+
+def drawn_question(src, s, root, challenges=None, points=None, indices=None):
+    """A question with these sizes; what is not given is drawn."""
+    return Question(
+        s,
+        root,
+        challenges or src.elements(s.eta),
+        points or src.elements(s.m),
+        indices or src.rising(s.leaves, s.l),
+    )
+
+
+def ask(src, c, m=None, **given):
+    """A question to a commitment, with another m if that is given."""
+    return drawn_question(src, c.sizes._replace(m=m or c.sizes.m), c.tree[-32:], **given)
+
+
+def honest(c, q):
+    """The opener's reply, as a draft."""
+    question = S.write_question(q)
+    buffer = prefill(S.reply_bytes(q.sizes, q.sizes.l * q.sizes.h))
+    number, length, buffer = S.open_reply(question, *c.lent, c.table, c.tree, buffer)
+    assert number == 0, q
+    return Draft(q, S.read_reply(q.sizes, buffer[:length]))
+
+
+def true_values(c, q):
+    """The polynomials' values, straight from the coefficients."""
+    each = c.sizes.mu * c.sizes.nu
+    return [
+        power_sum(c.lent.coefficients[i * each : (i + 1) * each], z)
+        for z in q.points
+        for i in range(c.sizes.w)
+    ]
+
+
+def simulated(src, s, **given):
+    """An accepted draft without any commitment: l leaves never fix a polynomial of degree d, as l <= d.
+
+    Leaf values, nonces, nodes are drawn, the root is what they hash to, R and T go through the leaves.
+    """
+    q = drawn_question(src, s, bytes(32), **given)
+    leaves = [(src.elements(s.record), src.bytes(32)) for _ in q.indices]
+    zero = vanishing(q.indices)
+
+    def through(values):
+        return add(product(zero, src.elements(s.columns)), S.interpolate(q.indices, values))
+
+    def opened(k, values):
+        return values[s.mu + k] + q.challenges[k] * power_sum(values[: s.mu], q.challenges[k])
+
+    batchings = [through([opened(k, v) for v, _ in leaves]) for k in range(s.eta)]
+    polynomials = [through([power_sum(v[: s.mu], z) for v, _ in leaves]) for z in q.points]
+    answers = [[S.evaluate(t, x) for x in S.grid_points(s)] for t in polynomials]
+    nodes = [src.bytes(32) for _ in S.missing_nodes(s.h, q.indices)]
+    return Draft(q, Reply(batchings, answers, leaves, nodes)).rehash()
+
+
+@lru_cache(maxsize=None)
+def case_p():
+    s = Sizes(1, 1, 1, 1, 1, 1, 1)
+    c = committed(s, Lent([5], [9], [7, 2], bytes(64)))
+    return honest(c, Question(s, c.tree[-32:], [10], [6], [1]))
+
+
+@lru_cache(maxsize=None)
+def small_drafts():
+    """Case P and honest drafts of different shapes; eta and m differ in most."""
+    drafts = [case_p()]
+    for s in (
+        Sizes(1, 3, 1, 1, 1, 4, 2),
+        Sizes(2, 1, 1, 3, 1, 2, 1),
+        Sizes(3, 2, 2, 1, 4, 1, 3),
+        Sizes(3, 2, 1, 2, 3, 3, 2),
+        Sizes(4, 5, 3, 2, 5, 2, 8),
+        Sizes(4, 7, 2, 3, 10, 4, 2),
+        Sizes(5, 12, 4, 4, 6, 3, 1),
+    ):
+        c = random_commitment(s)
+        drafts.append(honest(c, ask(Source("small " + name(s)), c)))
+    return drafts
+
+
+@lru_cache(maxsize=None)
+def large_drafts():
+    """Simulated drafts at the far ends of the sizes."""
+    return [
+        simulated(Source("large " + name(s)), s)
+        for s in (Sizes(12, 64, 1, 256, 64, 4, 8), Sizes(12, 64, 256, 1, 64, 4, 8))
+    ]
+
+
+# ---- Sizes at their borders -------------------------------------------------------------------------
+
+RANGES = dict(h=(1, 12), mu=(1, 64), nu=(1, 256), w=(1, 256), l=(1, 64), eta=(1, 4), m=(1, 8))
+
+
+def allowed(s):
+    """Test 1, written a second time."""
+    single = all(low <= getattr(s, field) <= high for field, (low, high) in RANGES.items())
+    return single and s.w * s.nu <= 256 and s.w * s.nu + s.l <= 2**s.h
+
+
+def border_sizes():
+    """Sizes at and over each end, alone and in their sums and products."""
+    base = Sizes(12, 1, 1, 1, 1, 1, 1)
+    for field, (low, high) in RANGES.items():
+        top = 65535 if field in ("nu", "w") else 255
+        for number in sorted({0, low, low + 1, high - 1, high, high + 1, 2 * high, 128, top - 1, top}):
+            yield base._replace(**{field: number})
+            yield Sizes(9, 2, 2, 2, 3, 2, 2)._replace(**{field: number})
+    for w, nu in (
+        (2, 128), (128, 2), (3, 85), (16, 16), (15, 17),  # taken
+        (2, 129), (129, 2), (3, 86), (86, 3), (16, 17), (17, 16), (256, 2), (2, 256), (256, 255),
+        (256, 256), (32768, 2), (2, 32768), (1024, 64), (64, 1024),  # the product is 0 in 16 bits
+        (21846, 3), (3, 21846), (43691, 3), (13108, 5), (65535, 65535),  # ... or small
+        (255, 257), (257, 255), (257, 257), (0, 0), (0, 256), (256, 0),
+    ):  # fmt: skip
+        yield base._replace(w=w, nu=nu)
+    for h in range(1, 13):
+        for l in sorted({1, 2, 2**h // 2, 2**h - 1, 63, 64}):
+            for columns in (2**h - l - 1, 2**h - l, 2**h - l + 1, 256):
+                if 1 <= l <= 64 and 1 <= columns <= 256:
+                    yield base._replace(h=h, l=l, nu=columns)
+                    if columns == 2**h - l + 1:
+                        yield base._replace(h=h, l=l, w=columns)

@@ -1,0 +1,240 @@
+"""Faults for questions, replies and calls: one at a time at first and last places, or several at once."""
+
+import smallwood as S
+from drafts import LAST_WORD, Q, add, ends, product, vanishing
+
+
+def spoil(data, at):
+    """One byte changed, at a position that may count from the end."""
+    changed = bytearray(data)
+    changed[at] ^= 1 << at % 8
+    return bytes(changed)
+
+
+# ---- One fault in an accepted draft -----------------------------------------------------------------
+
+
+def batching_faults(src, d):
+    s = d.sizes
+    for k in range(s.eta):
+        for c in ends(s.width):
+            e = d.copy().shift_batching(k, [0] * c + [src.nonzero()])
+            yield "R %d coefficient %d" % (k, c), e, 9 if c == 0 or any(d.indices) else 0
+        for b in ends(s.l):
+            e = d.copy().shift_batching(k, product([src.nonzero()], d.others(b)))
+            yield "R %d wrong at opened leaf %d only" % (k, b), e, 9
+        e = d.copy()
+        e.challenges[k] = (e.challenges[k] + 1) % Q
+        yield "challenge %d" % k, e, 9
+
+
+def evaluation_faults(src, d):
+    s = d.sizes
+    for p in ends(s.m):
+        for c in sorted({0, s.columns - 1, s.columns, s.width - 1}):
+            e = d.copy()
+            e.answers[p][c] = (e.answers[p][c] + src.nonzero()) % Q
+            yield "answer %d word %d" % (p, c), e, 10
+        for b in ends(s.l):
+            e = d.copy().shift_answer(p, product([src.nonzero()], d.others(b)))
+            yield "answer %d wrong at opened leaf %d only" % (p, b), e, 10
+        if s.mu > 1:
+            e = d.copy()
+            e.points[p] = (e.points[p] + 1) % Q
+            yield "point %d" % p, e, 10
+
+
+def leaf_faults(src, d):
+    s = d.sizes
+    for b in ends(s.l):
+        for v in sorted({0, s.mu - 1, s.mu, s.record - 1}):
+            e = d.copy().change_value(b, v, src.nonzero())
+            yield "value %d of opened leaf %d" % (v, b), e, 8
+            yield "value %d of opened leaf %d, rehashed" % (v, b), e.copy().rehash(), 9
+        for j in ends(s.mu):
+            change = src.nonzero()
+            e = d.copy().compensate(b, j, change, range(s.eta)).rehash()
+            yield "row %d of opened leaf %d, masks to fit" % (j, b), e, 10
+            for k in ends(s.eta):
+                fitted = [other for other in range(s.eta) if other != k]
+                e = d.copy().compensate(b, j, change, fitted).rehash()
+                yield "row %d of opened leaf %d, seen in repetition %d only" % (j, b, k), e, 9
+        different = set(d.points[:-1])
+        if d.points[-1] not in different and len(different) < s.mu:
+            e = d.copy()  # row differences whose power sum vanishes at all points but the last
+            for j, change in enumerate(vanishing(sorted(different))):
+                e.compensate(b, j, change, range(s.eta))
+            yield "rows of opened leaf %d, seen at the last point only" % b, e.rehash(), 10
+        for at in (0, 31):
+            e = d.copy()
+            e.leaves[b] = e.leaves[b][0], spoil(e.leaves[b][1], at)
+            yield "nonce of opened leaf %d byte %d" % (b, at), e, 8
+            yield "nonce of opened leaf %d byte %d, rehashed" % (b, at), e.copy().rehash(), 0
+
+
+def tree_faults(d):
+    for n in ends(len(d.nodes)):
+        for at in (0, 31):
+            e = d.copy()
+            e.nodes[n] = spoil(e.nodes[n], at)
+            yield "node %d byte %d" % (n, at), e, 8
+            yield "node %d byte %d, rehashed" % (n, at), e.copy().rehash(), 0
+    for at in (0, 15, 31):
+        e = d.copy()
+        e.root = spoil(e.root, at)
+        yield "root byte %d" % at, e, 8
+
+
+def order_faults(d):
+    answers = 10 if d.sizes.mu > 1 else 0  # one row: the power sum is the same at every point
+    for part, number in (("batchings", 9), ("answers", answers), ("leaves", 8), ("nodes", 8)):
+        e = d.copy()
+        sequence = getattr(e, part)
+        if len(sequence) > 1:
+            sequence[0], sequence[-1] = sequence[-1], sequence[0]
+            yield "first and last of %s exchanged" % part, e, number
+
+
+def place_faults(src, d):
+    """(label, draft, number): one fault each. The draft's challenges and points must not be 0."""
+    assert all(d.challenges) and all(d.points)
+    yield from batching_faults(src, d)
+    yield from evaluation_faults(src, d)
+    yield from leaf_faults(src, d)
+    yield from tree_faults(d)
+    yield from order_faults(d)
+
+
+# ---- Several faults at once -------------------------------------------------------------------------
+
+# The check's tests in their order, each with its number.
+STAGES = (
+    ("under 14 bytes", 6),
+    ("mark", 5),
+    ("sizes", 1),
+    ("question length", 6),
+    ("question element", 3),
+    ("indices", 4),
+    ("value buffer", 2),
+    ("reply length", 7),
+    ("reply element", 3),
+    ("root", 8),
+    ("batching", 9),
+    ("evaluation", 10),
+)
+
+# (byte of the header, contents from there on) that make a size refused.
+BAD_SIZES = (
+    (5, b"\0"), (5, b"\x0d"), (6, b"\0"), (6, b"\x41"), (7, b"\0\0"), (8, b"\2"), (9, b"\0\0"),
+    (10, b"\2"), (11, b"\0"), (11, b"\x41"), (12, b"\0"), (12, b"\5"), (13, b"\0"), (13, b"\x09"),
+)  # fmt: skip
+
+BAD_MARKS = (b"SWF\1\0", b"swq\1\0", b"SWQ\0\1", b"SWQ\2\0", b"\0\0\0\1\0", b"SWQ\1\1")
+
+
+def turn(choices, v):
+    """The choice whose turn it is."""
+    return choices[v % len(choices)]
+
+
+def faulty(d, faults, v):
+    """Question, reply and value buffer length of a draft with these faults; v chooses among variants."""
+    d, s = d.copy(), d.sizes
+    size = 4 * s.w * s.m
+    if "evaluation" in faults:
+        d.shift_answer(turn((0, s.m - 1), v), [1])
+    if "batching" in faults:
+        d.shift_batching(turn((0, s.eta - 1), v), [1])
+    if "root" in faults:
+        d.root = spoil(d.root, turn((0, 31, 7), v))
+    if "reply element" in faults:
+        records = [d.batchings[0], d.batchings[-1], d.answers[0], d.answers[-1]]
+        record = turn(records + [d.leaves[0][0], d.leaves[-1][0]], v)
+        record[turn((0, -1), v // 6)] = turn((Q, LAST_WORD), v)
+    if "question element" in faults:
+        turn((d.challenges, d.points), v)[turn((0, -1), v // 2)] = turn((Q, LAST_WORD), v // 4)
+    if "indices" in faults:
+        last = turn((s.leaves, d.indices[0], 65535), v if s.l > 1 else 0)
+        d.indices = d.indices[:-1] + [last]
+    question, reply = d.question(), d.reply()
+    if "value buffer" in faults:
+        size = turn((size + 4, size - 4, 0, 2 * size, size + 1, size - 1), v)
+    if "reply length" in faults:
+        longer, shorter = [reply + bytes(n) for n in (1, 32)], [reply[:-n] for n in (1, 4, 32)]
+        reply = turn(longer + shorter + [b""], v)
+    if "question length" in faults:
+        longer, shorter = [question + bytes(n) for n in (1, 4)], [question[:-n] for n in (1, 2)]
+        question = turn(longer + shorter + [question[:14]], v)
+    if "sizes" in faults:
+        at, part = turn(BAD_SIZES, v)
+        question = question[:at] + part + question[at + len(part) :]
+    if "mark" in faults:
+        question = turn(BAD_MARKS, v) + question[5:]
+    if "under 14 bytes" in faults:
+        question = question[: turn((13, 0, 5, 1), v)]
+    return question, reply, size
+
+
+# ---- Mistakes in strings and batching ---------------------------------------------------------------
+
+
+def wrong_strings():
+    """(label, leaf string, node string) of which one or both are wrong."""
+    leaf, node = S.leaf_string, S.node_string
+
+    def big_endian(i, values, nonce):
+        return leaf(i, [], b"") + b"".join(value.to_bytes(4, "big") for value in values) + nonce
+
+    yield "leaf without first byte", lambda i, v, n: leaf(i, v, n)[1:], node
+    yield "node without first byte", leaf, lambda a, b: a + b
+    yield "leaf and node without first byte", lambda i, v, n: leaf(i, v, n)[1:], lambda a, b: a + b
+    yield "first bytes exchanged", lambda i, v, n: b"\1" + leaf(i, v, n)[1:], lambda a, b: b"\0" + a + b
+    yield "leaf without index", lambda i, v, n: b"\0" + leaf(i, v, n)[3:], node
+    yield "leaf with index from 1", lambda i, v, n: leaf(i + 1, v, n), node
+    yield "leaf with 4-byte index", lambda i, v, n: leaf(i, [], b"\0\0") + leaf(i, v, n)[3:], node
+    yield "leaf with big-endian index", lambda i, v, n: b"\0" + i.to_bytes(2, "big") + leaf(i, v, n)[3:], node
+    yield "leaf with big-endian values", big_endian, node
+    yield "leaf with values reversed", lambda i, v, n: leaf(i, v[::-1], n), node
+    yield "leaf without its last value", lambda i, v, n: leaf(i, v[:-1], n), node
+    yield "leaf with nonce first", lambda i, v, n: leaf(i, [], n) + S.to_bytes(v), node
+    yield "leaf without nonce", lambda i, v, n: leaf(i, v, b""), node
+    yield "node with children exchanged", leaf, lambda a, b: node(b, a)
+
+
+def levels_with(c, leaf, node):
+    """A commitment's tree over these strings, level by level from the leaves up."""
+    s = c.sizes
+    values = [c.table[i * s.record : (i + 1) * s.record] for i in range(s.leaves)]
+    levels = [[S.digest(leaf(i, v, S.nonce_of(c.lent.nonces, i))) for i, v in enumerate(values)]]
+    while len(levels[-1]) > 1:
+        below = levels[-1]
+        levels.append([S.digest(node(*below[i : i + 2])) for i in range(0, len(below), 2)])
+    return levels
+
+
+def wrong_batchings(c, q):
+    """(label, for each repetition an R) by mistakes in the batching formula."""
+    s = c.sizes
+    lines = S.lines_of(s, c.lent.coefficients, c.lent.tails)
+    rows = [S.interpolate(S.grid_points(s), line) for line in lines]
+    masks = [S.mask_of(s, c.lent.masks, k) for k in range(s.eta)]
+
+    def batch(mask, factors):
+        total = list(mask)
+        for factor, row in zip(factors, rows):
+            total = add(total, product([factor], row))
+        return total
+
+    def powers(k, first):
+        return [pow(q.challenges[k], first + j, Q) for j in range(s.mu)]
+
+    every = range(s.eta)
+    yield "batching from power 0", [batch(masks[k], powers(k, 0)) for k in every]
+    yield "batching from power 2", [batch(masks[k], powers(k, 2)) for k in every]
+    yield "batching without mask", [batch([0] * s.width, powers(k, 1)) for k in every]
+    yield "batching without the last row", [batch(masks[k], powers(k, 1)[:-1]) for k in every]
+    yield "batching with rows reversed", [batch(masks[k], powers(k, 1)[::-1]) for k in every]
+    yield "batching with mask 0 everywhere", [batch(masks[0], powers(k, 1)) for k in every]
+    yield "batching with challenge 0 everywhere", [batch(masks[k], powers(0, 1)) for k in every]
+    yield "batching without top coefficient", [batch(masks[k], powers(k, 1))[:-1] + [0] for k in every]
+    yield "batching with coefficients reversed", [batch(masks[k], powers(k, 1))[::-1] for k in every]

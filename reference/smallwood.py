@@ -1,0 +1,488 @@
+"""The SmallWood commitment over the field of 2^32 - 5 elements: a second implementation.
+
+It follows the paper's definitions one by one and prefers the plainest form of each. A "word" is an int
+below 2^32. Every entry takes the lent slices (words as lists, bytes as bytes) and returns the verdict's
+number first, then the final contents of the slices it may write; a refusal leaves those as they were.
+The arguments are never changed in place.
+
+Run as a program, it is the checking program: python3 smallwood.py < input
+"""
+
+import struct
+import sys
+from collections import namedtuple
+from functools import lru_cache
+from hashlib import shake_256
+from operator import mul
+
+Q = 4294967291  # the field's order, 2^32 - 5
+MARK = b"SWQ"
+VERSION = 1
+HEADER_BYTES = 14
+DIGEST_BYTES = 32
+NONCE_BYTES = 32
+INPUT_LIMIT = 65536  # bytes that the checking program reads
+
+
+# ---- Field ------------------------------------------------------------------------------------------
+
+
+def dot(left, right):
+    """Sum of the products, one by one."""
+    return sum(map(mul, left, right)) % Q
+
+
+def evaluate(coefficients, x):
+    """Value at x of the polynomial with these coefficients, lowest first."""
+    value = 0
+    for coefficient in reversed(coefficients):
+        value = (value * x + coefficient) % Q
+    return value
+
+
+def inverse_factorials(count):
+    """Entry 0 is 1; entry t times t is entry t - 1."""
+    table = [1]
+    for t in range(1, count):
+        table.append(table[-1] * pow(t, -1, Q) % Q)
+    return table
+
+
+INVERSE_FACTORIALS = inverse_factorials(320)  # d + 1 is at most 256 + 64
+
+
+@lru_cache(maxsize=None)
+def inverse_denominators(count):
+    """For `count` consecutive points p_0, p_1, ...: 1 over the product of p_t - p_s over all s other than t.
+
+    With d = count - 1 that product is t! (d - t)! with the sign of (-1)^(d - t).
+    """
+    d = count - 1
+    return [
+        (-1) ** (d - t) * INVERSE_FACTORIALS[t] * INVERSE_FACTORIALS[d - t] % Q
+        for t in range(count)
+    ]
+
+
+def weights(first, count, x):
+    """Lagrange weights at x for the points first, first + 1, ..., first + count - 1.
+
+    The polynomial of degree below `count` through (first + t, y_t) has the value dot(weights, y) at x.
+    """
+    result = []
+    product = 1  # of x - p_s over s < t
+    for t in range(count):
+        result.append(product)
+        product = product * (x - first - t) % Q
+    product = 1  # of x - p_s over s > t
+    for t in reversed(range(count)):
+        result[t] = result[t] * product % Q
+        product = product * (x - first - t) % Q
+    return [a * b % Q for a, b in zip(result, inverse_denominators(count))]
+
+
+def interpolate(points, values):
+    """Coefficients, lowest first, of the polynomial of degree below len(points) through (point, value).
+
+    The caller sees to it that the points differ.
+    """
+    master = [1]  # the product of X - p over all points
+    for p in points:
+        master = [(a - p * b) % Q for a, b in zip([0] + master, master + [0])]
+    result = [0] * len(points)
+    for p, value in zip(points, values):
+        quotient = []  # master / (X - p), by synthetic division from the top
+        carry = 0
+        for coefficient in reversed(master[1:]):
+            carry = (carry * p + coefficient) % Q
+            quotient.append(carry)
+        quotient.reverse()
+        scale = value * pow(evaluate(quotient, p), -1, Q) % Q
+        result = [(a + scale * b) % Q for a, b in zip(result, quotient)]
+    return result
+
+
+# ---- Sizes ------------------------------------------------------------------------------------------
+
+
+class Sizes(namedtuple("Sizes", "h mu nu w l eta m")):
+    """The sizes of a question; committing, which has no m, uses m = 1."""
+
+    __slots__ = ()
+
+    @property
+    def leaves(self):  # N
+        return 1 << self.h
+
+    @property
+    def columns(self):  # w nu, all columns
+        return self.w * self.nu
+
+    @property
+    def width(self):  # d + 1: coefficients of a row polynomial, and words of an evaluation answer
+        return self.columns + self.l
+
+    @property
+    def record(self):  # values of one leaf: rows, then masks
+        return self.mu + self.eta
+
+    def in_range(self):
+        return (
+            1 <= self.h <= 12
+            and 1 <= self.mu <= 64
+            and 1 <= self.nu <= 256
+            and 1 <= self.w <= 256
+            and self.w * self.nu <= 256
+            and 1 <= self.l <= 64
+            and 1 <= self.eta <= 4
+            and 1 <= self.m <= 8
+            and self.w * self.nu + self.l <= self.leaves
+        )
+
+
+def leaf_point(index):
+    """e_i, the field point of leaf i."""
+    return index
+
+
+def grid_points(s):
+    """The w nu value points, then the l tail points: consecutive numbers from N on."""
+    return range(s.leaves, s.leaves + s.width)
+
+
+# ---- PCS: polynomials to rows -----------------------------------------------------------------------
+
+
+def rows_of(s, coefficients):
+    """Row j, column i nu + t: coefficient t mu + j of polynomial i."""
+    each = s.mu * s.nu
+    return [
+        [coefficients[i * each + t * s.mu + j] for i in range(s.w) for t in range(s.nu)]
+        for j in range(s.mu)
+    ]
+
+
+def values_of(s, z, columns):
+    """Values of the w polynomials at z, from all column values: sums of z^(t mu) times v_t."""
+    step = pow(z, s.mu, Q)
+    return [evaluate(columns[i * s.nu : (i + 1) * s.nu], step) for i in range(s.w)]
+
+
+# ---- LVCS: rows to polynomials ----------------------------------------------------------------------
+
+
+def lines_of(s, coefficients, tails):
+    """What P_j takes at the grid points: row j's entries, then its tails."""
+    return [
+        row + list(tails[j * s.l : (j + 1) * s.l])
+        for j, row in enumerate(rows_of(s, coefficients))
+    ]
+
+
+def answer_of(lines, z):
+    """The evaluation answer: for each column and tail the sum over j of z^j times the entry."""
+    return [evaluate(entries, z) for entries in zip(*lines)]
+
+
+def evaluation_holds(leaf_weights, z, answer, row_values):
+    """At one leaf: T, which is given by the answer at the grid points, against the opened row values."""
+    return dot(leaf_weights, answer) == evaluate(row_values, z)
+
+
+# ---- DECS: degree -----------------------------------------------------------------------------------
+
+
+def batching_of(s, lines, mask, challenge):
+    """R = M + sum of challenge^(j+1) P_j, as d + 1 coefficients.
+
+    Interpolation is linear: one interpolation of the combined lines serves all rows.
+    """
+    combined = [challenge * evaluate(entries, challenge) % Q for entries in zip(*lines)]
+    rows_part = interpolate(grid_points(s), combined)
+    return [(a + b) % Q for a, b in zip(mask, rows_part)]
+
+
+def batching_holds(batching, index, challenge, row_values, mask_value):
+    """At one leaf: R against the opened values."""
+    opened = mask_value + challenge * evaluate(row_values, challenge)
+    return evaluate(batching, leaf_point(index)) == opened % Q
+
+
+# ---- Tree -------------------------------------------------------------------------------------------
+
+
+def digest(string):
+    return shake_256(string).digest(DIGEST_BYTES)
+
+
+def leaf_string(index, values, nonce):
+    return b"\x00" + struct.pack("<H", index) + to_bytes(values) + nonce
+
+
+def node_string(left, right):
+    return b"\x01" + left + right
+
+
+def tree_of(leaf_digests):
+    """All digests in one string: the leaves, then each level above, the root last."""
+    level = list(leaf_digests)
+    tree = list(level)
+    while len(level) > 1:
+        level = [digest(node_string(*level[i : i + 2])) for i in range(0, len(level), 2)]
+        tree += level
+    return b"".join(tree)
+
+
+def tree_node(s, tree, level, index):
+    """Node `index` of a level (level 0: the leaves); N/2^level nodes stand on a level."""
+    below = sum(s.leaves >> k for k in range(level))
+    start = DIGEST_BYTES * (below + index)
+    return tree[start : start + DIGEST_BYTES]
+
+
+def missing_nodes(h, indices):
+    """(level, index) of the missing nodes, from the leaves up and left to right."""
+    missing = []
+    for level in range(h):
+        covered = {i >> level for i in indices}
+        missing += [(level, i) for i in sorted(i ^ 1 for i in covered) if i not in covered]
+    return missing
+
+
+def root_of(h, indices, leaf_digests, nodes):
+    """The root, from the opened leaves' digests and the missing nodes."""
+    known = {(0, i): leaf for i, leaf in zip(indices, leaf_digests)}
+    known.update(zip(missing_nodes(h, indices), nodes))
+    for level in range(1, h + 1):
+        for i in {index >> level for index in indices}:
+            pair = known[level - 1, 2 * i], known[level - 1, 2 * i + 1]
+            known[level, i] = digest(node_string(*pair))
+    return known[h, 0]
+
+
+# ---- Byte forms -------------------------------------------------------------------------------------
+
+Question = namedtuple("Question", "sizes root challenges points indices")
+Reply = namedtuple("Reply", "batchings answers leaves nodes")  # leaves: (values, nonce) for each index
+
+
+def to_bytes(words):
+    return struct.pack("<%dI" % len(words), *words)
+
+
+def to_words(data):
+    return list(struct.unpack("<%dI" % (len(data) // 4), data))
+
+
+def elements(words):
+    return all(word < Q for word in words)
+
+
+def question_bytes(s):
+    """Length of a question with these sizes."""
+    return HEADER_BYTES + DIGEST_BYTES + 4 * s.eta + 4 * s.m + 2 * s.l
+
+
+def reply_bytes(s, node_count):
+    """Length of a reply with this many nodes."""
+    leaf_bytes = 4 * s.record + NONCE_BYTES
+    return 4 * s.width * (s.eta + s.m) + leaf_bytes * s.l + DIGEST_BYTES * node_count
+
+
+def write_header(s):
+    return MARK + struct.pack("<HBBHHBBB", VERSION, *s)
+
+
+def write_question(q):
+    words = to_bytes(list(q.challenges) + list(q.points))
+    return write_header(q.sizes) + q.root + words + struct.pack("<%dH" % len(q.indices), *q.indices)
+
+
+def write_reply(r):
+    parts = [to_bytes(words) for words in r.batchings + r.answers]
+    parts += [to_bytes(values) + nonce for values, nonce in r.leaves]
+    return b"".join(parts + list(r.nodes))
+
+
+def read_header(data):
+    """The header tests on at least 14 bytes: (5 or 1, None), or (0, the sizes)."""
+    if data[:3] != MARK or struct.unpack_from("<H", data, 3) != (VERSION,):
+        return 5, None
+    s = Sizes(*struct.unpack_from("<BBHHBBB", data, 5))
+    return (0, s) if s.in_range() else (1, None)
+
+
+def read_question(question):
+    """The question's tests, in their order: (number, None), or (0, the parsed question)."""
+    if len(question) < HEADER_BYTES:
+        return 6, None
+    number, s = read_header(question)
+    if number:
+        return number, None
+    if len(question) != question_bytes(s):
+        return 6, None
+    body = question[HEADER_BYTES + DIGEST_BYTES :]
+    words = to_words(body[: 4 * (s.eta + s.m)])
+    indices = list(struct.unpack("<%dH" % s.l, body[4 * (s.eta + s.m) :]))
+    if not elements(words):
+        return 3, None
+    rising = all(a < b for a, b in zip(indices, indices[1:]))
+    if not rising or any(i >= s.leaves for i in indices):
+        return 4, None
+    root = question[HEADER_BYTES : HEADER_BYTES + DIGEST_BYTES]
+    return 0, Question(s, root, words[: s.eta], words[s.eta :], indices)
+
+
+def read_reply(s, reply):
+    """The parts of a reply that has its length."""
+    at = 0
+
+    def take(count):
+        nonlocal at
+        at += count
+        return reply[at - count : at]
+
+    batchings = [to_words(take(4 * s.width)) for _ in range(s.eta)]
+    answers = [to_words(take(4 * s.width)) for _ in range(s.m)]
+    leaves = [(to_words(take(4 * s.record)), take(NONCE_BYTES)) for _ in range(s.l)]
+    nodes = []
+    while at < len(reply):
+        nodes.append(take(DIGEST_BYTES))
+    return Reply(batchings, answers, leaves, nodes)
+
+
+# ---- Entries ----------------------------------------------------------------------------------------
+
+
+def lent_lengths_hold(s, coefficients, tails, masks, nonces, table, tree):
+    """Test 2, over what committer and opener have in common."""
+    return (
+        len(coefficients) == s.w * s.mu * s.nu
+        and len(tails) == s.mu * s.l
+        and len(masks) == s.eta * s.width
+        and len(nonces) == NONCE_BYTES * s.leaves
+        and len(table) == s.leaves * s.record
+        and len(tree) == DIGEST_BYTES * (2 * s.leaves - 1)
+    )
+
+
+def mask_of(s, masks, k):
+    return masks[k * s.width : (k + 1) * s.width]
+
+
+def nonce_of(nonces, index):
+    return nonces[NONCE_BYTES * index : NONCE_BYTES * (index + 1)]
+
+
+def commit(h, mu, nu, w, l, eta, coefficients, tails, masks, nonces, table, tree):
+    """Commit: returns (number, table, tree). Tests 1, 2, 3; the table, being output, is not under 3."""
+    s = Sizes(h, mu, nu, w, l, eta, 1)
+    if not s.in_range():
+        return 1, table, tree
+    if not lent_lengths_hold(s, coefficients, tails, masks, nonces, table, tree):
+        return 2, table, tree
+    if not (elements(coefficients) and elements(tails) and elements(masks)):
+        return 3, table, tree
+    lines = lines_of(s, coefficients, tails)
+    filled = []
+    leaf_digests = []
+    for i in range(s.leaves):
+        leaf_weights = weights(s.leaves, s.width, leaf_point(i))
+        values = [dot(leaf_weights, line) for line in lines]
+        values += [evaluate(mask_of(s, masks, k), leaf_point(i)) for k in range(s.eta)]
+        filled += values
+        leaf_digests.append(digest(leaf_string(i, values, nonce_of(nonces, i))))
+    return 0, filled, tree_of(leaf_digests)
+
+
+def open_reply(question, coefficients, tails, masks, nonces, table, tree, buffer):
+    """Open: returns (number, length, buffer); a refusal has no length (None).
+
+    Tests 6 5 1 6 3 4, then 2, 3 over all lent words (the table too), 8 against the lent root.
+    Table and tree are believed: leaf values and nodes are copied from them.
+    """
+    number, q = read_question(question)
+    if number:
+        return number, None, buffer
+    s = q.sizes
+    if len(buffer) != reply_bytes(s, s.l * s.h) or not lent_lengths_hold(
+        s, coefficients, tails, masks, nonces, table, tree
+    ):
+        return 2, None, buffer
+    if not (elements(coefficients) and elements(tails) and elements(masks) and elements(table)):
+        return 3, None, buffer
+    if q.root != tree[-DIGEST_BYTES:]:
+        return 8, None, buffer
+    lines = lines_of(s, coefficients, tails)
+    reply = write_reply(
+        Reply(
+            [batching_of(s, lines, mask_of(s, masks, k), q.challenges[k]) for k in range(s.eta)],
+            [answer_of(lines, z) for z in q.points],
+            [(table[s.record * i : s.record * (i + 1)], nonce_of(nonces, i)) for i in q.indices],
+            [tree_node(s, tree, level, i) for level, i in missing_nodes(s.h, q.indices)],
+        )
+    )
+    return 0, len(reply), reply + buffer[len(reply) :]
+
+
+def judge(question, reply, buffer_bytes):
+    """The check's verdict for a value buffer of this many bytes: (number, values or None).
+
+    Tests 6 5 1 6 3 4, then 2, 7, 3 over the reply, 8, 9, 10.
+    """
+    number, q = read_question(question)
+    if number:
+        return number, None
+    s = q.sizes
+    if buffer_bytes != 4 * s.w * s.m:
+        return 2, None
+    if len(reply) != reply_bytes(s, len(missing_nodes(s.h, q.indices))):
+        return 7, None
+    r = read_reply(s, reply)
+    if not all(map(elements, r.batchings + r.answers + [values for values, _ in r.leaves])):
+        return 3, None
+    strings = [leaf_string(i, values, nonce) for i, (values, nonce) in zip(q.indices, r.leaves)]
+    if root_of(s.h, q.indices, [digest(string) for string in strings], r.nodes) != q.root:
+        return 8, None
+    for k in range(s.eta):
+        for i, (values, _) in zip(q.indices, r.leaves):
+            if not batching_holds(
+                r.batchings[k], i, q.challenges[k], values[: s.mu], values[s.mu + k]
+            ):
+                return 9, None
+    for i, (values, _) in zip(q.indices, r.leaves):
+        leaf_weights = weights(s.leaves, s.width, leaf_point(i))
+        for z, answer in zip(q.points, r.answers):
+            if not evaluation_holds(leaf_weights, z, answer, values[: s.mu]):
+                return 10, None
+    columns = [answer[: s.columns] for answer in r.answers]
+    return 0, [v for z, c in zip(q.points, columns) for v in values_of(s, z, c)]
+
+
+def check(question, reply, values):
+    """Check: returns (number, values); the value buffer has w m words, point by point."""
+    number, found = judge(question, reply, 4 * len(values))
+    return number, values if number else found
+
+
+def check_c(question, reply, value_bytes):
+    """The check's entry for C: the value buffer has 4 w m bytes. Returns (number, value_bytes)."""
+    number, found = judge(question, reply, len(value_bytes))
+    return number, value_bytes if number else to_bytes(found)
+
+
+def program(input_bytes):
+    """The checking program: from standard input's bytes to standard output's bytes."""
+    data = input_bytes[:INPUT_LIMIT]
+    s = read_header(data)[1] if len(data) >= HEADER_BYTES else None
+    split = question_bytes(s) if s else len(data)
+    number, values = check(data[:split], data[split:], [0] * (s.w * s.m if s else 0))
+    lines = ["verdict %d\n" % number]
+    if number == 0:
+        for at, value in enumerate(values):
+            lines.append("%d %d %d\n" % (at // s.w + 1, at % s.w + 1, value))
+    return "".join(lines).encode()
+
+
+if __name__ == "__main__":
+    sys.stdout.buffer.write(program(sys.stdin.buffer.read(INPUT_LIMIT)))
