@@ -1,9 +1,9 @@
 // What a committer or an opener is lent: the tests of its lengths and elements, and its rows with their tails.
 ghost use mathlib.Core.Path.{_≡_};
 ghost use mathlib.Core.Bool.{true, _&&_};
-ghost use mathlib.Core.List.{List, [], _++_, map, flatten};
+ghost use mathlib.Core.List.{[], _++_, flatten};
 ghost use Prim.Native.Nat.{_+_, _*_, _<_, _≤_};
-ghost use lib.ListN.{length, drop, getD};
+ghost use lib.ListN.{length, drop};
 ghost use Rattle.lists.specs.Tabulate.{tabulate};
 ghost use Rattle.lists.specs.Tests.{every};
 ghost use Rattle.scheme.specs.Sizes.{sizesOk, columns, rows, width};

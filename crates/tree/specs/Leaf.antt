@@ -1,4 +1,4 @@
--- Leaf strings.
+-- The string that is hashed for a leaf.
 use mathlib.Core.List.{_∷_, _++_}
 use Prim.Native.Nat.{ℕ}
 use Rattle.lists.specs.Bytes.{Bytes, littleEndian}

@@ -1,3 +1,4 @@
+-- The definitions: strings, sets of nodes, the tree; then what the contracts of the functions cite.
 pub mod Leaf
 pub mod Sets
 pub mod Tree

@@ -15,7 +15,7 @@ ghost use Rattle.tree.specs.Tree.{parts, allParts, rootFrom, opened, tre
 ghost use Rattle.tree.specs.Walk.{heads, used};
 ghost use Rattle.tree.specs.Clauses.{IndexSet, CanGather, Gathered, CanHashParents, ParentsHashed, CanRoot, CanHashLevel, withLevel, CanFillLevels, CanList, Listed, CanListLevel, LevelListed, CanListNodes, NodesListed, NodeSet, CanCount};
 
-// The number of a leaf.
+// The number of a leaf, a type of its own: it is no field point.
 pub struct LeafIndex(pub u32);
 
 // A place in a set and one in a list of nodes.

@@ -1,0 +1,69 @@
+-- The evaluation test: at one leaf, and for all leaves.
+use mathlib.Core.Path.{_≡_, refl, sym, ap, ap₂, _∙_}
+use mathlib.Core.Bool.{Bool, true}
+use mathlib.Core.List.{List}
+use Prim.Native.Nat.{ℕ, _+_, _-_, _*_, _≤_}
+use native.Mathlib.Nat.{sub-zero}
+use native.Mathlib.Omega.{arith}
+use lib.Dec.{eqb}
+use lib.ListN.{length, getD, take, drop, length-append}
+use lib.Seq.{take-at, length-take-le}
+use borrow.Rule.Slice.PartMut.{putMid}
+use Rattle.lists.specs.Pieces.{piece}
+use Rattle.lists.specs.Range.{upFrom, length-upFrom}
+use Rattle.lists.specs.Tests.{each}
+use Rattle.algebra.specs.Dot.{dotN}
+use Rattle.algebra.specs.Basis.{basisN, dot-basisN, length-basisN}
+use Rattle.algebra.specs.Numbers.{evalN}
+use Rattle.scheme.specs.Sizes.{leafPoint}
+use Rattle.checker.specs.Words.{weighedAt, evaluatedAt, evaluatedLeaf}
+use Rattle.checker.proofs.Rows.{each-ext}
+use Rattle.checker.proofs.Batching.{part-is, front-of-piece}
+
+pub each-none : (f : ℕ → Bool) → each 0 f ≡ true
+unfolding each
+each-none f = refl
+
+-- the code's two sides at one point
+pub weighed : (weights points answers rows : List ℕ) (p left right : ℕ)
+    → left ≡ dotN weights (take (length weights * p + length weights - length weights * p) (drop (length weights * p) answers))
+    → right ≡ evalN rows (getD points p 0) → eqb left right ≡ weighedAt weights points answers rows p
+unfolding weighedAt
+weighed weights points answers rows p left right e f = ap₂ eqb (e ∙ ap (dotN weights) (part-is (length weights) p answers)) f
+
+-- a front that was written, read again
+pub front-again : (n : ℕ) (b r : List ℕ) → length r ≡ n → take (n - 0) (drop 0 (putMid 0 (n - 0) b r)) ≡ r
+front-again n b r e = take-at r (drop (n - 0) (drop 0 b)) (n - 0) (e ∙ sym (sub-zero n))
+
+-- with the basis for the weights, a dot product is the value of the polynomial through the answer
+pub weighed-is : (first width x : ℕ) (weights points answers rows : List ℕ) → weights ≡ basisN (upFrom first width) x
+    → each (length points) (weighedAt weights points answers rows) ≡ each (length points) (evaluatedAt first width points answers x rows)
+unfolding weighedAt evaluatedAt
+weighed-is first width x weights points answers rows e =
+    let n : length weights ≡ width = ap length e ∙ length-basisN (upFrom first width) x ∙ length-upFrom first width in
+    each-ext (length points) (weighedAt weights points answers rows) (evaluatedAt first width points answers x rows)
+    (λ p l. ap (λ (v : ℕ). eqb v (evalN rows (getD points p 0)))
+    (ap₂ (λ (t : List ℕ) (k : ℕ). dotN t (piece k p answers)) e n ∙ dot-basisN (upFrom first width) (piece width p answers) x))
+
+-- one leaf
+pub leaf-is : (leaves width μ n : ℕ) (points answers indices values : List ℕ) (a first x : ℕ) (rows : List ℕ) (r : Bool) → μ ≤ n
+    → first ≡ leaves → x ≡ leafPoint (getD indices a 0) → rows ≡ take (n * a + μ - n * a) (drop (n * a) values)
+    → r ≡ each (length points) (evaluatedAt first width points answers x rows) → r ≡ evaluatedLeaf leaves width μ n points answers indices values a
+unfolding evaluatedLeaf
+leaf-is leaves width μ n points answers indices values a first x rows r h e f g k =
+    k
+    ∙ ap (λ (v : ℕ). each (length points) (evaluatedAt v width points answers x rows)) e
+    ∙ ap₂ (λ (v : ℕ) (t : List ℕ). each (length points) (evaluatedAt leaves width points answers v t)) f (g ∙ front-of-piece n a μ values h)
+
+-- a front of n elements that was lent, as it comes back
+pub front-length : (n : ℕ) (b : List ℕ) → n ≤ length b → length (take (n - 0) (drop 0 b)) ≡ n
+front-length n b h = ap (λ (k : ℕ). length (take k b)) (sub-zero n) ∙ length-take-le n b h
+
+pub front-fits : (n : ℕ) (b r : List ℕ) → length r ≡ n → n ≤ length (putMid 0 (n - 0) b r)
+front-fits n b r e = omega (arith, length-append r (drop (n - 0) (drop 0 b)))
+
+pub basis-front : (first width x : ℕ) (b r : List ℕ) → width ≤ length b → r ≡ basisN (upFrom first (length (take (width - 0) (drop 0 b)))) x
+    → (r ≡ basisN (upFrom first width) x) × (length r ≡ width)
+basis-front first width x b r h e =
+    let f : r ≡ basisN (upFrom first width) x = e ∙ ap (λ (n : ℕ). basisN (upFrom first n) x) (front-length width b h) in
+    (f, ap length f ∙ length-basisN (upFrom first width) x ∙ length-upFrom first width)

@@ -1,0 +1,11 @@
+pub mod Rows
+pub mod Batching
+pub mod Evaluation
+pub mod Values
+pub mod Bounds
+pub mod Flat
+pub mod Roots
+pub mod ReplyTests
+pub mod Verdicts
+pub mod Asking
+pub mod Collected

@@ -1,0 +1,186 @@
+-- The reply's tests, and the values, are those on its words.
+use mathlib.Core.Path.{_≡_, refl, sym, ap, ap₂, _∙_}
+use mathlib.Core.Bool.{Bool}
+use mathlib.Core.List.{List, [], _∷_, _++_, map}
+use Prim.Native.Nat.{ℕ, _+_, _*_, _/_, _-_, _<_}
+use native.Mathlib.Omega.{arith}
+use lib.Dec.{eqb, ltb}
+use lib.Seq.{drop-drop}
+use Rattle.algebra.specs.Prime.{q}
+use lib.ListN.{length, getD, take, drop, length-map, length-drop}
+use Rattle.sponge.specs.Digest.{digest}
+use Rattle.tree.specs.Leaf.{leafString}
+use Rattle.tree.specs.Tree.{parts, allParts, rootFrom}
+use Rattle.lists.specs.Bytes.{Bytes, words, length-words}
+use Rattle.lists.specs.Maps.{map-cong}
+use Rattle.lists.specs.Pieces.{pieces, piece, length-pieces}
+use Rattle.lists.specs.Range.{upFrom, upFrom-of}
+use Rattle.lists.specs.Tests.{all, every, each}
+use Rattle.algebra.specs.Numbers.{evalN, interpN}
+use Rattle.scheme.specs.Sizes.{Sizes, elements, leaves, width, recordValues, points, leafPoint}
+use Rattle.scheme.specs.Layers.{polynomialValues}
+use Rattle.scheme.specs.Question.{Question, pointsAt}
+use Rattle.checker.specs.Posed.{questionAt}
+use Rattle.checker.proofs.Values.{front-all}
+use Rattle.scheme.specs.Reply.{Reply, readReply, answersAt, recordsAt, recordLength, nodesAt, missingNodes, replyLength, recordWords}
+use Rattle.scheme.specs.Check.{leafAt, recordAt, batchingOf, pointOf, answerOf, replyElements, leafStrings, replyRoot, batchingAt, evaluationAt, checkValues}
+use Rattle.scheme.proofs.Walk.{batching-at, answer-at, record-at}
+use Rattle.checker.specs.Words.{batchingWords, answerWords, leafValuesAt, leafWords, rowsOf, rootAt, recordWordsAt, leafDigestAt, batchOf, batchedAt, batchedRow, evaluatedAt, evaluatedLeaf, pointValues, valuesAt}
+use Rattle.checker.proofs.Rows.{each-ext}
+use Rattle.checker.proofs.Flat.{all-each, each-swap, all-rows, rows-ext, wordsAt, words-rows, row-of, words-piece}
+
+map-map : (f : Bytes → Bytes) (g : ℕ → Bytes) (xs : List ℕ) → map f (map g xs) ≡ map (λ a. f (g a)) xs
+map-map f g [] = refl
+map-map f g (x ∷ xs) = ap (λ (t : List Bytes). f (g x) ∷ t) (map-map f g xs)
+
+module _ (u : Question) (reply : Bytes) where
+  abbrev r : Reply
+  r = readReply u reply
+
+  abbrev s : Sizes
+  s = u .sizes
+
+  batching-words : (k : ℕ) → k < s .η → batchingOf r k ≡ piece (width s) k (batchingWords u reply)
+  batching-words k l = batching-at u reply k l ∙ sym (words-piece (width s) (s .η) k reply l)
+
+  answer-words : (p : ℕ) → p < u .m → answerOf r p ≡ piece (width s) p (answerWords u reply)
+  answer-words p l =
+      answer-at u reply p l
+      ∙ ap (words (width s)) (sym (drop-drop (4 * width s * p) (answersAt s) reply))
+      ∙ sym (words-piece (width s) (u .m) p (drop (answersAt s) reply) l)
+
+  length-leafValues : (a : ℕ) → length (leafValuesAt u reply a) ≡ recordValues s
+  unfolding recordWordsAt
+  length-leafValues a = length-words (recordValues s) _
+
+  leaf-values : (a : ℕ) → a < s .ℓ → recordWords s (recordAt r a) ≡ leafValuesAt u reply a
+  unfolding recordWordsAt
+  leaf-values a l = ap (words (recordValues s)) (record-at u reply a l)
+
+  leaf-words : (a : ℕ) → a < s .ℓ → recordWords s (recordAt r a) ≡ piece (recordValues s) a (leafWords u reply)
+  leaf-words a l = leaf-values a l ∙ sym (row-of (recordValues s) (leafValuesAt u reply) length-leafValues (s .ℓ) a l)
+
+  -- ---- 3
+
+  batching-elements : all elements (r .batching) ≡ elements (batchingWords u reply)
+  unfolding readReply
+  batching-elements =
+      all-each elements [] (r .batching)
+      ∙ ap (λ (n : ℕ). each n (λ k. elements (getD (r .batching) k []))) (length-map (pieces (4 * width s) (s .η) reply) (words (width s)) ∙ length-pieces (4 * width s) (s .η) reply)
+      ∙ each-ext (s .η) (λ k. elements (getD (r .batching) k [])) (λ k. elements (wordsAt (width s) reply k)) (λ k l. ap elements (batching-at u reply k l))
+      ∙ sym (ap elements (words-rows (width s) (s .η) reply) ∙ all-rows (λ x. ltb x q) (wordsAt (width s) reply) (s .η))
+
+  answer-elements : all elements (r .answers) ≡ elements (answerWords u reply)
+  unfolding readReply
+  answer-elements =
+      let y : Bytes = drop (answersAt s) reply in
+      all-each elements [] (r .answers)
+      ∙ ap (λ (n : ℕ). each n (λ k. elements (getD (r .answers) k []))) (length-map (pieces (4 * width s) (u .m) y) (words (width s)) ∙ length-pieces (4 * width s) (u .m) y)
+      ∙ each-ext (u .m) (λ k. elements (getD (r .answers) k [])) (λ k. elements (wordsAt (width s) y k))
+      (λ k l. ap elements (answer-at u reply k l ∙ ap (words (width s)) (sym (drop-drop (4 * width s * k) (answersAt s) reply))))
+      ∙ sym (ap elements (words-rows (width s) (u .m) y) ∙ all-rows (λ x. ltb x q) (wordsAt (width s) y) (u .m))
+
+  leaf-elements : all (λ x. elements (recordWords s x)) (r .records) ≡ elements (leafWords u reply)
+  unfolding readReply
+  leaf-elements =
+      let y : Bytes = drop (recordsAt s (u .m)) reply in
+      all-each (λ x. elements (recordWords s x)) [] (r .records)
+      ∙ ap (λ (n : ℕ). each n (λ k. elements (recordWords s (getD (r .records) k [])))) (length-pieces (recordLength s) (s .ℓ) y)
+      ∙ each-ext (s .ℓ) (λ k. elements (recordWords s (getD (r .records) k []))) (λ k. elements (leafValuesAt u reply k)) (λ k l. ap elements (leaf-values k l))
+      ∙ sym (all-rows (λ x. ltb x q) (leafValuesAt u reply) (s .ℓ))
+
+  pub elements-are : every (elements (batchingWords u reply) ∷ elements (answerWords u reply) ∷ elements (leafWords u reply) ∷ []) ≡ replyElements u r
+  unfolding replyElements
+  elements-are = ap₂ (λ (a b : Bool). every (a ∷ b ∷ elements (leafWords u reply) ∷ [])) (sym batching-elements) (sym answer-elements) ∙ ap (λ (c : Bool). every (all elements (r .batching) ∷ all elements (r .answers) ∷ c ∷ [])) (sym leaf-elements)
+
+  -- ---- 9
+
+  pub batching-is : length (u .challenges) ≡ u .sizes .η → length (u .indices) ≡ u .sizes .ℓ
+      → each (length (u .challenges)) (batchedRow (width (u .sizes)) (u .sizes .μ) (u .challenges) (batchingWords u reply) (u .indices) (leafWords u reply))
+      ≡ each (u .sizes .η) (λ k. each (u .sizes .ℓ) (batchingAt u (readReply u reply) k))
+  unfolding batchedRow batchedAt batchingAt batchOf
+  batching-is c i =
+      ap (λ (n : ℕ). each n (batchedRow (width s) (s .μ) (u .challenges) (batchingWords u reply) (u .indices) (leafWords u reply))) c
+      ∙ each-ext (s .η) (batchedRow (width s) (s .μ) (u .challenges) (batchingWords u reply) (u .indices) (leafWords u reply)) (λ k. each (s .ℓ) (batchingAt u r k))
+      (λ k l. ap (λ (n : ℕ). each n (batchedAt (width s) (s .μ) (u .challenges) (batchingWords u reply) (u .indices) (leafWords u reply) k)) i
+      ∙ each-ext (s .ℓ) (batchedAt (width s) (s .μ) (u .challenges) (batchingWords u reply) (u .indices) (leafWords u reply) k) (batchingAt u r k)
+      (λ a m. ap₂ (λ (p x : List ℕ). eqb (evalN p (leafPoint (leafAt u a))) (batchOf (s .μ) (u .challenges) k x))
+      (sym (batching-words k l)) (ap (λ (n : ℕ). piece (s .μ + n) a (leafWords u reply)) c ∙ sym (leaf-words a m))))
+
+  -- ---- 10
+
+  pub evaluation-is : length (u .evaluationPoints) ≡ u .m → length (u .indices) ≡ u .sizes .ℓ
+      → each (length (u .indices)) (evaluatedLeaf (leaves (u .sizes)) (width (u .sizes)) (u .sizes .μ) (recordValues (u .sizes)) (u .evaluationPoints) (answerWords u reply) (u .indices) (leafWords u reply))
+      ≡ each (u .m) (λ p. each (u .sizes .ℓ) (evaluationAt u (readReply u reply) p))
+  unfolding evaluatedLeaf evaluatedAt evaluationAt
+  evaluation-is e i =
+      ap (λ (n : ℕ). each n (evaluatedLeaf (leaves s) (width s) (s .μ) (recordValues s) (u .evaluationPoints) (answerWords u reply) (u .indices) (leafWords u reply))) i
+      ∙ each-ext (s .ℓ) (evaluatedLeaf (leaves s) (width s) (s .μ) (recordValues s) (u .evaluationPoints) (answerWords u reply) (u .indices) (leafWords u reply)) (λ a. each (u .m) (λ p. evaluationAt u r p a))
+      (λ a l. ap (λ (n : ℕ). each n (evaluatedAt (leaves s) (width s) (u .evaluationPoints) (answerWords u reply) (leafPoint (leafAt u a)) (take (s .μ) (piece (recordValues s) a (leafWords u reply))))) e
+      ∙ each-ext (u .m) (evaluatedAt (leaves s) (width s) (u .evaluationPoints) (answerWords u reply) (leafPoint (leafAt u a)) (take (s .μ) (piece (recordValues s) a (leafWords u reply)))) (λ p. evaluationAt u r p a)
+      (λ p h. ap₂ (λ (x y : List ℕ). eqb (evalN (interpN (points s) x) (leafPoint (leafAt u a))) (evalN (take (s .μ) y) (pointOf u p)))
+      (sym (answer-words p h)) (sym (leaf-words a l))))
+      ∙ sym (each-swap (u .m) (s .ℓ) (λ p a. evaluationAt u r p a))
+
+  -- ---- values
+
+  pub values-are : rowsOf (valuesAt (u .sizes .μ) (u .sizes .ν) (u .sizes .w) (width (u .sizes)) (u .evaluationPoints) (answerWords u reply)) (u .m) ≡ checkValues u (readReply u reply)
+  unfolding checkValues rowsOf valuesAt pointValues polynomialValues
+  values-are =
+      rows-ext (valuesAt (s .μ) (s .ν) (s .w) (width s) (u .evaluationPoints) (answerWords u reply)) (λ p. polynomialValues s (pointOf u p) (answerOf r p)) (u .m)
+      (λ p l. ap (λ (x : List ℕ). polynomialValues s (pointOf u p) x) (sym (answer-words p l)))
+
+  -- ---- 8
+
+  abbrev leafDigest : ℕ → Bytes
+  leafDigest = leafDigestAt (recordsAt (u .sizes) (u .m)) (recordLength (u .sizes)) (u .indices) reply
+
+  digests-are : length (u .indices) ≡ s .ℓ → map leafDigest (upFrom 0 (length (u .indices))) ≡ map digest (leafStrings u r)
+  unfolding leafStrings leafDigestAt
+  digests-are i =
+      ap (λ (n : ℕ). map leafDigest (upFrom 0 n)) i
+      ∙ map-cong {f = leafDigest} {g = λ a. digest (leafString (leafAt u a) (recordAt r a))} (upFrom 0 (s .ℓ))
+      (λ a l. ap (λ (x : Bytes). digest (leafString (leafAt u a) x)) (sym (record-at u reply a (omega (arith, upFrom-of 0 (s .ℓ) a l .1)))))
+      ∙ sym (map-map digest (λ a. leafString (leafAt u a) (recordAt r a)) (upFrom 0 (s .ℓ)))
+
+  nodes-are : length (u .indices) ≡ s .ℓ → length reply ≡ replyLength u
+      → allParts (drop (recordsAt s (u .m) + recordLength s * length (u .indices)) reply) ≡ r .nodes
+  unfolding readReply allParts
+  nodes-are i e =
+      let m : ℕ = length (missingNodes u) in
+      let a : ℕ = nodesAt s (u .m) in
+      let n : length (drop a reply) / 32 ≡ m = ap (λ (k : ℕ). k / 32) (length-drop a reply ∙ ap (λ (k : ℕ). k - a) e) ∙ whole a m in
+      ap (λ (k : ℕ). allParts (drop (recordsAt s (u .m) + recordLength s * k) reply)) i ∙ ap (λ (k : ℕ). parts k (drop a reply)) n
+    where
+      whole : (a m : ℕ) → (a + 32 * m - a) / 32 ≡ m
+      whole a m = omega arith
+
+  pub root-is : length (u .indices) ≡ u .sizes .ℓ → length reply ≡ replyLength u
+      → rootAt (u .sizes .h) (recordsAt (u .sizes) (u .m)) (recordLength (u .sizes)) (u .indices) reply ≡ replyRoot u (readReply u reply)
+  unfolding replyRoot rootAt
+  root-is i e = ap₂ (λ (ds ns : List Bytes). rootFrom digest 2 (1 ∷ []) (s .h) (u .indices) ds ns) (digests-are i) (nodes-are i e)
+
+-- ---- what the code reads
+
+pub record-row : (at size n : ℕ) (reply d : List ℕ) (a : ℕ) (t : List ℕ) → length d ≡ n
+    → t ≡ words n (drop 0 (take (at + size * a + size - (at + size * a)) (drop (at + size * a) reply))) ++ drop n d → t ≡ recordWordsAt at size n reply a
+unfolding recordWordsAt
+record-row at size n reply d a t e f =
+    let k : at + size * a + size - (at + size * a) ≡ size = omega arith in
+    f
+    ∙ front-all (words n (take (at + size * a + size - (at + size * a)) (drop (at + size * a) reply))) d n (sym e)
+    ∙ ap (λ (i : ℕ). words n (take i (drop (at + size * a) reply))) k
+
+pub length-recordWordsAt : (at size n : ℕ) (reply : List ℕ) (a : ℕ) → length (recordWordsAt at size n reply a) ≡ n
+unfolding recordWordsAt
+length-recordWordsAt at size n reply a = length-words n _
+
+pub values-done : (s : Sizes) (m : ℕ) (question reply : Bytes) (wide : ℕ) (ps answers : List ℕ) → wide ≡ width s
+    → ps ≡ words m (drop (pointsAt s) question) → answers ≡ words (wide * m) (drop (answersAt s) reply)
+    → rowsOf (valuesAt (s .μ) (s .ν) (s .w) wide ps answers) (length ps) ≡ checkValues (questionAt s m question) (readReply (questionAt s m question) reply)
+values-done s m question reply wide ps answers e f g =
+    let z : List ℕ = words m (drop (pointsAt s) question) in
+    ap (λ (n : ℕ). rowsOf (valuesAt (s .μ) (s .ν) (s .w) wide ps answers) n) (ap length f ∙ length-words m (drop (pointsAt s) question))
+    ∙ ap₂ (λ (n : ℕ) (y : List ℕ). rowsOf (valuesAt (s .μ) (s .ν) (s .w) n y answers) m) e f
+    ∙ ap (λ (x : List ℕ). rowsOf (valuesAt (s .μ) (s .ν) (s .w) (width s) z x) m) (g ∙ ap (λ (n : ℕ). words (n * m) (drop (answersAt s) reply)) e)
+    ∙ values-are (questionAt s m question) reply

@@ -1,0 +1,110 @@
+-- Rows of one length, one after the other: a loop that writes them, and each row read again.
+use mathlib.Core.Path.{_≡_, refl, sym, ap, ap₂, _∙_}
+use mathlib.Core.Bool.{Bool, _&&_}
+use mathlib.Core.List.{List, [], _∷_, _++_, map, flatten, append-assoc, append-nil}
+use Prim.Native.Nat.{ℕ, zero, suc, _+_, _-_, _*_, _≤_, _<_}
+use native.Mathlib.Nat.{add-zero, suc-add, add-suc, zero-add, mul-suc, mul-le-mul-left, sub-zero}
+use native.Mathlib.Numerals.{add-one}
+use native.Mathlib.Omega.{arith}
+use lib.ListN.{length, getD, take, drop, length-map, length-take, length-drop}
+use lib.Seq.{take-at, drop-drop, drop-append-add}
+use borrow.Rule.Slice.PartMut.{putMid, post-is}
+use Rattle.lists.specs.All.{Sized, all-each}
+use Rattle.lists.specs.Range.{upFrom, length-upFrom, at-run}
+use Rattle.lists.specs.Pieces.{piece, pieces, pieces-at, pieces-flatten, flatten-append, length-flatten}
+use Rattle.lists.specs.Tests.{each}
+use Rattle.checker.specs.Words.{rowsOf}
+
+-- two tests that agree at each number below n
+pub each-ext : (n : ℕ) (f g : ℕ → Bool) → ((i : ℕ) → i < n → f i ≡ g i) → each n f ≡ each n g
+unfolding each
+each-ext zero f g h = refl
+each-ext (suc n) f g h = ap₂ _&&_ (each-ext n f g (λ i l. h i (omega arith))) (h n (omega arith))
+
+upFrom-snoc : (a n : ℕ) → upFrom a (suc n) ≡ upFrom a n ++ ((a + n) ∷ [])
+unfolding upFrom
+upFrom-snoc a zero = ap (λ (k : ℕ). k ∷ []) (sym (add-zero a))
+upFrom-snoc a (suc n) =
+    ap (λ (t : List ℕ). a ∷ t) (upFrom-snoc (suc a) n ∙ ap (λ (k : ℕ). upFrom (suc a) n ++ (k ∷ [])) (suc-add a n ∙ sym (add-suc a n)))
+
+map-append : (f : ℕ → List ℕ) (xs ys : List ℕ) → map f (xs ++ ys) ≡ map f xs ++ map f ys
+map-append f [] ys = refl
+map-append f (x ∷ xs) ys = ap (λ (t : List (List ℕ)). f x ∷ t) (map-append f xs ys)
+
+pub rows-none : (f : ℕ → List ℕ) → rowsOf f 0 ≡ []
+unfolding rowsOf upFrom flatten
+rows-none f = refl
+
+pub rows-next : (f : ℕ → List ℕ) (n : ℕ) → rowsOf f (n + 1) ≡ rowsOf f n ++ f n
+unfolding rowsOf flatten
+rows-next f n =
+    ap (λ (k : ℕ). flatten (map f (upFrom 0 k))) (add-one n)
+    ∙ ap (λ (t : List ℕ). flatten (map f t)) (upFrom-snoc 0 n ∙ ap (λ (k : ℕ). upFrom 0 n ++ (k ∷ [])) (zero-add n))
+    ∙ ap flatten (map-append f (upFrom 0 n) (n ∷ []))
+    ∙ flatten-append (map f (upFrom 0 n)) (f n ∷ [])
+    ∙ ap (λ (t : List ℕ). flatten (map f (upFrom 0 n)) ++ t) (append-nil (f n))
+
+module _ (k : ℕ) (f : ℕ → List ℕ) (sized : (i : ℕ) → length (f i) ≡ k) where
+  count : (n : ℕ) → length (map f (upFrom 0 n)) ≡ n
+  count n = length-map (upFrom 0 n) f ∙ length-upFrom 0 n
+
+  rows-sized : (n : ℕ) → Sized k (map f (upFrom 0 n))
+  rows-sized n = all-each (λ (x : List ℕ). length x ≡ k) f (upFrom 0 n) sized
+
+  pub length-rows : (n : ℕ) → length (rowsOf f n) ≡ k * n
+  unfolding rowsOf
+  length-rows n = length-flatten k (map f (upFrom 0 n)) (rows-sized n) ∙ ap (λ (j : ℕ). k * j) (count n)
+
+  -- cut again
+  pub rows-pieces : (n : ℕ) (rest : List ℕ) → pieces k n (rowsOf f n ++ rest) ≡ map f (upFrom 0 n)
+  unfolding rowsOf
+  rows-pieces n rest =
+      ap (λ (j : ℕ). pieces k j (flatten (map f (upFrom 0 n)) ++ rest)) (sym (count n)) ∙ pieces-flatten k (map f (upFrom 0 n)) rest (rows-sized n)
+
+  -- row a of n
+  pub row-at : (n a : ℕ) (rest : List ℕ) → a < n → piece k a (rowsOf f n ++ rest) ≡ f a
+  unfolding rowsOf
+  row-at n a rest l =
+      sym (pieces-at k n a (flatten (map f (upFrom 0 n)) ++ rest) l)
+      ∙ ap (λ (t : List (List ℕ)). getD t a []) (rows-pieces n rest)
+      ∙ at-run f 0 n a [] l
+      ∙ ap f (zero-add a)
+
+  -- where the rows below a stand in front of d, row a is written behind them
+  pub row-turn : (d t r : List ℕ) (a : ℕ) → t ≡ rowsOf f a ++ drop (k * a) d → r ≡ f a
+      → putMid (k * a) (k * a + k - k * a) t r ≡ rowsOf f (a + 1) ++ drop (k * (a + 1)) d
+  row-turn d t r a e g =
+      let h : length (rowsOf f a) ≡ k * a = length-rows a in
+      let n : k * a + k ≡ k * (a + 1) = omega arith in
+      let rest : drop (k * a + k) t ≡ drop (k * (a + 1)) d =
+      ap (drop (k * a + k)) e
+      ∙ ap (λ (j : ℕ). drop (j + k) (rowsOf f a ++ drop (k * a) d)) (sym h)
+      ∙ drop-append-add (rowsOf f a) (drop (k * a) d) k
+      ∙ drop-drop k (k * a) d
+      ∙ ap (λ (j : ℕ). drop j d) n in
+      ap₂ (λ (x y : List ℕ). x ++ (r ++ y)) (ap (take (k * a)) e ∙ take-at (rowsOf f a) (drop (k * a) d) (k * a) h) (post-is (k * a) (k * a + k) t (omega arith) ∙ rest)
+      ∙ ap (λ (x : List ℕ). rowsOf f a ++ (x ++ drop (k * (a + 1)) d)) g
+      ∙ sym (append-assoc (rowsOf f a) (f a) (drop (k * (a + 1)) d))
+      ∙ ap (λ (x : List ℕ). x ++ drop (k * (a + 1)) d) (sym (rows-next f a))
+
+-- none written, and all
+pub rows-start : (k : ℕ) (f : ℕ → List ℕ) (d : List ℕ) → d ≡ rowsOf f 0 ++ drop (k * 0) d
+rows-start k f d = let e : 0 ≡ k * 0 = omega arith in ap (λ (j : ℕ). drop j d) e ∙ ap (λ (x : List ℕ). x ++ drop (k * 0) d) (sym (rows-none f))
+
+-- row a of n fits
+pub row-fits : (k a n : ℕ) → a < n → k * a + k ≤ k * n
+row-fits k a n h = omega (arith, mul-suc k a, mul-le-mul-left k h)
+
+-- the length of a part of k elements
+pub span-length : (a k : ℕ) (t : List ℕ) → a + k ≤ length t → length (take (a + k - a) (drop a t)) ≡ k
+span-length a k t h = simp (length-take, length-drop) (omega arith)
+
+pub part-length : (k a : ℕ) (t : List ℕ) → k * a + k ≤ length t → length (take (k * a + k - k * a) (drop (k * a) t)) ≡ k
+part-length k a t h = span-length (k * a) k t h
+
+-- a front of n elements, lent
+pub front-is : (n : ℕ) (p d : List ℕ) → length p ≡ n → take (n - 0) (drop 0 (p ++ d)) ≡ p
+front-is n p d e = take-at p d (n - 0) (e ∙ sym (sub-zero n))
+
+pub read-front : (n : ℕ) (p b r : List ℕ) → length p ≡ n → r ≡ p ++ drop n b → take (n - 0) (drop 0 r) ≡ p
+read-front n p b r e f = ap (λ (t : List ℕ). take (n - 0) (drop 0 t)) f ∙ front-is n p (drop n b) e

@@ -1,0 +1,61 @@
+-- The values of the polynomials: at one point, and at all.
+use mathlib.Core.Path.{_≡_, refl, sym, ap, ap₂, _∙_}
+use mathlib.Core.List.{List, [], _∷_, _++_, map, append-nil}
+use Prim.Native.Nat.{ℕ, suc, _+_, _-_, _*_, _<_}
+use native.Mathlib.Numerals.{add-one}
+use lib.ListN.{length, getD, take, drop, set, length-map}
+use lib.Seq.{set-at, drop-cons, append-snoc, drop-length}
+use Rattle.lists.specs.Pieces.{piece, pieces, pieces-snoc, length-pieces}
+use Rattle.algebra.specs.Columns.{powN}
+use Rattle.algebra.specs.Numbers.{evalN}
+use Rattle.checker.specs.Words.{pointValues, valuesAt}
+use Rattle.checker.proofs.Batching.{part-is}
+
+-- where p stands in front of d, one element more is written behind it
+front-step : (p d : List ℕ) (i v : ℕ) → length p ≡ i → i < length d → set (p ++ drop i d) i v ≡ (p ++ (v ∷ [])) ++ drop (i + 1) d
+front-step p d i v e h =
+    ap (λ (t : List ℕ). set (p ++ t) i v) (drop-cons d i 0 h)
+    ∙ set-at p (getD d i 0) (drop (suc i) d) v i e
+    ∙ sym (append-snoc p v (drop (suc i) d))
+    ∙ ap (λ (k : ℕ). (p ++ (v ∷ [])) ++ drop k d) (sym (add-one i))
+
+map-snoc : (f : List ℕ → ℕ) (xs : List (List ℕ)) (x : List ℕ) → map f (xs ++ (x ∷ [])) ≡ map f xs ++ (f x ∷ [])
+map-snoc f [] x = refl
+map-snoc f (y ∷ xs) x = ap (λ (t : List ℕ). f y ∷ t) (map-snoc f xs x)
+
+pub length-pointValues : (ν base : ℕ) (answer : List ℕ) (n : ℕ) → length (pointValues ν base answer n) ≡ n
+unfolding pointValues
+length-pointValues ν base answer n = length-map (pieces ν n answer) (λ vs. evalN vs base) ∙ length-pieces ν n answer
+
+point-next : (ν base : ℕ) (answer : List ℕ) (i : ℕ) → pointValues ν base answer (i + 1) ≡ pointValues ν base answer i ++ (evalN (piece ν i answer) base ∷ [])
+unfolding pointValues
+point-next ν base answer i =
+    ap (λ (k : ℕ). map (λ vs. evalN vs base) (pieces ν k answer)) (add-one i)
+    ∙ ap (map (λ vs. evalN vs base)) (pieces-snoc ν i answer)
+    ∙ map-snoc (λ vs. evalN vs base) (pieces ν i answer) (piece ν i answer)
+
+pub point-start : (ν base : ℕ) (answer d : List ℕ) → d ≡ pointValues ν base answer 0 ++ drop 0 d
+unfolding pointValues pieces
+point-start ν base answer d = refl
+
+pub point-turn : (ν base : ℕ) (answer d out : List ℕ) (i v : ℕ) → i < length d → out ≡ pointValues ν base answer i ++ drop i d
+    → v ≡ evalN (take (ν * i + ν - ν * i) (drop (ν * i) answer)) base → set out i v ≡ pointValues ν base answer (i + 1) ++ drop (i + 1) d
+point-turn ν base answer d out i v h e f =
+    ap₂ (λ (t : List ℕ) (k : ℕ). set t i k) e (f ∙ ap (λ (t : List ℕ). evalN t base) (part-is ν i answer))
+    ∙ front-step (pointValues ν base answer i) d i (evalN (piece ν i answer) base) (length-pointValues ν base answer i) h
+    ∙ ap (λ (t : List ℕ). t ++ drop (i + 1) d) (sym (point-next ν base answer i))
+
+pub front-all : (p d : List ℕ) (n : ℕ) → n ≡ length d → p ++ drop n d ≡ p
+front-all p d n e = ap (λ (t : List ℕ). p ++ t) (ap (λ (k : ℕ). drop k d) e ∙ drop-length d) ∙ append-nil p
+
+-- the row of a point
+pub length-valuesAt : (μ ν w width : ℕ) (points answers : List ℕ) (p : ℕ) → length (valuesAt μ ν w width points answers p) ≡ w
+unfolding valuesAt
+length-valuesAt μ ν w width points answers p = length-pointValues ν (powN (getD points p 0) μ) (piece width p answers) w
+
+pub values-is : (μ ν w width : ℕ) (points answers : List ℕ) (p base n : ℕ) (r : List ℕ) → n ≡ w → base ≡ powN (getD points p 0) μ
+    → r ≡ pointValues ν base (take (width * p + width - width * p) (drop (width * p) answers)) n → r ≡ valuesAt μ ν w width points answers p
+unfolding valuesAt
+values-is μ ν w width points answers p base n r e f g =
+    g ∙ ap₂ (λ (b k : ℕ). pointValues ν b (take (width * p + width - width * p) (drop (width * p) answers)) k) f e
+    ∙ ap (λ (t : List ℕ). pointValues ν (powN (getD points p 0) μ) t w) (part-is width p answers)

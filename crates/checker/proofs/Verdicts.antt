@@ -1,0 +1,222 @@
+-- What the code tests, what its steps ask, and the order of the verdicts, for a question as the code holds it.
+use mathlib.Core.Path.{_≡_, refl, sym, ap, ap₂, _∙_}
+use mathlib.Core.Bool.{Bool, true, false, not}
+use mathlib.Core.List.{List, [], _∷_, _++_}
+use Prim.Native.Nat.{ℕ, _+_, _-_, _*_, _^_, _≤_, _<_}
+use native.Mathlib.Nat.{le-of-eq, lt-of-lt-of-le, pow-le-pow-right}
+use native.Mathlib.Omega.{arith}
+use lib.Dec.{eqb}
+use lib.ListN.{length, take, drop}
+use borrow.Author.Tests.{eq-eqb, ne-eqb}
+use Rattle.tree.specs.Sets.{missing}
+use Rattle.tree.specs.Clauses.{IndexSet}
+use Rattle.lists.specs.All.{Below, all-imp}
+use Rattle.lists.specs.Bytes.{Bytes, words, length-words}
+use Rattle.lists.specs.Tests.{Test, verdictOf, every, each, same, verdict-hit, verdict-miss}
+use Rattle.algebra.specs.Prime.{q}
+use Rattle.scheme.specs.Sizes.{Sizes, elements, leaves, width, recordValues}
+use Rattle.scheme.specs.Question.{Question}
+use Rattle.scheme.specs.Reply.{Reply, readReply, answersAt, recordsAt, recordLength, nodesAt, replyLength}
+use Rattle.scheme.specs.Check.{replyElements, replyRoot, batchingAt, evaluationAt, replyTests}
+use Rattle.scheme.proofs.Accepted.{leaves-high}
+use Rattle.checker.specs.Words.{rowsOf, recordWordsAt, rootAt, batchedRow, evaluatedLeaf, batchingWords, answerWords, leafValuesAt}
+use Rattle.checker.specs.Posed.{posed, Posed, Read, laterTests}
+use Rattle.checker.proofs.Rows.{length-rows, read-front}
+use Rattle.checker.proofs.Bounds.{width-high, answers-fit}
+use Rattle.checker.proofs.ReplyTests.{elements-are, batching-is, evaluation-is, root-is, length-recordWordsAt}
+
+-- leaf indices are small
+pub small : (h : ℕ) (indices : List ℕ) → h ≤ 12 → Below (2 ^ h) indices → Below 65536 indices
+small h indices d b =
+    let e : 2 ^ h ≤ 4096 = pow-le-pow-right (omega arith) d in
+    all-imp (λ (x : ℕ) (l : x < 2 ^ h). lt-of-lt-of-le l (omega arith)) indices b
+
+-- ---- four tests in order
+
+module _ (a b c d : Bool) where
+  abbrev four : List Test
+  four = (3, not a) ∷ (8, not b) ∷ (9, not c) ∷ (10, not d) ∷ []
+
+  four-3 : a ≡ false → 3 ≡ verdictOf four
+  unfolding verdictOf
+  four-3 e = rw e
+
+  four-8 : a ≡ true → b ≡ false → 8 ≡ verdictOf four
+  unfolding verdictOf
+  four-8 e f = rw (e, f)
+
+  four-9 : a ≡ true → b ≡ true → c ≡ false → 9 ≡ verdictOf four
+  unfolding verdictOf
+  four-9 e f g = rw (e, f, g)
+
+  four-10 : a ≡ true → b ≡ true → c ≡ true → d ≡ false → 10 ≡ verdictOf four
+  unfolding verdictOf
+  four-10 e f g h = rw (e, f, g, h)
+
+  four-0 : a ≡ true → b ≡ true → c ≡ true → d ≡ true → 0 ≡ verdictOf four
+  unfolding verdictOf
+  four-0 e f g h = rw (e, f, g, h)
+
+module _ (s : Sizes) (root challenges points indices reply : List ℕ) (p : Posed s challenges points indices) where
+  abbrev u : Question
+  u = posed s root challenges points indices
+
+  abbrev r : Reply
+  r = readReply u reply
+
+  abbrev batchingOk : Bool
+  batchingOk = each (s .η) (λ k. each (s .ℓ) (batchingAt u r k))
+
+  abbrev evaluationOk : Bool
+  evaluationOk = each (length points) (λ i. each (s .ℓ) (evaluationAt u r i))
+
+  -- ---- the order
+
+  pub say-3 : replyElements u r ≡ false → 3 ≡ verdictOf (laterTests u reply)
+  unfolding laterTests
+  say-3 e = four-3 (replyElements u r) (same (replyRoot u r) root) batchingOk evaluationOk e
+
+  pub say-8 : replyElements u r ≡ true → same (replyRoot u r) root ≡ false → 8 ≡ verdictOf (laterTests u reply)
+  unfolding laterTests
+  say-8 e f = four-8 (replyElements u r) (same (replyRoot u r) root) batchingOk evaluationOk e f
+
+  pub say-9 : replyElements u r ≡ true → same (replyRoot u r) root ≡ true → batchingOk ≡ false → 9 ≡ verdictOf (laterTests u reply)
+  unfolding laterTests
+  say-9 e f g = four-9 (replyElements u r) (same (replyRoot u r) root) batchingOk evaluationOk e f g
+
+  pub say-10 : replyElements u r ≡ true → same (replyRoot u r) root ≡ true → batchingOk ≡ true → evaluationOk ≡ false → 10 ≡ verdictOf (laterTests u reply)
+  unfolding laterTests
+  say-10 e f g h = four-10 (replyElements u r) (same (replyRoot u r) root) batchingOk evaluationOk e f g h
+
+  pub say-0 : replyElements u r ≡ true → same (replyRoot u r) root ≡ true → batchingOk ≡ true → evaluationOk ≡ true → 0 ≡ verdictOf (laterTests u reply)
+  unfolding laterTests
+  say-0 e f g h = four-0 (replyElements u r) (same (replyRoot u r) root) batchingOk evaluationOk e f g h
+
+  pub say-7 : (n : ℕ) → n ≡ replyLength u → (length reply ≡ n → ⊥) → 7 ≡ verdictOf (replyTests u reply)
+  unfolding replyTests
+  say-7 n e f = sym (verdict-hit 7 (not (eqb (length reply) (replyLength u))) _ (ap not (ne-eqb (length reply) (replyLength u) (λ g. f (g ∙ sym e)))))
+
+  pub say-later : length reply ≡ replyLength u → verdictOf (laterTests u reply) ≡ verdictOf (replyTests u reply)
+  unfolding replyTests laterTests
+  say-later e = sym (verdict-miss 7 (not (eqb (length reply) (replyLength u))) (laterTests u reply) (ap not (eq-eqb (length reply) (replyLength u) e)))
+
+  -- ---- what the steps ask
+
+  pub index-set : IndexSet (s .h) indices
+  index-set = record {
+    depth = p .sizes-good .h-high;
+    some = omega (arith, p .opened, p .sizes-good .ℓ-low);
+    few = omega (arith, p .opened, p .sizes-good .ℓ-high);
+    rising = p .rising;
+    leaves = p .below;
+  }
+
+  pub indices-small : Below 65536 indices
+  indices-small = small (s .h) indices (p .sizes-good .h-high) (p .below)
+
+  -- where the reply's parts end
+  pub records-end : (at size : ℕ) → at ≡ recordsAt s (length points) → size ≡ recordLength s → at + size * length indices ≡ nodesAt s (length points)
+  records-end at size e f = ap₂ (λ (i j : ℕ). i + j * length indices) e f ∙ ap (λ (n : ℕ). recordsAt s (length points) + recordLength s * n) (p .opened)
+
+  module _ (whole : length reply ≡ replyLength u) where
+    pub root-fits : (at size : ℕ) → at ≡ recordsAt s (length points) → size ≡ recordLength s
+        → at + size * length indices + 32 * length (missing 2 (s .h) indices) ≤ length reply
+    root-fits at size e f = le-of-eq (ap (λ (n : ℕ). n + 32 * length (missing 2 (s .h) indices)) (records-end at size e f) ∙ sym whole)
+
+    pub records-fit : (at size : ℕ) → at ≡ recordsAt s (length points) → size ≡ recordLength s → at + size * length indices ≤ length reply
+    records-fit at size e f = omega (arith, root-fits at size e f)
+
+    answers-end : recordsAt s (length points) ≤ length reply
+    answers-end = omega (arith, whole)
+
+    pub batching-fits : (wide : ℕ) → wide ≡ width s → 0 + 4 * (wide * length challenges) ≤ length reply
+    batching-fits wide e =
+        let g : wide * length challenges ≡ width s * s .η = ap₂ _*_ e (p .repetitions) in
+        omega (arith, g, answers-end)
+
+    pub evaluation-fits : (wide from : ℕ) → wide ≡ width s → from ≡ answersAt s → from + 4 * (wide * length points) ≤ length reply
+    evaluation-fits wide from e f = answers-fit s (length points) wide from (length reply) e f answers-end
+
+  -- ---- the tests
+
+  module _ (batching answers values : List ℕ) (d : Read u reply batching answers values) where
+    length-batching : length batching ≡ width s * s .η
+    length-batching = ap length (d .batching-read) ∙ length-words (width s * s .η) reply
+
+    length-answers : length answers ≡ width s * length points
+    length-answers = ap length (d .answers-read) ∙ length-words (width s * length points) (drop (answersAt s) reply)
+
+    length-values : length values ≡ recordValues s * s .ℓ
+    length-values =
+        ap length (d .values-read) ∙ length-rows (recordValues s) (leafValuesAt u reply) (length-recordWordsAt (recordsAt s (length points)) (recordLength s) (recordValues s) reply) (s .ℓ)
+
+    pub elements-tested : (t : Bool) → t ≡ every (elements batching ∷ elements answers ∷ elements values ∷ []) → t ≡ replyElements u r
+    elements-tested t e =
+        e
+        ∙ ap₂ (λ (x y : List ℕ). every (elements x ∷ elements y ∷ elements values ∷ [])) (d .batching-read) (d .answers-read)
+        ∙ ap (λ (z : List ℕ). every (elements (batchingWords u reply) ∷ elements (answerWords u reply) ∷ elements z ∷ [])) (d .values-read)
+        ∙ elements-are u reply
+
+    pub root-tested : (t : Bool) (x : Bytes) (at size : ℕ) → at ≡ recordsAt s (length points) → size ≡ recordLength s → x ≡ rootAt (s .h) at size indices reply → t ≡ same x root
+        → t ≡ same (replyRoot u r) root
+    root-tested t x at size e f g h =
+        h ∙ ap (λ (y : Bytes). same y root) (g ∙ ap₂ (λ (i j : ℕ). rootAt (s .h) i j indices reply) e f ∙ root-is u reply (p .opened) (d .whole))
+
+    pub batching-tested : (t : Bool) (wide : ℕ) → wide ≡ width s → t ≡ each (length challenges) (batchedRow wide (s .μ) challenges batching indices values) → t ≡ batchingOk
+    batching-tested t wide e f =
+        f
+        ∙ ap (λ (w : ℕ). each (length challenges) (batchedRow w (s .μ) challenges batching indices values)) e
+        ∙ ap₂ (λ (x y : List ℕ). each (length challenges) (batchedRow (width s) (s .μ) challenges x indices y)) (d .batching-read) (d .values-read)
+        ∙ batching-is u reply (p .repetitions) (p .opened)
+
+    pub evaluation-tested : (t : Bool) (first wide n : ℕ) → first ≡ leaves s → wide ≡ width s → n ≡ recordValues s
+        → t ≡ each (length indices) (evaluatedLeaf first wide (s .μ) n points answers indices values) → t ≡ evaluationOk
+    evaluation-tested t first wide n e f g h =
+        h
+        ∙ ap₂ (λ (i j : ℕ). each (length indices) (evaluatedLeaf i j (s .μ) n points answers indices values)) e f
+        ∙ ap (λ (k : ℕ). each (length indices) (evaluatedLeaf (leaves s) (width s) (s .μ) k points answers indices values)) g
+        ∙ ap₂ (λ (x y : List ℕ). each (length indices) (evaluatedLeaf (leaves s) (width s) (s .μ) (recordValues s) points x indices y)) (d .answers-read) (d .values-read)
+        ∙ evaluation-is u reply refl (p .opened)
+
+    pub batching-asks : (wide : ℕ) → wide ≡ width s
+        → (wide ≤ 320) × (length indices ≤ 64) × Below 65536 indices × (wide * length challenges ≤ length batching) × ((s .μ + length challenges) * length indices ≤ length values)
+    batching-asks wide e = (
+      omega (arith, e, width-high s (p .sizes-good)),
+      omega (arith, p .opened, p .sizes-good .ℓ-high),
+      indices-small,
+      le-of-eq (ap₂ _*_ e (p .repetitions) ∙ sym length-batching),
+      le-of-eq (ap₂ (λ (i j : ℕ). (s .μ + i) * j) (p .repetitions) (p .opened) ∙ sym length-values),
+    )
+
+    pub evaluation-asks : (first wide n : ℕ) → first ≡ leaves s → wide ≡ width s → n ≡ recordValues s
+        → (first + wide ≤ q) × (wide ≤ 320) × Below 65536 indices × (s .μ ≤ n) × (wide * length points ≤ length answers) × (n * length indices ≤ length values)
+    evaluation-asks first wide n e f g = (
+      omega (arith, e, f, leaves-high s (p .sizes-good), width-high s (p .sizes-good)),
+      omega (arith, f, width-high s (p .sizes-good)),
+      indices-small,
+      omega (arith, g),
+      le-of-eq (ap (λ (k : ℕ). k * length points) f ∙ sym length-answers),
+      le-of-eq (ap₂ _*_ g (p .opened) ∙ sym length-values),
+    )
+
+  -- ---- what was read
+
+  pub was-read : (wide from at size n : ℕ) (b₀ a₀ v₀ b a v : List ℕ) → length reply ≡ replyLength u
+      → wide ≡ width s → from ≡ answersAt s → at ≡ recordsAt s (length points) → size ≡ recordLength s → n ≡ recordValues s
+      → b ≡ words (wide * length challenges) (drop 0 reply) ++ drop (wide * length challenges) b₀
+      → a ≡ words (wide * length points) (drop from reply) ++ drop (wide * length points) a₀
+      → v ≡ rowsOf (recordWordsAt at size n reply) (length indices) ++ drop (n * length indices) v₀
+      → Read u reply (take (wide * length challenges - 0) (drop 0 b)) (take (wide * length points - 0) (drop 0 a)) (take (n * length indices - 0) (drop 0 v))
+  was-read wide from at size n b₀ a₀ v₀ b a v l ew ef ea es en eb ey ev = record {
+    whole = l;
+    batching-read =
+        read-front (wide * length challenges) (words (wide * length challenges) (drop 0 reply)) b₀ b (length-words _ _) eb
+        ∙ ap (λ (k : ℕ). words k reply) (ap₂ _*_ ew (p .repetitions));
+    answers-read =
+        read-front (wide * length points) (words (wide * length points) (drop from reply)) a₀ a (length-words _ _) ey
+        ∙ ap₂ (λ (k i : ℕ). words (k * length points) (drop i reply)) ew ef;
+    values-read =
+        read-front (n * length indices) (rowsOf (recordWordsAt at size n reply) (length indices)) v₀ v (length-rows n (recordWordsAt at size n reply) (length-recordWordsAt at size n reply) (length indices)) ev
+        ∙ ap₂ (λ (i j : ℕ). rowsOf (recordWordsAt i j n reply) (length indices)) ea es
+        ∙ ap₂ (λ (k i : ℕ). rowsOf (recordWordsAt (recordsAt s (length points)) (recordLength s) k reply) i) en (p .opened);
+  }

@@ -1,0 +1,74 @@
+-- A question as the code holds it: its sizes, and its challenges, points and indices in lists.
+use mathlib.Core.Path.{_≡_}
+use mathlib.Core.Bool.{not}
+use mathlib.Core.List.{List, [], _∷_}
+use Prim.Native.Nat.{ℕ, _*_, _≤_}
+use lib.Dec.{eqb}
+use lib.ListN.{length, take, drop}
+use Rattle.lists.specs.All.{Below}
+use Rattle.lists.specs.Rising.{Rising}
+use Rattle.lists.specs.Bytes.{Bytes, words, halves}
+use Rattle.lists.specs.Tests.{Test, verdictOf, each, same}
+use Rattle.scheme.specs.Sizes.{Sizes, leaves}
+use Rattle.scheme.specs.Question.{Question, headerLength, challengesAt, pointsAt, indicesAt, questionLength}
+use Rattle.scheme.specs.Reply.{Reply, readReply, replyLength}
+use Rattle.scheme.specs.Commit.{after}
+use Rattle.scheme.specs.Check.{replyElements, replyRoot, batchingAt, evaluationAt, replyTests, checkValues}
+use Rattle.scheme.proofs.Accepted.{Good}
+use Rattle.checker.specs.Words.{batchingWords, answerWords, leafWords}
+
+abbrev pub posed : Sizes → Bytes → List ℕ → List ℕ → List ℕ → Question
+posed s root challenges points indices = record { sizes = s; m = length points; root = root; challenges = challenges; evaluationPoints = points; indices = indices }
+
+-- what the question's tests leave of them
+pub record Posed (s : Sizes) (challenges points indices : List ℕ) : Type 0 where
+  pub sizes-good : Good s
+  pub repetitions : length challenges ≡ s .η
+  pub few-points : length points ≤ 8
+  pub opened : length indices ≡ s .ℓ
+  pub rising : Rising indices
+  pub below : Below (leaves s) indices
+
+-- the lists hold the words of a reply of the right length
+pub record Read (u : Question) (reply : Bytes) (batching answers values : List ℕ) : Type 0 where
+  pub whole : length reply ≡ replyLength u
+  pub batching-read : batching ≡ batchingWords u reply
+  pub answers-read : answers ≡ answerWords u reply
+  pub values-read : values ≡ leafWords u reply
+
+-- the question that b holds for sizes s and m points
+abbrev pub questionAt : Sizes → ℕ → Bytes → Question
+questionAt s m b = record {
+  sizes = s;
+  m = m;
+  root = take 32 (drop headerLength b);
+  challenges = words (s .η) (drop challengesAt b);
+  evaluationPoints = words m (drop (pointsAt s) b);
+  indices = halves (s .ℓ) (drop (indicesAt s m) b);
+}
+
+-- what its tests leave of it
+pub record Formed (s : Sizes) (m : ℕ) (b : Bytes) : Type 0 where
+  pub sizes-good : Good s
+  pub few-points : m ≤ 8
+  pub long : length b ≡ questionLength s m
+  pub rising : Rising (questionAt s m b .indices)
+  pub below : Below (leaves s) (questionAt s m b .indices)
+
+-- ---- the tests in order
+
+-- the reply's tests after that of its length
+unfoldable pub laterTests : Question → Bytes → List Test
+laterTests u reply =
+    let r : Reply = readReply u reply in
+    (3, not (replyElements u r))
+    ∷ (8, not (same (replyRoot u r) (u .root)))
+    ∷ (9, not (each (u .sizes .η) (λ k. each (u .sizes .ℓ) (batchingAt u r k))))
+    ∷ (10, not (each (u .m) (λ p. each (u .sizes .ℓ) (evaluationAt u r p))))
+    ∷ []
+
+-- the value buffer's test and the reply's, and the value buffer after them
+unfoldable pub checkingReply : Question → Bytes → List ℕ → ℕ × List ℕ
+checkingReply u reply buffer =
+    let v : ℕ = verdictOf ((2, not (eqb (length buffer) (1 * (u .sizes .w * u .m)))) ∷ replyTests u reply) in
+    (v, after v (checkValues u (readReply u reply)) buffer)

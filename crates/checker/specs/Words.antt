@@ -1,0 +1,108 @@
+-- The check on words: the reply's words and leaf values stand in flat lists, record after record.
+use mathlib.Core.Bool.{Bool}
+use mathlib.Core.List.{List, [], _∷_, map, flatten}
+use Prim.Native.Nat.{ℕ, _+_, _*_}
+use lib.Dec.{eqb}
+use lib.ListN.{length, getD, take, drop}
+use Rattle.sponge.specs.Digest.{digest}
+use Rattle.tree.specs.Leaf.{leafString}
+use Rattle.tree.specs.Tree.{allParts, rootFrom}
+use Rattle.lists.specs.Bytes.{Bytes, words}
+use Rattle.lists.specs.Range.{upFrom}
+use Rattle.lists.specs.Pieces.{piece, pieces}
+use Rattle.lists.specs.Tabulate.{tabulate}
+use Rattle.lists.specs.Tests.{each}
+use Rattle.algebra.specs.Columns.{powN}
+use Rattle.algebra.specs.Dot.{dotN}
+use Rattle.algebra.specs.Numbers.{evalN, interpN}
+use Rattle.scheme.specs.Sizes.{width, recordValues, leafPoint}
+use Rattle.scheme.specs.Question.{Question}
+use Rattle.scheme.specs.Reply.{answersAt, recordsAt, recordLength}
+
+-- the rows that f gives at the numbers below n, one after the other
+unfoldable pub rowsOf : (ℕ → List ℕ) → ℕ → List ℕ
+rowsOf f n = flatten (map f (upFrom 0 n))
+
+-- ---- 9, batching answers
+
+-- the powers of the point of opened leaf a
+unfoldable pub powersAt : ℕ → List ℕ → ℕ → List ℕ
+powersAt width indices a = tabulate width (powN (leafPoint (getD indices a 0)))
+
+-- what the values x of a leaf give for repetition k: mask value k and the row values, batched by the powers of the challenge
+unfoldable pub batchOf : ℕ → List ℕ → ℕ → List ℕ → ℕ
+batchOf μ challenges k x = evalN (getD x (μ + k) 0 ∷ take μ x) (getD challenges k 0)
+
+-- batching answer k agrees with opened leaf a, where the powers of the leaf's point are a row of a table
+unfoldable pub dottedAt : ℕ → ℕ → List ℕ → List ℕ → List ℕ → List ℕ → ℕ → ℕ → Bool
+dottedAt width μ challenges batching powers values k a =
+    eqb (dotN (piece width a powers) (piece width k batching)) (batchOf μ challenges k (piece (μ + length challenges) a values))
+
+unfoldable pub dottedRow : ℕ → ℕ → List ℕ → List ℕ → List ℕ → List ℕ → ℕ → ℕ → Bool
+dottedRow width μ challenges batching powers values l k = each l (dottedAt width μ challenges batching powers values k)
+
+-- the same with the answer's value at the leaf's point
+unfoldable pub batchedAt : ℕ → ℕ → List ℕ → List ℕ → List ℕ → List ℕ → ℕ → ℕ → Bool
+batchedAt width μ challenges batching indices values k a =
+    eqb (evalN (piece width k batching) (leafPoint (getD indices a 0))) (batchOf μ challenges k (piece (μ + length challenges) a values))
+
+unfoldable pub batchedRow : ℕ → ℕ → List ℕ → List ℕ → List ℕ → List ℕ → ℕ → Bool
+batchedRow width μ challenges batching indices values k = each (length indices) (batchedAt width μ challenges batching indices values k)
+
+-- ---- 10, evaluation answers
+
+-- answer p agrees with the row values of a leaf, where the leaf's point gives the weights
+unfoldable pub weighedAt : List ℕ → List ℕ → List ℕ → List ℕ → ℕ → Bool
+weighedAt weights points answers rows p = eqb (dotN weights (piece (length weights) p answers)) (evalN rows (getD points p 0))
+
+-- the same with the value at x of the polynomial through the answer, whose points are the numbers from first on
+unfoldable pub evaluatedAt : ℕ → ℕ → List ℕ → List ℕ → ℕ → List ℕ → ℕ → Bool
+evaluatedAt first width points answers x rows p = eqb (evalN (interpN (upFrom first width) (piece width p answers)) x) (evalN rows (getD points p 0))
+
+-- each answer agrees with opened leaf a, whose values are n, the row values first
+unfoldable pub evaluatedLeaf : ℕ → ℕ → ℕ → ℕ → List ℕ → List ℕ → List ℕ → List ℕ → ℕ → Bool
+evaluatedLeaf first width μ n points answers indices values a =
+    each (length points) (evaluatedAt first width points answers (leafPoint (getD indices a 0)) (take μ (piece n a values)))
+
+-- ---- values
+
+-- at one point, the values of n polynomials of ν columns each: base is the point's power by which columns are weighed
+unfoldable pub pointValues : ℕ → ℕ → List ℕ → ℕ → List ℕ
+pointValues ν base answer n = map (λ vs. evalN vs base) (pieces ν n answer)
+
+-- at point p, from its answer
+unfoldable pub valuesAt : ℕ → ℕ → ℕ → ℕ → List ℕ → List ℕ → ℕ → List ℕ
+valuesAt μ ν w width points answers p = pointValues ν (powN (getD points p 0) μ) (piece width p answers) w
+
+-- ---- leaf records
+
+-- record a, of those of `size` bytes each that begin at `at`
+abbrev pub recordOf : ℕ → ℕ → Bytes → ℕ → Bytes
+recordOf at size reply a = take size (drop (at + size * a) reply)
+
+-- its n values
+unfoldable pub recordWordsAt : ℕ → ℕ → ℕ → Bytes → ℕ → List ℕ
+recordWordsAt at size n reply a = words n (recordOf at size reply a)
+
+-- the digest of opened leaf a
+unfoldable pub leafDigestAt : ℕ → ℕ → List ℕ → Bytes → ℕ → Bytes
+leafDigestAt at size indices reply a = digest (leafString (getD indices a 0) (recordOf at size reply a))
+
+-- the root that the opened leaves and the missing nodes after their records give, h levels up
+unfoldable pub rootAt : ℕ → ℕ → ℕ → List ℕ → Bytes → Bytes
+rootAt h at size indices reply =
+    rootFrom digest 2 (1 ∷ []) h indices (map (leafDigestAt at size indices reply) (upFrom 0 (length indices))) (allParts (drop (at + size * length indices) reply))
+
+-- ---- the words of a reply
+
+abbrev pub batchingWords : Question → Bytes → List ℕ
+batchingWords u reply = words (width (u .sizes) * u .sizes .η) reply
+
+abbrev pub answerWords : Question → Bytes → List ℕ
+answerWords u reply = words (width (u .sizes) * u .m) (drop (answersAt (u .sizes)) reply)
+
+abbrev pub leafValuesAt : Question → Bytes → ℕ → List ℕ
+leafValuesAt u reply = recordWordsAt (recordsAt (u .sizes) (u .m)) (recordLength (u .sizes)) (recordValues (u .sizes)) reply
+
+abbrev pub leafWords : Question → Bytes → List ℕ
+leafWords u reply = rowsOf (leafValuesAt u reply) (u .sizes .ℓ)

@@ -1,0 +1,532 @@
+// The check of a reply.
+ghost use mathlib.Core.Path.{_≡_};
+ghost use mathlib.Core.List.{[], _∷_, _++_};
+ghost use Prim.Native.Nat.{_+_, _-_, _*_, _<_, _≤_};
+ghost use lib.ListN.{length, drop};
+ghost use Rattle.lists.specs.All.{Below};
+ghost use Rattle.lists.specs.Tests.{verdictOf, every, each};
+ghost use Rattle.tree.specs.Sets.{missing};
+ghost use Rattle.tree.specs.Clauses.{IndexSet};
+ghost use Rattle.scheme.specs.Sizes.{elements, width, recordValues, leafPoint};
+ghost use Rattle.scheme.specs.Question.{questionLength};
+ghost use Rattle.scheme.specs.Reply.{readReply, recordLength, answersAt, recordsAt, nodesAt};
+ghost use Rattle.scheme.specs.Check.{replyTests, checkValues, checking};
+ghost use Rattle.scheme.proofs.Accepted.{Good};
+ghost use Rattle.commitment.specs.Shape.{sizesIn};
+ghost use Rattle.checker.specs.Posed.{posed, Posed, Read, questionAt, Formed, laterTests, checkingReply};
+ghost use Rattle.algebra.specs.Prime.{q};
+ghost use Rattle.checker.specs.Words.{rowsOf, recordWordsAt, leafDigestAt, rootAt, powersAt, dottedAt, dottedRow, batchedRow, weighedAt, evaluatedAt, evaluatedLeaf, pointValues, valuesAt};
+use commitment::Questioned;
+use commitment::Shape;
+use field::Element;
+use tree::LeafIndex;
+
+// The point of a leaf.
+fn leaf_point(i: LeafIndex) -> Element
+    ensures { λ r. ⌜ r .0 ≡ leafPoint (i .0) ⌝ }
+{
+    Element(i.0)
+}
+
+// ---- sizes
+
+// The number of value points and tail points: words of an answer, batching or evaluation.
+fn width_of(s: Shape) -> usize
+    requires { ⌜ Good (sizesIn s) ⌝ }
+    ensures { λ r. ⌜ r ≡ width (sizesIn s) ⌝ }
+{
+    s.w as usize * s.nu as usize + s.l as usize
+}
+
+// The values of a leaf record, and its bytes.
+fn record_values(s: Shape) -> usize
+    requires { ⌜ Good (sizesIn s) ⌝ }
+    ensures { λ r. ⌜ r ≡ recordValues (sizesIn s) ⌝ }
+{
+    s.mu as usize + s.eta as usize
+}
+
+fn record_length(s: Shape) -> usize
+    requires { ⌜ Good (sizesIn s) ⌝ }
+    ensures { λ r. ⌜ r ≡ recordLength (sizesIn s) ⌝ }
+{
+    4 * record_values(s) + 32
+}
+
+// Where the evaluation answers and the leaf records of a reply begin.
+fn answers_at(s: Shape) -> usize
+    requires { ⌜ Good (sizesIn s) ⌝ }
+    ensures { λ r. ⌜ r ≡ answersAt (sizesIn s) ⌝ }
+{
+    4 * width_of(s) * s.eta as usize
+}
+
+fn records_at(s: Shape, m: usize) -> usize
+    requires { ⌜ Good (sizesIn s) × (m ≤ 8) ⌝ }
+    ensures { λ r. ⌜ r ≡ recordsAt (sizesIn s) m ⌝ }
+{
+    answers_at(s) + 4 * width_of(s) * m
+}
+
+// The length that a reply must have.
+fn reply_length(s: Shape, m: usize, indices: &[usize]) -> usize
+    requires { ⌜ Good (sizesIn s) × (m ≤ 8) × IndexSet (s .h) (now indices) ⌝ }
+    ensures { λ r. ⌜ r ≡ nodesAt (sizesIn s) m + 32 * length (missing 2 (s .h) (now (indices .entry))) ⌝ }
+{
+    let records = record_length(s) * s.l as usize;
+    records_at(s, m) + records + 32 * tree::count_missing(s.h as usize, indices)
+}
+
+// ---- the reply's words
+
+// The values of each leaf record: the record is handed on as the part of the reply that holds it.
+fn read_records(at: usize, size: usize, n: usize, count: usize, reply: &[u8], out: &mut [u32])
+    requires { ⌜ (at + size * count ≤ length (now reply)) × (4 * n ≤ size) × (n * count ≤ length (now out)) ⌝ }
+    ensures { λ _. ⌜ now (out .exit) ≡ rowsOf (recordWordsAt at size n (now (reply .entry))) count ++ drop (n * count) (now (out .entry)) ⌝ }
+{
+    for a in 0..count {
+        let from = at + size * a;
+        let to = from + size;
+        let first = n * a;
+        let last = first + n;
+        commitment::read_words(&reply[from..to], 0, n, &mut out[first..last]);
+    }
+}
+
+// Is each word of the reply an element?
+fn elements_read(batching: &[u32], answers: &[u32], values: &[u32]) -> bool
+    ensures { λ r. ⌜ r ≡ every (elements (now (batching .entry)) ∷ elements (now (answers .entry)) ∷ elements (now (values .entry)) ∷ []) ⌝ }
+{
+    if !commitment::elements_ok(batching) {
+        return false;
+    }
+    if !commitment::elements_ok(answers) {
+        return false;
+    }
+    commitment::elements_ok(values)
+}
+
+// ---- the root
+
+// The digest of each opened leaf: its record is handed on as the part of the reply that holds it.
+fn leaf_digests(at: usize, size: usize, indices: &[usize], reply: &[u8], out: &mut [u8])
+    requires { ⌜ Below 65536 (now indices) × (size ≤ 304) × (at + size * length (now indices) ≤ length (now reply)) × (32 * length (now indices) ≤ length (now out)) ⌝ }
+    ensures { λ _. ⌜ now (out .exit) ≡ rowsOf (leafDigestAt at size (now (indices .entry)) (now (reply .entry))) (length (now (indices .entry))) ++ drop (32 * length (now (indices .entry))) (now (out .entry)) ⌝ }
+{
+    for a in 0..indices.len() {
+        let from = at + size * a;
+        let to = from + size;
+        let first = 32 * a;
+        let last = first + 32;
+        let i = indices[a];
+        tree::leaf_digest(LeafIndex(i as u32), &reply[from..to], &mut out[first..last]);
+    }
+}
+
+// Room for the digests of 64 leaves.
+fn blank_digests() -> [u8; 2048] {
+    [0u8; 2048]
+}
+
+// The root that the opened leaves, whose records begin at `at`, and the missing nodes after them give.
+fn reply_root(h: usize, at: usize, size: usize, indices: &[usize], reply: &[u8]) -> [u8; 32]
+    requires { ⌜ IndexSet h (now indices) × (size ≤ 304) × (at + size * length (now indices) + 32 * length (missing 2 h (now indices)) ≤ length (now reply)) ⌝ }
+    ensures { λ r. ⌜ r ≡ rootAt h at size (now (indices .entry)) (now (reply .entry)) ⌝ }
+{
+    let mut digests = blank_digests();
+    leaf_digests(at, size, indices, reply, &mut digests);
+    let nodes = at + size * indices.len();
+    tree::root_of(h, indices, &digests, &reply[nodes..])
+}
+
+// ---- batching answers
+
+// The powers of the point of each opened leaf, one row each.
+fn fill_powers(width: usize, indices: &[usize], table: &mut [u32])
+    requires { ⌜ Below 65536 (now indices) × (width * length (now indices) ≤ length (now table)) ⌝ }
+    ensures { λ _. ⌜ now (table .exit) ≡ rowsOf (powersAt width (now (indices .entry))) (length (now (indices .entry))) ++ drop (width * length (now (indices .entry))) (now (table .entry)) ⌝ }
+{
+    for a in 0..indices.len() {
+        let from = width * a;
+        let to = from + width;
+        let i = indices[a];
+        field::powers(leaf_point(LeafIndex(i as u32)), &mut table[from..to]);
+    }
+}
+
+// Does batching answer k agree with the values of opened leaf a?
+fn batching_agrees(
+    k: usize,
+    a: usize,
+    width: usize,
+    mu: usize,
+    challenges: &[u32],
+    batching: &[u32],
+    powers: &[u32],
+    values: &[u32],
+) -> bool
+    requires { ⌜ (k < length (now challenges)) × (width ≤ 65536) × (width * k + width ≤ length (now batching)) × (width * a + width ≤ length (now powers)) × ((mu + length (now challenges)) * a + (mu + length (now challenges)) ≤ length (now values)) ⌝ }
+    ensures { λ r. ⌜ r ≡ dottedAt width mu (now (challenges .entry)) (now (batching .entry)) (now (powers .entry)) (now (values .entry)) k a ⌝ }
+{
+    let answer = width * k;
+    let answer_end = answer + width;
+    let row = width * a;
+    let row_end = row + width;
+    let left = field::dot(&powers[row..row_end], &batching[answer..answer_end]);
+    let first = (mu + challenges.len()) * a;
+    let masks = first + mu;
+    let challenge = Element(challenges[k]);
+    let rows = field::evaluate(&values[first..masks], challenge);
+    let right = field::multiply_add(Element(values[masks + k]), challenge, rows);
+    left.0 == right.0
+}
+
+// Does each batching answer agree with each of the l opened leaves? Both walks are left at the first pair that does not.
+fn batching_walk(
+    l: usize,
+    width: usize,
+    mu: usize,
+    challenges: &[u32],
+    batching: &[u32],
+    powers: &[u32],
+    values: &[u32],
+) -> bool
+    requires { ⌜ (width ≤ 65536) × (width * length (now challenges) ≤ length (now batching)) × (width * l ≤ length (now powers)) × ((mu + length (now challenges)) * l ≤ length (now values)) ⌝ }
+    ensures { λ r. ⌜ r ≡ each (length (now (challenges .entry))) (dottedRow width mu (now (challenges .entry)) (now (batching .entry)) (now (powers .entry)) (now (values .entry)) l) ⌝ }
+{
+    let mut ok = true;
+    'walk: for k in 0..challenges.len() {
+        for a in 0..l {
+            if !batching_agrees(k, a, width, mu, challenges, batching, powers, values) {
+                ok = false;
+                break 'walk;
+            }
+        }
+    }
+    ok
+}
+
+// Room for the powers of the points of 64 leaves, 320 each.
+fn blank_powers() -> [u32; 20480] {
+    [0u32; 20480]
+}
+
+// Does each batching answer agree with each opened leaf?
+fn batching_ok(
+    width: usize,
+    mu: usize,
+    challenges: &[u32],
+    batching: &[u32],
+    indices: &[usize],
+    values: &[u32],
+) -> bool
+    requires { ⌜ (width ≤ 320) × (length (now indices) ≤ 64) × Below 65536 (now indices) × (width * length (now challenges) ≤ length (now batching)) × ((mu + length (now challenges)) * length (now indices) ≤ length (now values)) ⌝ }
+    ensures { λ r. ⌜ r ≡ each (length (now (challenges .entry))) (batchedRow width mu (now (challenges .entry)) (now (batching .entry)) (now (indices .entry)) (now (values .entry))) ⌝ }
+{
+    let mut powers = blank_powers();
+    fill_powers(width, indices, &mut powers);
+    batching_walk(
+        indices.len(),
+        width,
+        mu,
+        challenges,
+        batching,
+        &powers,
+        values,
+    )
+}
+
+// ---- evaluation answers
+
+// Does each answer, weighed, agree with the row values of one leaf?
+fn weighed_ok(weights: &[u32], points: &[u32], answers: &[u32], rows: &[u32]) -> bool
+    requires { ⌜ (length (now weights) ≤ 65536) × (length (now weights) * length (now points) ≤ length (now answers)) ⌝ }
+    ensures { λ r. ⌜ r ≡ each (length (now (points .entry))) (weighedAt (now (weights .entry)) (now (points .entry)) (now (answers .entry)) (now (rows .entry))) ⌝ }
+{
+    let width = weights.len();
+    for p in 0..points.len() {
+        let from = width * p;
+        let to = from + width;
+        let left = field::dot(weights, &answers[from..to]);
+        let right = field::evaluate(rows, Element(points[p]));
+        if left.0 != right.0 {
+            return false;
+        }
+    }
+    true
+}
+
+// Room for 320 weights.
+fn blank_weights() -> [u32; 320] {
+    [0u32; 320]
+}
+
+// Does each answer's polynomial, through its values at first, first + 1, .., agree at x with the row values of one leaf?
+fn leaf_ok(
+    first: Element,
+    x: Element,
+    width: usize,
+    points: &[u32],
+    answers: &[u32],
+    rows: &[u32],
+) -> bool
+    requires { ⌜ (first .0 + width ≤ q) × (x .0 < q) × (width ≤ 320) × (width * length (now points) ≤ length (now answers)) ⌝ }
+    ensures { λ r. ⌜ r ≡ each (length (now (points .entry))) (evaluatedAt (first .0) width (now (points .entry)) (now (answers .entry)) (x .0) (now (rows .entry))) ⌝ }
+{
+    let mut weights = blank_weights();
+    field::basis(first, x, &mut weights[0..width]);
+    weighed_ok(&weights[0..width], points, answers, rows)
+}
+
+// Does each answer agree with each opened leaf? Each leaf has n values, the mu row values first; leaves is the first value point.
+fn evaluation_ok(
+    leaves: usize,
+    width: usize,
+    mu: usize,
+    n: usize,
+    points: &[u32],
+    answers: &[u32],
+    indices: &[usize],
+    values: &[u32],
+) -> bool
+    requires { ⌜ (leaves + width ≤ q) × (width ≤ 320) × Below 65536 (now indices) × (mu ≤ n) × (width * length (now points) ≤ length (now answers)) × (n * length (now indices) ≤ length (now values)) ⌝ }
+    ensures { λ r. ⌜ r ≡ each (length (now (indices .entry))) (evaluatedLeaf leaves width mu n (now (points .entry)) (now (answers .entry)) (now (indices .entry)) (now (values .entry))) ⌝ }
+{
+    let first = Element(leaves as u32);
+    for a in 0..indices.len() {
+        let i = indices[a];
+        let x = leaf_point(LeafIndex(i as u32));
+        let from = n * a;
+        let to = from + mu;
+        if !leaf_ok(first, x, width, points, answers, &values[from..to]) {
+            return false;
+        }
+    }
+    true
+}
+
+// ---- values
+
+// The values of the polynomials at one point, from its column values.
+fn point_values(nu: usize, base: Element, answer: &[u32], out: &mut [u32])
+    requires { ⌜ nu * length (now out) ≤ length (now answer) ⌝ }
+    ensures { λ _. ⌜ now (out .exit) ≡ pointValues nu (base .0) (now (answer .entry)) (length (now (out .entry))) ⌝ }
+{
+    for i in 0..out.len() {
+        let from = nu * i;
+        let to = from + nu;
+        let v = field::evaluate(&answer[from..to], base);
+        out[i] = v.0;
+    }
+}
+
+// The values of the polynomials, point by point.
+fn all_values(
+    mu: usize,
+    nu: usize,
+    w: usize,
+    width: usize,
+    points: &[u32],
+    answers: &[u32],
+    values: &mut [u32],
+)
+    requires { ⌜ (nu * w ≤ width) × (length (now values) ≡ w * length (now points)) × (width * length (now points) ≤ length (now answers)) ⌝ }
+    ensures { λ _. ⌜ now (values .exit) ≡ rowsOf (valuesAt mu nu w width (now (points .entry)) (now (answers .entry))) (length (now (points .entry))) ⌝ }
+{
+    for p in 0..points.len() {
+        let from = width * p;
+        let to = from + width;
+        let first = w * p;
+        let last = first + w;
+        let base = field::power(Element(points[p]), mu);
+        point_values(nu, base, &answers[from..to], &mut values[first..last]);
+    }
+}
+
+// Room for 8 evaluation points.
+fn blank_points() -> [u32; 8] {
+    [0u32; 8]
+}
+
+// Room for 8 evaluation answers, 320 words each.
+fn blank_answers() -> [u32; 2560] {
+    [0u32; 2560]
+}
+
+// The values that an accepted reply gives.
+fn fill_values(question: &[u8], s: Shape, m: usize, reply: &[u8], values: &mut [u32])
+    requires { ⌜ Good (sizesIn s) × (m ≤ 8) × (length (now question) ≡ questionLength (sizesIn s) m) × (recordsAt (sizesIn s) m ≤ length (now reply)) × (length (now values) ≡ s .w * m) ⌝ }
+    ensures { λ _. ⌜ now (values .exit) ≡ checkValues (questionAt (sizesIn s) m (now (question .entry))) (readReply (questionAt (sizesIn s) m (now (question .entry))) (now (reply .entry))) ⌝ }
+{
+    let width = width_of(s);
+    let n = width * m;
+    let mut points = blank_points();
+    commitment::read_words(question, 46 + 4 * s.eta as usize, m, &mut points);
+    let mut answers = blank_answers();
+    commitment::read_words(reply, answers_at(s), n, &mut answers);
+    all_values(
+        s.mu as usize,
+        s.nu as usize,
+        s.w as usize,
+        width,
+        &points[0..m],
+        &answers[0..n],
+        values,
+    );
+}
+
+// ---- the check
+
+// The tests after that of the reply's length: 3, 8, 9, 10.
+fn words_verdict(
+    s: Shape,
+    challenges: &[u32],
+    points: &[u32],
+    indices: &[usize],
+    root: &[u8],
+    reply: &[u8],
+    batching: &[u32],
+    answers: &[u32],
+    values: &[u32],
+) -> u32
+    requires { ⌜ Posed (sizesIn s) (now challenges) (now points) (now indices) × Read (posed (sizesIn s) (now root) (now challenges) (now points) (now indices)) (now reply) (now batching) (now answers) (now values) ⌝ }
+    ensures { λ r. ⌜ r ≡ verdictOf (laterTests (posed (sizesIn s) (now (root .entry)) (now (challenges .entry)) (now (points .entry)) (now (indices .entry))) (now (reply .entry))) ⌝ }
+{
+    if !elements_read(batching, answers, values) {
+        return 3;
+    }
+    let at = records_at(s, points.len());
+    let found = reply_root(s.h as usize, at, record_length(s), indices, reply);
+    if !commitment::same_bytes(&found, root) {
+        return 8;
+    }
+    let width = width_of(s);
+    let mu = s.mu as usize;
+    if !batching_ok(width, mu, challenges, batching, indices, values) {
+        return 9;
+    }
+    let n = record_values(s);
+    let leaves = commitment::leaf_count(s.h);
+    if !evaluation_ok(leaves, width, mu, n, points, answers, indices, values) {
+        return 10;
+    }
+    0
+}
+
+// Room for 4 batching answers, 320 words each.
+fn blank_batching() -> [u32; 1280] {
+    [0u32; 1280]
+}
+
+// Room for the values of 64 leaves, 68 each.
+fn blank_leaf_values() -> [u32; 4352] {
+    [0u32; 4352]
+}
+
+// The reply's tests: 7, 3, 8, 9, 10.
+fn reply_verdict(
+    s: Shape,
+    challenges: &[u32],
+    points: &[u32],
+    indices: &[usize],
+    root: &[u8],
+    reply: &[u8],
+) -> u32
+    requires { ⌜ Posed (sizesIn s) (now challenges) (now points) (now indices) ⌝ }
+    ensures { λ r. ⌜ r ≡ verdictOf (replyTests (posed (sizesIn s) (now (root .entry)) (now (challenges .entry)) (now (points .entry)) (now (indices .entry))) (now (reply .entry))) ⌝ }
+{
+    let m = points.len();
+    if reply.len() != reply_length(s, m, indices) {
+        return 7;
+    }
+    let width = width_of(s);
+    let b = width * challenges.len();
+    let mut batching = blank_batching();
+    commitment::read_words(reply, 0, b, &mut batching);
+    let a = width * m;
+    let mut answers = blank_answers();
+    commitment::read_words(reply, answers_at(s), a, &mut answers);
+    let n = record_values(s);
+    let v = n * indices.len();
+    let mut values = blank_leaf_values();
+    read_records(
+        records_at(s, m),
+        record_length(s),
+        n,
+        indices.len(),
+        reply,
+        &mut values,
+    );
+    words_verdict(
+        s,
+        challenges,
+        points,
+        indices,
+        root,
+        reply,
+        &batching[0..b],
+        &answers[0..a],
+        &values[0..v],
+    )
+}
+
+// Room for 4 challenges.
+fn blank_challenges() -> [u32; 4] {
+    [0u32; 4]
+}
+
+// Room for 64 indices.
+fn blank_indices() -> [usize; 64] {
+    [0usize; 64]
+}
+
+// The reply's tests, with the challenges, points, indices and root of the question.
+fn asked_verdict(question: &[u8], s: Shape, m: usize, reply: &[u8]) -> u32
+    requires { ⌜ Formed (sizesIn s) m (now question) ⌝ }
+    ensures { λ r. ⌜ r ≡ verdictOf (replyTests (questionAt (sizesIn s) m (now (question .entry))) (now (reply .entry))) ⌝ }
+{
+    let eta = s.eta as usize;
+    let l = s.l as usize;
+    let points_at = 46 + 4 * eta;
+    let mut challenges = blank_challenges();
+    commitment::read_words(question, 46, eta, &mut challenges);
+    let mut points = blank_points();
+    commitment::read_words(question, points_at, m, &mut points);
+    let mut indices = blank_indices();
+    commitment::read_indices(question, points_at + 4 * m, l, &mut indices);
+    reply_verdict(
+        s,
+        &challenges[0..eta],
+        &points[0..m],
+        &indices[0..l],
+        &question[14..46],
+        reply,
+    )
+}
+
+// The value buffer's test, 2, and the reply's; the values once none of them holds.
+fn check_reply(question: &[u8], s: Shape, m: usize, reply: &[u8], values: &mut [u32]) -> u32
+    requires { ⌜ Formed (sizesIn s) m (now question) ⌝ }
+    ensures { λ r. ⌜ (r, now (values .exit)) ≡ checkingReply (questionAt (sizesIn s) m (now (question .entry))) (now (reply .entry)) (now (values .entry)) ⌝ }
+{
+    if values.len() != s.w as usize * m {
+        return 2;
+    }
+    let verdict = asked_verdict(question, s, m, reply);
+    if verdict != 0 {
+        return verdict;
+    }
+    fill_values(question, s, m, reply, values);
+    verdict
+}
+
+// The check: its verdict; the values are written only with verdict 0.
+pub fn check(question: &[u8], reply: &[u8], values: &mut [u32]) -> u32
+    ensures { λ r. ⌜ (r, now (values .exit)) ≡ checking (now (question .entry)) (now (reply .entry)) (now (values .entry)) ⌝ }
+{
+    let asked = commitment::ask(question);
+    match asked {
+        Questioned::WellFormed(s, m) => check_reply(question, s, m as usize, reply, values),
+        Questioned::Refused(v) => v,
+    }
+}

@@ -1,0 +1,46 @@
+-- Clauses of the functions that fill the table and the tree.
+use mathlib.Core.Path.{_≡_}
+use mathlib.Core.Bool.{true}
+use mathlib.Core.List.{List, _++_, map}
+use Prim.Native.Nat.{ℕ, _+_, _*_, _≤_}
+use lib.ListN.{length}
+use Rattle.lists.specs.Bytes.{bytesOf}
+use Rattle.lists.specs.Pieces.{pieces, piece}
+use Rattle.algebra.specs.Numbers.{interpN, valuesAtN}
+use Rattle.algebra.specs.Dot.{dotN}
+use Rattle.sponge.specs.Digest.{digest}
+use Rattle.tree.specs.Leaf.{leafString}
+use Rattle.scheme.specs.Sizes.{Sizes, leaves, width, recordValues, points, leafPoint, sizesOk}
+use Rattle.scheme.specs.Layers.{Lent}
+use Rattle.scheme.specs.Commit.{filledOk}
+use Rattle.scheme.specs.Honest.{Right}
+
+-- the dot products of the weights with the first n rows
+unfoldable pub dotsOf : List ℕ → ℕ → List ℕ → List ℕ
+dotsOf weights n rows = map (dotN weights) (pieces (length weights) n rows)
+
+-- sizes in their ranges, and room for all rows and masks
+pub record Evaluable (s : Sizes) (rows masks : List ℕ) : Type 0 where
+  pub sizes : sizesOk s ≡ true
+  pub rows-length : width s * s .μ ≤ length rows
+  pub masks-length : width s * s .η ≤ length masks
+
+-- the values of leaf i, where the rows with their tails and the masks stand one after the other
+unfoldable pub valuesOf : Sizes → List ℕ → List ℕ → ℕ → List ℕ
+valuesOf s rows masks i = valuesAtN (map (interpN (points s)) (pieces (width s) (s .μ) rows) ++ pieces (width s) (s .η) masks) (leafPoint i)
+
+-- sizes in their ranges, a whole table, a nonce for each leaf, and room for the digest of each leaf
+pub record Hashable (s : Sizes) (table nonces nodes : List ℕ) : Type 0 where
+  pub sizes : sizesOk s ≡ true
+  pub table-length : length table ≡ leaves s * recordValues s
+  pub nonces-length : length nonces ≡ 32 * leaves s
+  pub room : 32 * leaves s ≤ length nodes
+
+-- the digest of leaf i, whose record has k values
+unfoldable pub digestOf : ℕ → List ℕ → List ℕ → ℕ → List ℕ
+digestOf k table nonces i = digest (leafString i (bytesOf (piece k i table) ++ piece 32 i nonces))
+
+-- no test of committing holds
+pub record Committable (s : Sizes) (l : Lent) (table nodes : List ℕ) : Type 0 where
+  pub right : Right s l
+  pub filled : filledOk s table nodes ≡ true

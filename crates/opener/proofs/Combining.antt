@@ -1,0 +1,166 @@
+-- A combination of rows, row by row, and the polynomials through the rows.
+use mathlib.Core.Path.{_≡_, refl, sym, ap, ap₂, _∙_, subst}
+use mathlib.Core.List.{List, [], _∷_, map}
+use Prim.Native.Nat.{ℕ, zero, suc, _+_, _-_, _*_, _%_, _≤_, _<_}
+use native.Mathlib.Nat.{not-suc-le-zero, le-of-suc-le-suc, suc-inj, suc-ne-zero, mul-zero, mul-suc, zero-mul, le-of-eq}
+use native.Mathlib.Omega.{arith}
+use lib.ListN.{length, getD, take, drop, length-map, length-drop, drop-of-length-le}
+use lib.Seq.{ext-getD, drop-cons, length-take-le}
+use Rattle.lists.specs.All.{Distinct, all-at, all-take, all-drop}
+use Rattle.lists.specs.Range.{upFrom, length-upFrom, upFrom-below, upFrom-distinct}
+use Rattle.lists.specs.Maps.{getD-map-in}
+use Rattle.lists.specs.Pieces.{pieces, piece, length-pieces, pieces-at, pieces-sized}
+use Rattle.algebra.specs.Prime.{q}
+use Rattle.algebra.specs.Dot.{accumulateN, length-accumulateN}
+use Rattle.algebra.specs.Numbers.{evalN, valuesAtN, interpN, interpN-below, interpN-length, interpN-values, Elements, Polys}
+use Rattle.algebra.specs.Batch.{columnN, honestN}
+use Rattle.scheme.specs.Layers.{combination}
+use Rattle.scheme.proofs.Row.{combination-length, combination-at, combination-below, combination-batch}
+
+-- ---- a step of Horner's rule over rows
+
+accumulated : (acc row : List ℕ) (c i : ℕ) → length row ≡ length acc → i < length acc → getD (accumulateN acc c row) i 0 ≡ (getD acc i 0 + c * getD row i 0) % q
+unfolding accumulateN
+accumulated [] row c i e l = absurd (not-suc-le-zero l)
+accumulated (a ∷ acc) [] c i e l = absurd (suc-ne-zero _ (sym e))
+accumulated (a ∷ acc) (r ∷ row) c zero e l = refl
+accumulated (a ∷ acc) (r ∷ row) c (suc i) e l = accumulated acc row c i (suc-inj e) (le-of-suc-le-suc l)
+
+-- the last row: what stood in its place counts nothing
+last-row : (n z : ℕ) (r old : List ℕ) → length r ≡ n → length old ≡ n → accumulateN r 0 old ≡ combination n z (r ∷ [])
+unfolding columnN evalN
+last-row n z r old e o =
+    ext-getD 0 (accumulateN r 0 old) (combination n z (r ∷ [])) (length-accumulateN r old 0 ∙ e ∙ sym (combination-length n z (r ∷ [])))
+    (λ i l.
+    let m : i < length r = subst (λ (k : ℕ). i < k) (length-accumulateN r old 0) l in
+    accumulated r old 0 i (o ∙ sym e) m
+    ∙ ap (λ (t : ℕ). (getD r i 0 + t) % q) (zero-mul (getD old i 0) ∙ sym (mul-zero z))
+    ∙ sym (combination-at n z (r ∷ []) i (subst (λ (k : ℕ). i < k) e m)))
+
+-- a row before others
+next-row : (n z : ℕ) (r : List ℕ) (rs : List (List ℕ)) → length r ≡ n → accumulateN r z (combination n z rs) ≡ combination n z (r ∷ rs)
+unfolding columnN evalN
+next-row n z r rs e =
+    ext-getD 0 (accumulateN r z (combination n z rs)) (combination n z (r ∷ rs)) (length-accumulateN r (combination n z rs) z ∙ e ∙ sym (combination-length n z (r ∷ rs)))
+    (λ i l.
+    let m : i < length r = subst (λ (k : ℕ). i < k) (length-accumulateN r (combination n z rs) z) l in
+    let k : i < n = subst (λ (k : ℕ). i < k) e m in
+    accumulated r (combination n z rs) z i (combination-length n z rs ∙ sym e) m
+    ∙ ap (λ (t : ℕ). (getD r i 0 + z * t) % q) (combination-at n z rs i k)
+    ∙ sym (combination-at n z (r ∷ rs) i k))
+
+-- ---- the rows one after the other in a list, n elements each
+
+-- the last of them
+pub last-length : (n μ : ℕ) (x : List ℕ) → length x ≡ n * μ → 0 < μ → length (take (length x - n * (μ - 1)) (drop (n * (μ - 1)) x)) ≡ n
+last-length n μ x w l =
+    let k : suc (μ - 1) ≡ μ = omega arith in
+    let d : length x - n * (μ - 1) ≡ n = omega (arith, w, ap (λ (t : ℕ). n * t) k, mul-suc n (μ - 1)) in
+    length-take-le (length x - n * (μ - 1)) (drop (n * (μ - 1)) x) (le-of-eq (sym (length-drop (n * (μ - 1)) x))) ∙ d
+
+-- the combination of the rows from j on
+unfoldable pub combinedFrom : ℕ → ℕ → ℕ → List ℕ → ℕ → List ℕ
+combinedFrom n μ z x j = combination n z (drop j (pieces n μ x))
+
+pub combined-length : (n μ z : ℕ) (x : List ℕ) (j : ℕ) → length (combinedFrom n μ z x j) ≡ n
+unfolding combinedFrom
+combined-length n μ z x j = combination-length n z (drop j (pieces n μ x))
+
+pub combined-all : (n μ z : ℕ) (x : List ℕ) → combinedFrom n μ z x 0 ≡ combination n z (pieces n μ x)
+unfolding combinedFrom
+combined-all n μ z x = refl
+
+module _ (n μ z : ℕ) (x : List ℕ) (whole : length x ≡ n * μ) where
+  row-length : (j : ℕ) → j < μ → length (piece n j x) ≡ n
+  row-length j l =
+      sym (ap length (pieces-at n μ j x l))
+      ∙ all-at (λ (r : List ℕ). length r ≡ n) [] (pieces n μ x) (pieces-sized n μ x (le-of-eq (sym whole))) j (subst (λ (k : ℕ). j < k) (sym (length-pieces n μ x)) l)
+
+  rows-from : (j : ℕ) → j < μ → drop j (pieces n μ x) ≡ piece n j x ∷ drop (suc j) (pieces n μ x)
+  rows-from j l =
+      drop-cons (pieces n μ x) j [] (subst (λ (k : ℕ). j < k) (sym (length-pieces n μ x)) l)
+      ∙ ap (λ (r : List ℕ). r ∷ drop (suc j) (pieces n μ x)) (pieces-at n μ j x l)
+
+  pub combined-last : (old : List ℕ) → 0 < μ → length old ≡ n → accumulateN (take (length x - n * (μ - 1)) (drop (n * (μ - 1)) x)) 0 old ≡ combinedFrom n μ z x (μ - 1)
+  unfolding combinedFrom
+  combined-last old l o =
+      let k : suc (μ - 1) ≡ μ = omega arith in
+      let w : length x - n * (μ - 1) ≡ n = omega (arith, whole, ap (λ (t : ℕ). n * t) k, mul-suc n (μ - 1)) in
+      let none : drop (suc (μ - 1)) (pieces n μ x) ≡ [] = drop-of-length-le (pieces n μ x) (le-of-eq (length-pieces n μ x ∙ sym k)) in
+      ap (λ (t : ℕ). accumulateN (take t (drop (n * (μ - 1)) x)) 0 old) w
+      ∙ last-row n z (piece n (μ - 1) x) old (row-length (μ - 1) (omega arith)) o
+      ∙ ap (combination n z) (sym (rows-from (μ - 1) (omega arith) ∙ ap (λ (t : List (List ℕ)). piece n (μ - 1) x ∷ t) none))
+
+  pub combined-next : (j : ℕ) → 0 < j → j < μ → accumulateN (take (n * (j - 1) + n - n * (j - 1)) (drop (n * (j - 1)) x)) z (combinedFrom n μ z x j) ≡ combinedFrom n μ z x (j - 1)
+  unfolding combinedFrom
+  combined-next j p l =
+      let k : j ≡ suc (j - 1) = omega arith in
+      let w : n * (j - 1) + n - n * (j - 1) ≡ n = omega arith in
+      ap₂ (λ (t i : ℕ). accumulateN (take t (drop (n * (j - 1)) x)) z (combination n z (drop i (pieces n μ x)))) w k
+      ∙ next-row n z (piece n (j - 1) x) (drop (suc (j - 1)) (pieces n μ x)) (row-length (j - 1) (omega arith))
+      ∙ ap (combination n z) (sym (rows-from (j - 1) (omega arith)))
+
+-- ---- interpolation is linear
+
+interp-polys : (xs : List ℕ) (n : ℕ) → length xs ≡ n → (es : List (List ℕ)) → Polys n es → Polys n (map (interpN xs) es)
+interp-polys xs n e [] h = tt
+interp-polys xs n e (r ∷ rs) h = ((interpN-length xs r (h .0 .0 ∙ sym e) ∙ e, interpN-below xs r), interp-polys xs n e rs (h .1))
+
+-- at point i of xs the polynomials have the entries i of the rows
+entries : (xs : List ℕ) (n : ℕ) → length xs ≡ n → Elements xs → Distinct xs → (es : List (List ℕ)) → Polys n es → (i : ℕ) → i < n
+    → columnN es i ≡ valuesAtN (map (interpN xs) es) (getD xs i 0)
+unfolding columnN valuesAtN
+entries xs n e b d [] h i l = refl
+entries xs n e b d (r ∷ rs) h i l =
+    ap₂ (λ (a : ℕ) (t : List ℕ). a ∷ t)
+    (ap (λ (t : List ℕ). getD t i 0) (sym (interpN-values xs r b d (h .0 .1) (h .0 .0 ∙ sym e)))
+    ∙ getD-map-in (λ x. evalN (interpN xs r) x) xs i 0 0 (subst (λ (k : ℕ). i < k) (sym e) l))
+    (entries xs n e b d rs (h .1) i l)
+
+pub interp-combination : (xs : List ℕ) (n z : ℕ) (es : List (List ℕ)) → length xs ≡ n → Elements xs → Distinct xs → Polys n es → 0 < length es
+    → interpN xs (combination n z es) ≡ combination n z (map (interpN xs) es)
+interp-combination xs n z es e b d h some =
+    let ps : List (List ℕ) = map (interpN xs) es in
+    let P : Polys n ps = interp-polys xs n e es h in
+    let many : 0 < length ps = subst (λ (k : ℕ). 0 < k) (sym (length-map es (interpN xs))) some in
+    ap (interpN xs)
+    (ext-getD 0 (combination n z es) (map (λ x. evalN (valuesAtN ps x) z) xs) (combination-length n z es ∙ sym (length-map xs (λ x. evalN (valuesAtN ps x) z) ∙ e))
+    (λ i l.
+    let m : i < n = subst (λ (k : ℕ). i < k) (combination-length n z es) l in
+    combination-at n z es i m
+    ∙ ap (λ (t : List ℕ). evalN t z) (entries xs n e b d es h i m)
+    ∙ sym (getD-map-in (λ x. evalN (valuesAtN ps x) z) xs i 0 0 (subst (λ (k : ℕ). i < k) (sym e) m))))
+    ∙ honestN ps n many P z xs e b d
+    ∙ sym (combination-batch n z ps many P)
+
+-- ---- the batching answer: one interpolation, of the combined rows
+
+rows-polys : (n μ : ℕ) (x : List ℕ) → n * μ ≤ length x → Elements x → Polys n (pieces n μ x)
+unfolding pieces
+rows-polys n zero x l b = tt
+rows-polys n (suc μ) x l b = (
+  (length-take-le n x (omega (arith, mul-suc n μ)), all-take (λ (a : ℕ). a < q) n x b),
+  rows-polys n μ (drop n x) (omega (arith, mul-suc n μ, length-drop n x)) (all-drop (λ (a : ℕ). a < q) n x b),
+)
+
+pub batching-one : (first n μ γ : ℕ) (mask x sum out : List ℕ) → length x ≡ n * μ → 0 < μ → Elements x → first + n ≤ q → length mask ≡ n
+    → sum ≡ combination n γ (pieces n μ x) → out ≡ interpN (upFrom first n) sum
+    → accumulateN mask γ out ≡ combination n γ (mask ∷ map (interpN (upFrom first n)) (pieces n μ x))
+batching-one first n μ γ mask x sum out w some b u m s o =
+    let es : List (List ℕ) = pieces n μ x in
+    let xs : List ℕ = upFrom first n in
+    ap (accumulateN mask γ) (o ∙ ap (interpN xs) s
+    ∙ interp-combination xs n γ es (length-upFrom first n) (upFrom-below first n q u) (upFrom-distinct first n) (rows-polys n μ x (le-of-eq (sym w)) b)
+    (subst (λ (k : ℕ). 0 < k) (sym (length-pieces n μ x)) some))
+    ∙ next-row n γ mask (map (interpN xs) es) m
+
+-- what the interpolation of a combination asks
+pub interpolation-asks : (first n z : ℕ) (rs : List (List ℕ)) (out s : List ℕ) → first + n ≤ q → n ≤ 320 → length out ≡ n → s ≡ combination n z rs
+    → (first + length s ≤ q) × (length s ≤ 320) × Elements s × (length out ≡ length s)
+interpolation-asks first n z rs out s u l o e =
+    let m : length s ≡ n = ap length e ∙ combination-length n z rs in (
+      subst (λ (k : ℕ). first + k ≤ q) (sym m) u,
+      subst (λ (k : ℕ). k ≤ 320) (sym m) l,
+      subst Elements (sym e) (combination-below n z rs),
+      o ∙ sym m,
+    )

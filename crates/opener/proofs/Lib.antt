@@ -1,0 +1,12 @@
+pub mod Combining
+pub mod Room
+pub mod Writing
+pub mod Records
+pub mod Answers
+pub mod Places
+pub mod Order
+pub mod Given
+pub mod Sums
+pub mod Leaves
+pub mod Replying
+pub mod Outcome

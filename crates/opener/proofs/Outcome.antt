@@ -1,0 +1,44 @@
+-- What opening does, by the answer to the question and the verdict.
+use mathlib.Core.Path.{_≡_, sym, ap, ap₂, _∙_}
+use mathlib.Core.List.{List, _++_}
+use Prim.Native.Nat.{ℕ}
+use native.Mathlib.Nat.{pos-of-ne-zero}
+use lib.ListN.{drop}
+use Rattle.lists.specs.Bytes.{Bytes}
+use Rattle.scheme.specs.Layers.{Lent}
+use Rattle.scheme.specs.Question.{Question, readQuestion}
+use Rattle.scheme.specs.Reply.{replyLength}
+use Rattle.scheme.specs.Open.{replyOf, openVerdict, opening}
+use Rattle.commitment.specs.Shape.{sizesIn}
+use Rattle.commitment.specs.Questioned.{questioned}
+use Rattle.commitment.specs.declared.Shape.{Shape}
+use Rattle.commitment.specs.declared.Questioned.the-variants.{WellFormed, Refused}
+use Rattle.commitment.proofs.Answer.{refused}
+use Rattle.opener.specs.Ready.{questionOf, Ready}
+use Rattle.opener.proofs.Given.{question-is, ready}
+use Rattle.opener.proofs.Order.{asked-verdict, opening-refused, opening-done}
+
+module _ (b : Bytes) (l : Lent) (table : List ℕ) (nodes reply : Bytes) where
+  -- the question is refused
+  pub question-refused : (v : ℕ) → questioned b ≡ Refused v → (v, 0, reply) ≡ opening b l table nodes reply
+  question-refused v e = let r = refused b v e in sym (opening-refused b l table nodes reply v (r .1) (asked-verdict b l table nodes reply v (r .1) (r .0)))
+
+  -- what is lent is refused
+  pub lent-refused : (v : ℕ) → v ≡ openVerdict b l table nodes reply → (v ≡ 0 → ⊥) → (v, 0, reply) ≡ opening b l table nodes reply
+  lent-refused v e n = sym (opening-refused b l table nodes reply v (pos-of-ne-zero n) (sym e))
+
+  module _ (s : Shape) (m : ℕ) (asked : questioned b ≡ WellFormed s m) (v : ℕ) (e : v ≡ openVerdict b l table nodes reply) (z : v ≡ 0) where
+    passed : openVerdict b l table nodes reply ≡ 0
+    passed = sym e ∙ z
+
+    pub is-ready : Ready b (sizesIn s) m l table nodes reply
+    is-ready = ready b l table nodes reply s m asked passed
+
+    -- nothing is refused
+    pub replied : (n : ℕ) (out : Bytes) → n ≡ replyLength (questionOf b (sizesIn s) m) → out ≡ replyOf (questionOf b (sizesIn s) m) l table nodes ++ drop n reply
+        → (0, n, out) ≡ opening b l table nodes reply
+    replied n out k o =
+        let u : Question = readQuestion b in
+        let i : n ≡ replyLength u = k ∙ ap replyLength (question-is b s m asked) in
+        ap₂ (λ (x : ℕ) (y : Bytes). (0, x, y)) i (o ∙ ap₂ (λ (w : Question) (x : ℕ). replyOf w l table nodes ++ drop x reply) (question-is b s m asked) i)
+        ∙ sym (opening-done b l table nodes reply passed)

@@ -1,0 +1,187 @@
+-- The whole reply, where all tests have passed.
+use mathlib.Core.Path.{_≡_, refl, sym, ap, ap₂, _∙_, subst}
+use mathlib.Core.Bool.{true}
+use mathlib.Core.List.{List, [], _++_, map, flatten, append-assoc, append-nil}
+use Prim.Native.Nat.{ℕ, _+_, _-_, _*_, _≤_, _<_}
+use native.Mathlib.Nat.{mul-comm, mul-le-mul, pow-suc, le-of-eq}
+use native.Mathlib.Omega.{arith}
+use lib.ListN.{length, take, drop, length-map}
+use lib.Seq.{take-at, drop-at, drop-drop}
+use borrow.Author.Tests.{eqb-true}
+use Rattle.lists.specs.All.{Sized, all-imp, all-flatten}
+use Rattle.lists.specs.Bytes.{Bytes, bytesOf, halves}
+use Rattle.lists.specs.Pieces.{pieces, length-pieces, pieces-flatten, length-flatten}
+use Rattle.lists.specs.Range.{upFrom, length-upFrom}
+use Rattle.lists.specs.Tests.{every-true}
+use Rattle.tree.specs.Sets.{missing, treeSize}
+use Rattle.tree.specs.Tree.{allParts, opened}
+use Rattle.tree.proofs.Counts.{missing-bound}
+use Rattle.tree.proofs.Rows.{tree-size}
+use Rattle.algebra.specs.Prime.{q}
+use Rattle.algebra.specs.Numbers.{Elements}
+use Rattle.scheme.specs.Sizes.{Sizes, leaves, rows, width, recordValues, sizesOk}
+use Rattle.scheme.specs.Layers.{Lent, lentOf, extended, extendedRows}
+use Rattle.scheme.specs.Question.{Question, questionLength, indicesAt}
+use Rattle.scheme.specs.Reply.{recordsAt, nodesAt, replyLength}
+use Rattle.scheme.specs.Commit.{filledOk, leafRecord}
+use Rattle.scheme.specs.Open.{openedBatching, openedAnswers, replyOf}
+use Rattle.scheme.proofs.Accepted.{Good, good}
+use Rattle.scheme.proofs.Lent.{Rights, rights}
+use Rattle.scheme.proofs.Row.{ext-polys}
+use Rattle.lent.specs.Rows.{CanExtend}
+use Rattle.lent.proofs.Rows.{rows-lent}
+use Rattle.opener.specs.Parts.{Lined, CanList, sums}
+use Rattle.opener.specs.Ready.{questionOf, Ready}
+use Rattle.opener.proofs.Places.{width-high, paths-high, nodes-high}
+use Rattle.opener.proofs.Sums.{sums-length, sums-opened}
+
+filled-lengths : (s : Sizes) (table nodes : List ℕ) → filledOk s table nodes ≡ true → (length table ≡ leaves s * recordValues s) × (length nodes ≡ 32 * (2 * leaves s - 1))
+unfolding filledOk
+filled-lengths s table nodes e = let t = every-true _ e in (eqb-true _ _ (t .0), eqb-true _ _ (t .1 .0))
+
+module _ (question : Bytes) (t : Sizes) (m : ℕ) (l : Lent) (table : List ℕ) (nodes reply : Bytes) (ready : Ready question t m l table nodes reply) where
+  abbrev u : Question
+  u = questionOf question t m
+
+  g : Good t
+  g = good t (ready .sizes)
+
+  r : Rights t l
+  r = rights t l (record { sizes = ready .sizes; lengths = ready .lengths; elements = ready .elements })
+
+  -- ---- the rows
+
+  abbrev ext : List (List ℕ)
+  ext = extendedRows t l
+
+  ext-sized : Sized (width t) ext
+  ext-sized = all-imp (λ (p : List ℕ) (h : (length p ≡ width t) × Elements p). h .0) ext (ext-polys t l r)
+
+  ext-count : length ext ≡ rows t
+  ext-count = length-map (upFrom 0 (rows t)) (extended t l) ∙ length-upFrom 0 (rows t)
+
+  ext-length : length (flatten ext) ≡ width t * rows t
+  ext-length = length-flatten (width t) ext ext-sized ∙ ap (λ (k : ℕ). width t * k) ext-count
+
+  ext-pieces : pieces (width t) (rows t) (flatten ext) ≡ ext
+  ext-pieces =
+      ap₂ (λ (k : ℕ) (x : List ℕ). pieces (width t) k x) (sym ext-count) (sym (append-nil (flatten ext))) ∙ pieces-flatten (width t) ext [] ext-sized
+
+  pub elements-high : (n : ℕ) → n ≡ width t → t .μ * n ≤ 20480
+  elements-high n e = mul-le-mul {n₂ = 64} {m₂ = 320} (g .μ-high) (subst (λ (k : ℕ). k ≤ 320) (sym e) (width-high t g))
+
+  pub extend-asks : (b : List ℕ) → length b ≡ 20480 → CanExtend t (l .coefficients) (l .tails) × (rows t * width t ≤ length b)
+  extend-asks b e = (
+    record { sizes = ready .sizes; coefficients-length = r .c-length; tails-length = r .t-length },
+    subst (λ (k : ℕ). rows t * width t ≤ k) (sym e) (elements-high (width t) refl),
+  )
+
+  pub rows-front : (n : ℕ) (b x : List ℕ) → n ≡ width t → x ≡ flatten (extendedRows t (lentOf (l .coefficients) (l .tails) [] [])) ++ drop (rows t * width t) b
+      → take (t .μ * n) x ≡ flatten ext
+  rows-front n b x e f =
+      ap₂ (λ (k : ℕ) (y : List ℕ). take (t .μ * k) y) e
+      (f ∙ ap (λ (es : List (List ℕ)). flatten es ++ drop (rows t * width t) b) (rows-lent t (l .coefficients) (l .tails) (l .masks) (l .nonces)))
+      ∙ take-at (flatten ext) (drop (rows t * width t) b) (rows t * width t) (ext-length ∙ mul-comm (width t) (rows t))
+
+  pub rows-length : (n : ℕ) → n ≡ width t → length (flatten ext) ≡ t .μ * n
+  rows-length n e = ext-length ∙ mul-comm (width t) (rows t) ∙ ap (λ (k : ℕ). t .μ * k) (sym e)
+
+  lined : Lined (width t) (t .μ) (flatten ext)
+  lined = record {
+    whole = ext-length;
+    some = g .μ-low;
+    few = g .μ-high;
+    narrow = width-high t g;
+    below = all-flatten (λ (x : ℕ). x < q) ext (all-imp (λ (p : List ℕ) (h : (length p ≡ width t) × Elements p). h .1) ext (ext-polys t l r));
+  }
+
+  records-room : recordsAt t m ≤ length reply
+  records-room = omega (arith, ready .room)
+
+  pub sums-asks : (x : List ℕ) → x ≡ flatten ext
+      → (sizesOk t ≡ true) × (m ≤ 8) × (length question ≡ questionLength t m) × (length (l .masks) ≡ t .η * width t) × Lined (width t) (t .μ) x × (recordsAt t m ≤ length reply)
+  sums-asks x e = (ready .sizes, ready .points, ready .long, r .m-length, subst (Lined (width t) (t .μ)) (sym e) lined, records-room)
+
+  -- ---- the indices
+
+  pub indices-ask : (b : List ℕ) → length b ≡ 64 → (46 + 4 * t .η + 4 * m + 2 * t .ℓ ≤ length question) × (t .ℓ ≤ length b)
+  indices-ask b e = (le-of-eq (sym (ready .long)), subst (λ (k : ℕ). t .ℓ ≤ k) (sym e) (g .ℓ-high))
+
+  count : length (u .indices) ≡ t .ℓ
+  count = length-map (pieces 2 (t .ℓ) (drop (indicesAt t m) question)) _ ∙ length-pieces 2 (t .ℓ) (drop (indicesAt t m) question)
+
+  pub indices-front : (b x : List ℕ) → x ≡ halves (t .ℓ) (drop (46 + 4 * t .η + 4 * m) question) ++ drop (t .ℓ) b → take (t .ℓ) x ≡ u .indices
+  indices-front b x e = ap (take (t .ℓ)) e ∙ take-at (u .indices) (drop (t .ℓ) b) (t .ℓ) count
+
+  pub indices-length : (x : List ℕ) → x ≡ u .indices → t .ℓ ≡ length x
+  indices-length x e = sym (ap length e ∙ count)
+
+  -- ---- records and nodes
+
+  tree-length : length nodes ≡ 32 * treeSize 2 (t .h)
+  tree-length = filled-lengths t table nodes (ready .filled) .1 ∙ ap (λ (k : ℕ). 32 * k) (omega (arith, tree-size 1 (t .h), pow-suc 2 (t .h)))
+
+  nodes-few : length (missing 2 (t .h) (u .indices)) ≤ t .ℓ * t .h
+  nodes-few = omega (arith, missing-bound 1 (t .h) (u .indices) (ready .rising), ap (λ (n : ℕ). n * 1 * t .h) count)
+
+  can-list : (o : Bytes) → length o ≡ length reply → CanList t m table (l .nonces) (u .indices) nodes o
+  can-list o e = record {
+    sizes = ready .sizes;
+    points = ready .points;
+    recorded = record { values = filled-lengths t table nodes (ready .filled) .0; nonce = r .n-length; leaf = ready .leaf };
+    count = count;
+    set = record {
+      depth = g .h-high;
+      some = subst (λ (k : ℕ). 0 < k) (sym count) (g .ℓ-low);
+      few = subst (λ (k : ℕ). k ≤ 64) (sym count) (g .ℓ-high);
+      rising = ready .rising;
+      leaves = ready .leaf;
+    };
+    tree-length = tree-length;
+    room = omega (arith, nodes-few, ready .room, e);
+    small = omega (arith, nodes-high t g m (ready .points), paths-high t g, ready .room, e);
+  }
+
+  pub leaves-ask : (x : List ℕ) (o : Bytes) → x ≡ u .indices → length o ≡ length reply → CanList t m table (l .nonces) x nodes o
+  leaves-ask x o e f = subst (λ (y : List ℕ). CanList t m table (l .nonces) y nodes o) (sym e) (can-list o f)
+
+  -- ---- the whole
+
+  abbrev leafPart : List ℕ → Bytes
+  leafPart ix = flatten (map (leafRecord t table (l .nonces)) ix) ++ flatten (opened 2 (t .h) (allParts nodes) ix)
+
+  -- the second half written after the first
+  halves-are : (k : ℕ) (a x o o₁ o₂ : Bytes) → length a ≡ recordsAt t m → o₁ ≡ a ++ drop (recordsAt t m) o
+      → o₂ ≡ take (recordsAt t m) o₁ ++ (x ++ drop (recordsAt t m + k) o₁) → o₂ ≡ (a ++ x) ++ drop (recordsAt t m + k) o
+  halves-are k a x o o₁ o₂ e f h =
+      let n : ℕ = recordsAt t m in
+      h
+      ∙ ap₂ (λ (y z : Bytes). y ++ (x ++ z))
+      (ap (take n) f ∙ take-at a (drop n o) n e)
+      (sym (drop-drop k n o₁) ∙ ap (drop k) (ap (drop n) f ∙ drop-at a (drop n o) n e) ∙ drop-drop k n o)
+      ∙ sym (append-assoc a x (drop (n + k) o))
+
+  whole : (v : ℕ) (o₁ o₂ : Bytes) → o₁ ≡ sums u (flatten ext) (l .masks) ++ drop (recordsAt t m) reply → v ≡ nodesAt t m + 32 * length (missing 2 (t .h) (u .indices))
+      → o₂ ≡ take (recordsAt t m) o₁ ++ (leafPart (u .indices) ++ drop v o₁) → o₂ ≡ replyOf u l table nodes ++ drop v reply
+  unfolding replyOf
+  whole v o₁ o₂ e₁ ev e₂ =
+      let k : ℕ = v - recordsAt t m in
+      let z : v ≡ recordsAt t m + k = omega (arith, ev) in
+      let B : Bytes = bytesOf (flatten (openedBatching u l)) in
+      let C : Bytes = bytesOf (flatten (openedAnswers u l)) in
+      halves-are k (sums u (flatten ext) (l .masks)) (leafPart (u .indices)) reply o₁ o₂ (sums-length t m question (flatten ext) (l .masks)) e₁
+      (e₂ ∙ ap (λ (j : ℕ). take (recordsAt t m) o₁ ++ (leafPart (u .indices) ++ drop j o₁)) z)
+      ∙ ap₂ (λ (y : Bytes) (j : ℕ). y ++ drop j reply)
+      (ap (λ (y : Bytes). y ++ leafPart (u .indices)) (sums-opened u l ext-pieces) ∙ append-assoc B C (leafPart (u .indices)))
+      (sym z)
+
+  pub reply-are : (v : ℕ) (x ix : List ℕ) (o₁ o₂ : Bytes) → x ≡ flatten ext → ix ≡ u .indices
+      → o₁ ≡ sums u x (l .masks) ++ drop (recordsAt t m) reply → v ≡ nodesAt t m + 32 * length (missing 2 (t .h) ix)
+      → o₂ ≡ take (recordsAt t m) o₁ ++ (leafPart ix ++ drop v o₁)
+      → (v ≡ replyLength u) × (o₂ ≡ replyOf u l table nodes ++ drop v reply)
+  reply-are v x ix o₁ o₂ ex ei e₁ ev e₂ =
+      let w : v ≡ nodesAt t m + 32 * length (missing 2 (t .h) (u .indices)) = ev ∙ ap (λ (y : List ℕ). nodesAt t m + 32 * length (missing 2 (t .h) y)) ei in (
+        w,
+        whole v o₁ o₂ (e₁ ∙ ap (λ (y : List ℕ). sums u y (l .masks) ++ drop (recordsAt t m) reply) ex) w
+            (e₂ ∙ ap (λ (y : List ℕ). take (recordsAt t m) o₁ ++ (leafPart y ++ drop v o₁)) ei),
+      )

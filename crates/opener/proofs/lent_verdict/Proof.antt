@@ -1,0 +1,70 @@
+-- `opener::lent_verdict` meets its contract: the tests in their order.
+use mathlib.Core.Path.{sym, _∙_}
+use Rattle.lists.specs.Tests.{every-true}
+use Rattle.scheme.specs.Layers.{lentOf}
+use Rattle.commitment.specs.Shape.{sizesIn}
+use Rattle.opener.proofs.Given.{asked, sizes-are, points-are, sizes-ok, points-few, long, root-room}
+use Rattle.opener.proofs.Order.{verdict-0, verdict-2, verdict-3, verdict-8}
+use borrow.Author.Needs.{needs}
+use native.Mathlib.Omega.{arith}
+use Rattle.opener.proofs.lent_verdict.Statement.{statement}
+use Rattle.opener.proofs.lent_verdict.Tie as tie
+
+lengths-ok-requires : tie.Need-lengths-ok-requires
+lengths-ok-requires c κs =
+    let s = c .before .before .before .before .before .before .before .before .args in
+    (sizes-ok (s .question .now) (s .s) (s .m) (c .before .before .before .before .before .before .before .before .pre), points-few (s .question .now) (s .s) (s .m) (c .before .before .before .before .before .before .before .before .pre))
+
+words-ok-requires : tie.Need-words-ok-requires
+words-ok-requires c κs = search needs
+
+root-ok-requires : tie.Need-root-ok-requires
+root-ok-requires c κs =
+    let s = c .before .before .before .before .before .before .before .before .before .before .before .before .args in
+    let t = every-true _ (sym (c .before .before .before .lengths-ok .ensures) ∙ c .before .before .if1 .taken) in
+    let l = long (s .question .now) (s .s) (s .m) (c .before .before .before .before .before .before .before .before .before .before .before .before .pre) in
+    (omega arith, root-room (sizesIn (s .s)) (s .table .now) (s .tree .now) (t .1 .0))
+
+returns : tie.Need-returns
+returns c =
+    let s = c .before .before .before .before .before .before .before .before .before .before .before .before .before .before .args in
+    let b = s .question .now in
+    sym (verdict-0 b (lentOf (s .coefficients .now) (s .tails .now) (s .masks .now) (s .nonces .now)) (s .table .now) (s .tree .now) (s .reply .now)
+    (asked b (s .s) (s .m) (c .before .before .before .before .before .before .before .before .before .before .before .before .before .before .pre)) (sizesIn (s .s)) (s .m) (sizes-are b (s .s) (s .m) (c .before .before .before .before .before .before .before .before .before .before .before .before .before .before .pre)) (points-are b (s .s) (s .m) (c .before .before .before .before .before .before .before .before .before .before .before .before .before .before .pre))
+    (sym (c .before .before .before .before .before .lengths-ok .ensures) ∙ c .before .before .before .before .if1 .taken) (sym (c .before .before .before .words-ok .ensures) ∙ c .before .before .if2 .taken) (sym (c .before .root-ok .ensures) ∙ c .if3 .taken))
+
+returns-2 : tie.Need-returns-2
+returns-2 c =
+    let s = c .before .before .before .before .before .before .before .before .before .before .before .before .before .before .args in
+    let b = s .question .now in
+    sym (verdict-8 b (lentOf (s .coefficients .now) (s .tails .now) (s .masks .now) (s .nonces .now)) (s .table .now) (s .tree .now) (s .reply .now)
+    (asked b (s .s) (s .m) (c .before .before .before .before .before .before .before .before .before .before .before .before .before .before .pre)) (sizesIn (s .s)) (s .m) (sizes-are b (s .s) (s .m) (c .before .before .before .before .before .before .before .before .before .before .before .before .before .before .pre)) (points-are b (s .s) (s .m) (c .before .before .before .before .before .before .before .before .before .before .before .before .before .before .pre))
+    (sym (c .before .before .before .before .before .lengths-ok .ensures) ∙ c .before .before .before .before .if1 .taken) (sym (c .before .before .before .words-ok .ensures) ∙ c .before .before .if2 .taken) (sym (c .before .root-ok .ensures) ∙ c .if3 .left))
+
+returns-3 : tie.Need-returns-3
+returns-3 c =
+    let s = c .before .before .before .before .before .before .before .before .before .before .before .before .args in
+    let b = s .question .now in
+    sym (verdict-3 b (lentOf (s .coefficients .now) (s .tails .now) (s .masks .now) (s .nonces .now)) (s .table .now) (s .tree .now) (s .reply .now)
+    (asked b (s .s) (s .m) (c .before .before .before .before .before .before .before .before .before .before .before .before .pre)) (sizesIn (s .s)) (s .m) (sizes-are b (s .s) (s .m) (c .before .before .before .before .before .before .before .before .before .before .before .before .pre)) (points-are b (s .s) (s .m) (c .before .before .before .before .before .before .before .before .before .before .before .before .pre))
+    (sym (c .before .before .before .lengths-ok .ensures) ∙ c .before .before .if1 .taken) (sym (c .before .words-ok .ensures) ∙ c .if2 .left))
+
+returns-4 : tie.Need-returns-4
+returns-4 c =
+    let s = c .before .before .before .before .before .before .before .before .before .before .args in
+    let b = s .question .now in
+    sym (verdict-2 b (lentOf (s .coefficients .now) (s .tails .now) (s .masks .now) (s .nonces .now)) (s .table .now) (s .tree .now) (s .reply .now)
+    (asked b (s .s) (s .m) (c .before .before .before .before .before .before .before .before .before .before .pre)) (sizesIn (s .s)) (s .m) (sizes-are b (s .s) (s .m) (c .before .before .before .before .before .before .before .before .before .before .pre)) (points-are b (s .s) (s .m) (c .before .before .before .before .before .before .before .before .before .before .pre))
+    (sym (c .before .lengths-ok .ensures) ∙ c .if1 .left))
+
+pub lent-verdict-spec : {M : Type 1} → statement M
+lent-verdict-spec =
+    tie.close
+    (tie.spec
+    lengths-ok-requires
+    words-ok-requires
+    root-ok-requires
+    returns
+    returns-2
+    returns-3
+    returns-4)

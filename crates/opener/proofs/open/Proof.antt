@@ -1,0 +1,61 @@
+-- `opener::open` meets its contract.
+use mathlib.Core.Path.{sym, _∙_}
+use Rattle.scheme.specs.Layers.{lentOf}
+use Rattle.opener.proofs.Outcome.{question-refused, lent-refused, is-ready, replied}
+use borrow.Author.Needs.{needs}
+use Rattle.opener.proofs.open.Statement.{statement}
+use Rattle.opener.proofs.open.Tie as tie
+
+ask-requires : tie.Need-ask-requires
+ask-requires c κs = search needs
+
+enum-known-s : tie.Need-enum-known-s
+enum-known-s c = search needs
+
+lent-verdict-requires : tie.Need-lent-verdict-requires
+lent-verdict-requires c κs = sym (c .before .before .before .before .ask .ensures) ∙ c .before .before .s .given .1
+
+write-reply-requires : tie.Need-write-reply-requires
+write-reply-requires c κs =
+    let s = c .before .before .before .before .before .before .before .before .before .before .before .before .before .before .before .before .args in
+    is-ready (s .question .now) (lentOf (s .coefficients .now) (s .tails .now) (s .masks .now) (s .nonces .now)) (s .table .now) (s .tree .now) (s .reply .now) (c .before .before .before .before .before .s .given .0 .0) (c .before .before .before .before .before .s .given .0 .1 .0) (sym (c .before .before .before .before .before .before .before .ask .ensures) ∙ c .before .before .before .before .before .s .given .1) (c .before .before .lent-verdict .result) (c .before .before .lent-verdict .ensures) (c .before .if1 .taken)
+
+same-length : tie.Need-same-length
+same-length c = search needs
+
+returns : tie.Need-returns
+returns c =
+    let s = c .before .before .before .before .before .before .before .before .before .before .before .before .before .before .before .before .before .before .before .args in
+    replied (s .question .now) (lentOf (s .coefficients .now) (s .tails .now) (s .masks .now) (s .nonces .now)) (s .table .now) (s .tree .now) (s .reply .now) (c .before .before .before .before .before .before .before .before .s .given .0 .0) (c .before .before .before .before .before .before .before .before .s .given .0 .1 .0) (sym (c .before .before .before .before .before .before .before .before .before .before .ask .ensures) ∙ c .before .before .before .before .before .before .before .before .s .given .1) (c .before .before .before .before .before .lent-verdict .result) (c .before .before .before .before .before .lent-verdict .ensures) (c .before .before .before .before .if1 .taken)
+    (c .before .before .write-reply .result) (c .before .before .write-reply .last .1 .1 .1 .1 .1 .1 .1 .1 .1 .0) (c .before .before .write-reply .ensures .0) (c .before .before .write-reply .ensures .1)
+
+enum-known-verdict : tie.Need-enum-known-verdict
+enum-known-verdict c = search needs
+
+same-length-2 : tie.Need-same-length-2
+same-length-2 c = search needs
+
+returns-2 : tie.Need-returns-2
+returns-2 c =
+    let s = c .before .before .before .before .before .before .before .before .before .before .before .before .before .before .before .args in
+    lent-refused (s .question .now) (lentOf (s .coefficients .now) (s .tails .now) (s .masks .now) (s .nonces .now)) (s .table .now) (s .tree .now) (s .reply .now) (c .before .lent-verdict .result) (c .before .lent-verdict .ensures) (c .if1 .left)
+
+returns-3 : tie.Need-returns-3
+returns-3 c =
+    let s = c .before .before .before .before .before .before .before .before .before .before .before .before .args in
+    question-refused (s .question .now) (lentOf (s .coefficients .now) (s .tails .now) (s .masks .now) (s .nonces .now)) (s .table .now) (s .tree .now) (s .reply .now) (c .before .verdict .given .0 .0) (sym (c .before .before .before .ask .ensures) ∙ c .before .verdict .given .1)
+
+pub open-spec : {M : Type 1} → statement M
+open-spec =
+    tie.close
+    (tie.spec
+    ask-requires
+    enum-known-s
+    lent-verdict-requires
+    write-reply-requires
+    same-length
+    returns
+    enum-known-verdict
+    same-length-2
+    returns-2
+    returns-3)

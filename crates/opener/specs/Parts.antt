@@ -1,0 +1,65 @@
+-- The parts of a reply, over the extended rows one after the other in a list.
+use mathlib.Core.Path.{_≡_}
+use mathlib.Core.Bool.{true}
+use mathlib.Core.List.{List, _∷_, _++_, map, flatten}
+use Prim.Native.Nat.{ℕ, _+_, _*_, _≤_, _<_}
+use lib.ListN.{length, getD, take, drop}
+use Rattle.lists.specs.All.{Below}
+use Rattle.lists.specs.Bytes.{Bytes, bytesOf}
+use Rattle.lists.specs.Pieces.{pieces, piece}
+use Rattle.lists.specs.Range.{upFrom}
+use Rattle.algebra.specs.Numbers.{Elements, interpN}
+use Rattle.tree.specs.Sets.{missing, treeSize}
+use Rattle.tree.specs.Clauses.{IndexSet}
+use Rattle.scheme.specs.Sizes.{Sizes, leaves, rows, width, recordValues, sizesOk}
+use Rattle.scheme.specs.Layers.{combination}
+use Rattle.scheme.specs.Question.{Question}
+use Rattle.scheme.specs.Reply.{nodesAt}
+
+-- x is μ rows of n elements each
+pub record Lined (n μ : ℕ) (x : List ℕ) : Type 0 where
+  pub whole : length x ≡ n * μ
+  pub some : 0 < μ
+  pub few : μ ≤ 64
+  pub narrow : n ≤ 320
+  pub below : Elements x
+
+-- the batching answer, where the polynomials go through the rows at the points from first on
+abbrev pub batchingOver : ℕ → ℕ → ℕ → List ℕ → List ℕ → ℕ → List ℕ
+batchingOver first n μ x mask γ = combination n γ (mask ∷ map (interpN (upFrom first n)) (pieces n μ x))
+
+-- of repetition k, with its mask and its challenge
+abbrev pub batchingAt : ℕ → ℕ → ℕ → List ℕ → List ℕ → List ℕ → ℕ → List ℕ
+batchingAt first n μ x masks challenges k = batchingOver first n μ x (piece n k masks) (getD challenges k 0)
+
+-- the evaluation answer to z
+abbrev pub answerAt : ℕ → ℕ → List ℕ → ℕ → List ℕ
+answerAt n μ x z = combination n z (pieces n μ x)
+
+-- the table and the nonces have a record for each index
+pub record CanRecord (s : Sizes) (table : List ℕ) (nonces : Bytes) (indices : List ℕ) : Type 0 where
+  pub values : length table ≡ leaves s * recordValues s
+  pub nonce : length nonces ≡ 32 * leaves s
+  pub leaf : Below (leaves s) indices
+
+-- the records and the missing nodes can be written: the indices are a set of ℓ leaves, with a record each, of a tree, and the reply has room
+pub record CanList (s : Sizes) (m : ℕ) (table : List ℕ) (nonces : Bytes) (indices : List ℕ) (nodes reply : Bytes) : Type 0 where
+  pub sizes : sizesOk s ≡ true
+  pub points : m ≤ 8
+  pub recorded : CanRecord s table nonces indices
+  pub count : length indices ≡ s .ℓ
+  pub set : IndexSet (s .h) indices
+  pub tree-length : length nodes ≡ 32 * treeSize 2 (s .h)
+  pub room : nodesAt s m + 32 * length (missing 2 (s .h) indices) ≤ length reply
+  pub small : length reply ≤ 65536
+
+-- a buffer after n bytes x were written from `at` on
+abbrev pub written : ℕ → ℕ → Bytes → Bytes → Bytes
+written at n x buffer = take at buffer ++ (x ++ drop (at + n) buffer)
+
+-- the first two parts of a reply, from the extended rows one after the other
+unfoldable pub sums : Question → List ℕ → List ℕ → Bytes
+sums u x masks =
+    let s : Sizes = u .sizes in
+    bytesOf (flatten (map (batchingAt (leaves s) (width s) (rows s) x masks (u .challenges)) (upFrom 0 (s .η))))
+    ++ bytesOf (flatten (map (answerAt (width s) (rows s) x) (u .evaluationPoints)))
