@@ -1,0 +1,67 @@
+-- `report::answer` meets its contract. It asks only that the text lies within the buffer.
+use mathlib.Core.Path.{sym}
+use lib.ListN.{take}
+use lib.Seq.{length-take-le}
+use Rattle.scheme.specs.Program.{printed}
+use Rattle.report.proofs.Writing.{front-within}
+use borrow.Author.Needs.{needs}
+use Rattle.report.proofs.answer.Statement.{statement}
+use Rattle.report.proofs.answer.Tie as tie
+
+large-buffer-requires : tie.Need-large-buffer-requires
+large-buffer-requires c κs = search needs
+
+slice-aggregate-read-full : tie.Need-slice-aggregate-read-full
+slice-aggregate-read-full c = search needs
+
+read-full-requires : tie.Need-read-full-requires
+read-full-requires c κs = search needs
+
+large-buffer-requires-2 : tie.Need-large-buffer-requires-2
+large-buffer-requires-2 c κs = search needs
+
+array-share-prefix-input : tie.Need-array-share-prefix-input
+array-share-prefix-input c = search needs
+
+slice-aggregate-report : tie.Need-slice-aggregate-report
+slice-aggregate-report c = search needs
+
+slice-aggregate-report-2 : tie.Need-slice-aggregate-report-2
+slice-aggregate-report-2 c = search needs
+
+report-requires : tie.Need-report-requires
+report-requires c κs = search needs
+
+array-share-prefix-out : tie.Need-array-share-prefix-out
+array-share-prefix-out c =
+    let f = c .before .before .before .before .before .before .read-full in
+    front-within (c .before .before .before .before .large-buffer2 .result) (printed (take (f .result) (f .last .1 .0))) (c .before .report .result) (c .before .report .last .1 .0) (c .before .report .ensures)
+
+slice-aggregate-write-all : tie.Need-slice-aggregate-write-all
+slice-aggregate-write-all c =
+    let f = c .before .before .before .before .before .before .before .read-full in
+    let k = c .before .before .report in
+    sym (length-take-le (k .result) (k .last .1 .0) (front-within (c .before .before .before .before .before .large-buffer2 .result) (printed (take (f .result) (f .last .1 .0))) (k .result) (k .last .1 .0) (k .ensures)))
+
+write-all-requires : tie.Need-write-all-requires
+write-all-requires c κs = search needs
+
+returns : tie.Need-returns
+returns c = search needs
+
+pub answer-spec : {M : Type 1} → statement M
+answer-spec =
+    tie.close
+    (tie.spec
+    large-buffer-requires
+    slice-aggregate-read-full
+    read-full-requires
+    large-buffer-requires-2
+    array-share-prefix-input
+    slice-aggregate-report
+    slice-aggregate-report-2
+    report-requires
+    array-share-prefix-out
+    slice-aggregate-write-all
+    write-all-requires
+    returns)

@@ -1,0 +1,105 @@
+-- The check on words and the check on bytes.
+use mathlib.Core.Path.{_≡_, refl, sym, ap, ap₂, _∙_, subst}
+use mathlib.Core.Bool.{Bool, true, false, not}
+use mathlib.Core.List.{List, [], _∷_, _++_, append-nil}
+use Prim.Native.Nat.{ℕ, _+_, _-_, _*_, _≤_, _<_}
+use native.Mathlib.Nat.{one-mul, zero-add, sub-zero, le-of-eq, mul-le-mul, mul-le-mul-left, not-suc-le-zero}
+use native.Mathlib.Omega.{arith}
+use lib.Dec.{eqb}
+use lib.ListN.{length, take, drop, drop-of-length-le}
+use lib.Seq.{length-take-le}
+use borrow.Author.Tests.{eq-eqb, ne-eqb}
+use Rattle.lists.specs.Choice.{pick}
+use Rattle.lists.specs.Bytes.{Bytes, bytesOf}
+use Rattle.lists.specs.Tests.{Test, verdictOf, verdict-go, verdict-stop, verdict-hit}
+use Rattle.scheme.specs.Sizes.{Sizes}
+use Rattle.scheme.specs.Question.{Question, readQuestion, questionTests, questionVerdict}
+use Rattle.scheme.specs.Reply.{readReply}
+use Rattle.scheme.specs.Commit.{after}
+use Rattle.scheme.specs.Check.{checkVerdict, checkValues, replyTests, checking, checkingC}
+use Rattle.scheme.proofs.Accepted.{well-formed, question-numbers}
+use Rattle.commitment.specs.Shape.{sizesIn}
+use Rattle.commitment.specs.Questioned.{questioned}
+use Rattle.commitment.specs.declared.Shape.{Shape}
+use Rattle.commitment.specs.declared.Questioned.the-variants.{WellFormed, Refused}
+use Rattle.commitment.proofs.Answer.{well-asked, refused}
+use Rattle.smallwood.specs.InBytes.{inBytes}
+
+-- ---- words written as bytes
+
+module _ (z : ℕ × List ℕ) (before : Bytes) (v : ℕ) (vs : List ℕ) (e : (v, vs) ≡ z) where
+  pub bytes-refused : (v ≡ 0 → ⊥) → (v, before) ≡ inBytes z before
+  bytes-refused k = ap (λ (b : Bool). (v, pick b (bytesOf vs) before)) (sym (ne-eqb v 0 k)) ∙ ap (λ (x : ℕ × List ℕ). inBytes x before) e
+
+  pub bytes-taken : v ≡ 0 → length before ≡ 4 * length vs → (out : Bytes) → out ≡ take 0 before ++ (bytesOf vs ++ drop (0 + 4 * length vs) before) → (0, out) ≡ inBytes z before
+  bytes-taken k n out f =
+      let none : drop (0 + 4 * length vs) before ≡ [] = drop-of-length-le before (le-of-eq (n ∙ sym (zero-add (4 * length vs)))) in
+      ap (λ (t : Bytes). (0, t)) (f ∙ ap (λ (t : Bytes). bytesOf vs ++ t) none ∙ append-nil (bytesOf vs))
+      ∙ ap (λ (n : ℕ). inBytes (n, vs) before) (sym k)
+      ∙ ap (λ (x : ℕ × List ℕ). inBytes x before) e
+
+once : (b : Bool) (vs words : List ℕ) (before : Bytes) → pick b (bytesOf (pick b vs words)) before ≡ pick b (bytesOf vs) before
+once true vs words before = refl
+once false vs words before = refl
+
+-- ---- the question's answer
+
+-- the values fit into 2,048 words
+pub few-values : (b : Bytes) (s : Shape) (m : ℕ) → questioned b ≡ WellFormed s m → s .w * m ≤ 2048
+few-values b s m e =
+    let a = well-asked b s m e in
+    let h = well-formed b (a .0) in
+    let hm : m ≤ 8 = subst (λ (n : ℕ). n ≤ 8) (sym (a .2)) (h .m-high) in
+    let g = subst (λ (t : Sizes). (1 ≤ t .ν) × (t .w * t .ν ≤ 256)) (sym (a .1)) (h .sizes-good .ν-low, h .sizes-good .columns-high) in
+    let one : s .w * 1 ≤ s .w * s .nu = mul-le-mul-left (s .w) (g .0) in
+    let hw : s .w ≤ 256 = omega (arith, g .1) in
+    mul-le-mul hw hm
+
+pub front-length : (n : ℕ) (l : List ℕ) → n ≤ length l → length (take (n - 0) l) ≡ n
+front-length n l h = ap (λ (k : ℕ). length (take k l)) (sub-zero n) ∙ length-take-le n l h
+
+module _ (question reply before : Bytes) where
+  -- a refusal changes nothing
+  unchanged : (v : ℕ) → 0 < v → checkVerdict 4 question reply (length before) ≡ v → (v, before) ≡ checkingC question reply before
+  unfolding checkingC
+  unchanged v p e =
+      let u : Question = readQuestion question in
+      let k : v ≡ 0 → ⊥ = λ z. not-suc-le-zero (subst (λ (n : ℕ). 0 < n) z p) in
+      ap (λ (b : Bool). (v, pick b (bytesOf (checkValues u (readReply u reply))) before)) (sym (ne-eqb v 0 k))
+      ∙ ap (λ (n : ℕ). (n, after n (bytesOf (checkValues u (readReply u reply))) before)) (sym e)
+
+  pub question-refused : (v : ℕ) → questioned question ≡ Refused v → (v, before) ≡ checkingC question reply before
+  unfolding checkVerdict
+  question-refused v e = let a = refused question v e in unchanged v (a .1) (verdict-stop (questionTests question) _ v (a .1) (a .0))
+
+  module _ (s : Shape) (m : ℕ) (e : questioned question ≡ WellFormed s m) where
+    count : s .w * m ≡ readQuestion question .sizes .w * readQuestion question .m
+    count = let a = well-asked question s m e in ap₂ (λ (t : Sizes) (j : ℕ). t .w * j) (a .1) (a .2)
+
+    pub wrong-length : (length before ≡ 4 * (s .w * m) → ⊥) → (2, before) ≡ checkingC question reply before
+    unfolding checkVerdict
+    wrong-length k =
+        let u : Question = readQuestion question in
+        unchanged 2 (omega arith)
+        (verdict-go (questionTests question) _ (question-numbers question) (well-asked question s m e .0)
+        ∙ verdict-hit 2 (not (eqb (length before) (4 * (u .sizes .w * u .m)))) (replyTests u reply)
+        (ap not (ne-eqb (length before) (4 * (u .sizes .w * u .m)) (λ z. k (z ∙ ap (λ (n : ℕ). 4 * n) (sym count))))))
+
+    same-verdict : (n : ℕ) → length before ≡ 4 * (s .w * m) → n ≡ s .w * m → checkVerdict 1 question reply n ≡ checkVerdict 4 question reply (length before)
+    unfolding checkVerdict
+    same-verdict n h k =
+        let u : Question = readQuestion question in
+        let l : ℕ = u .sizes .w * u .m in
+        ap (λ (b : Bool). verdictOf (questionTests question ++ ((2, not b) ∷ replyTests u reply)))
+        (eq-eqb n (1 * l) (k ∙ count ∙ sym (one-mul l)) ∙ sym (eq-eqb (length before) (4 * l) (h ∙ ap (λ (j : ℕ). 4 * j) count)))
+
+    pub checked-bytes : (words : List ℕ) (z : ℕ × Bytes) → length before ≡ 4 * (s .w * m) → length words ≡ s .w * m
+        → z ≡ inBytes (checking question reply words) before → z ≡ checkingC question reply before
+    unfolding checking checkingC
+    checked-bytes words z h k f =
+        let u : Question = readQuestion question in
+        let vs : List ℕ = checkValues u (readReply u reply) in
+        let v : ℕ = checkVerdict 1 question reply (length words) in
+        f
+        ∙ ap (λ (x : Bytes). (v, x)) (once (eqb v 0) vs words before)
+        ∙ ap (λ (n : ℕ). (n, after n (bytesOf vs) before)) (same-verdict (length words) h k)

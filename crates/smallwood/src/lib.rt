@@ -1,0 +1,119 @@
+// The entries for C. A slice is a pointer and a length in elements; no entry keeps anything between calls.
+ghost use mathlib.Core.Path.{_≡_};
+ghost use Prim.Native.Nat.{_*_};
+ghost use lib.ListN.{length};
+ghost use Rattle.scheme.specs.Sizes.{sizesOf};
+ghost use Rattle.scheme.specs.Layers.{lentOf};
+ghost use Rattle.scheme.specs.Commit.{committing};
+ghost use Rattle.scheme.specs.Open.{openingC};
+ghost use Rattle.scheme.specs.Check.{checking, checkingC};
+ghost use Rattle.smallwood.specs.InBytes.{inBytes};
+use commitment::Questioned;
+use commitment::ask;
+use commitment::put_words;
+use opener::Opened;
+
+// Commits: fills the table and the tree, or returns the number of a refusal and leaves them as they were.
+#[no_mangle]
+pub extern "C" fn smallwood_commit(
+    h: u32,
+    mu: u32,
+    nu: u32,
+    w: u32,
+    l: u32,
+    eta: u32,
+    coefficients: &[u32],
+    tails: &[u32],
+    masks: &[u32],
+    nonces: &[u8],
+    table: &mut [u32],
+    tree: &mut [u8],
+) -> u32
+    ensures { λ r. ⌜ (r, now (table .exit), now (tree .exit)) ≡ committing (sizesOf h mu nu w l eta) (lentOf (now (coefficients .entry)) (now (tails .entry)) (now (masks .entry)) (now (nonces .entry))) (now (table .entry)) (now (tree .entry)) ⌝ }
+{
+    committer::commit(
+        h,
+        mu,
+        nu,
+        w,
+        l,
+        eta,
+        coefficients,
+        tails,
+        masks,
+        nonces,
+        table,
+        tree,
+    )
+}
+
+// Opens: writes the reply and its length, or returns the number of a refusal and leaves both as they were.
+#[no_mangle]
+pub extern "C" fn smallwood_open(
+    question: &[u8],
+    coefficients: &[u32],
+    tails: &[u32],
+    masks: &[u32],
+    table: &[u32],
+    nonces: &[u8],
+    tree: &[u8],
+    reply: &mut [u8],
+    length: &mut u64,
+) -> u32
+    ensures { λ r. ⌜ (r, now (length .exit), now (reply .exit)) ≡ openingC (now (question .entry)) (lentOf (now (coefficients .entry)) (now (tails .entry)) (now (masks .entry)) (now (nonces .entry))) (now (table .entry)) (now (tree .entry)) (now (reply .entry)) (now (length .entry)) ⌝ }
+{
+    let answer = opener::open(
+        question,
+        coefficients,
+        tails,
+        masks,
+        table,
+        nonces,
+        tree,
+        reply,
+    );
+    match answer {
+        Opened::Reply(n) => {
+            *length = n as u64;
+            0
+        }
+        Opened::Refused(v) => v,
+    }
+}
+
+// Room for the values as words. A function of its own, so that a caller's goals do not show 2,048 zeros.
+fn blank() -> [u32; 2048] {
+    [0u32; 2048]
+}
+
+// The check by way of lent words, which are written as bytes on verdict 0.
+fn check_into(question: &[u8], reply: &[u8], words: &mut [u32], values: &mut [u8]) -> u32
+    requires { ⌜ length (now values) ≡ 4 * length (now words) ⌝ }
+    ensures { λ r. ⌜ (r, now (values .exit)) ≡ inBytes (checking (now (question .entry)) (now (reply .entry)) (now (words .entry))) (now (values .entry)) ⌝ }
+{
+    let verdict = checker::check(question, reply, words);
+    if verdict != 0 {
+        return verdict;
+    }
+    put_words(values, 0, words);
+    0
+}
+
+// Checks: writes the values, four bytes each, or returns the number of a refusal and leaves them as they were.
+#[no_mangle]
+pub extern "C" fn smallwood_check(question: &[u8], reply: &[u8], values: &mut [u8]) -> u32
+    ensures { λ r. ⌜ (r, now (values .exit)) ≡ checkingC (now (question .entry)) (now (reply .entry)) (now (values .entry)) ⌝ }
+{
+    let answer = ask(question);
+    match answer {
+        Questioned::WellFormed(s, m) => {
+            let n = s.w as usize * m as usize;
+            if values.len() != 4 * n {
+                return 2;
+            }
+            let mut words = blank();
+            check_into(question, reply, &mut words[0..n], values)
+        }
+        Questioned::Refused(v) => v,
+    }
+}

@@ -1,0 +1,4 @@
+// The checking program on empty input.
+fn main() {
+    report::answer(0);
+}

@@ -1,0 +1,128 @@
+/*
+ * SmallWood: a polynomial commitment over the field of q = 4294967291 elements.
+ *
+ * Three entries: commit, open, check. Each is proved to return the number and to leave the contents that the definitions give, for
+ * every input that keeps the rules below. Link with libsmallwood.a; it needs no other library.
+ *
+ * Rules for a caller
+ *
+ *   Slices      A pointer and a length in elements (not in bytes, where the elements are 32-bit words). A slice of length 0 may be NULL.
+ *   Alignment   A pointer to 32-bit words is aligned for uint32_t, one to a 64-bit number for uint64_t.
+ *   Overlap     A slice that a call writes overlaps no other slice of that call. Slices that a call only reads may overlap.
+ *   Threads     No entry keeps anything between calls: no globals, no heap, no files. Any number of threads may call at once on slices
+ *               of their own; slices that are only read may be shared. A call takes at most about 170 kilobytes of stack.
+ *   Numbers     Words are in the machine's order. Multi-byte numbers in questions, replies and the check's values are little-endian.
+ *
+ * What a call returns
+ *
+ *   0 where none of the tests below holds, and then the slices are filled. Otherwise the number of the first test that holds, and then
+ *   every slice, and the length that opening writes, is as it was: all tests come before the first write.
+ *
+ *    1   a size is outside its range, or w nu + l > N
+ *    2   a lent slice is of wrong length
+ *    3   an element is not below q
+ *    4   the indices do not rise strictly, or one of them is not below N
+ *    5   the mark or the version is wrong
+ *    6   the question is under 14 bytes, or not of the length that its header gives
+ *    7   the reply is not of its length
+ *    8   the root differs
+ *    9   a batching answer fails at an opened leaf
+ *   10   an evaluation answer fails at an opened leaf
+ *
+ * Sizes
+ *
+ *    h     depth of the tree, N = 2^h leaves         1 to 12
+ *    mu    rows                                      1 to 64
+ *    nu    columns per polynomial                    1 to 256
+ *    w     polynomials                               1 to 256, and w nu at most 256
+ *    l     opened leaves                             1 to 64, and w nu + l at most N
+ *    eta   batching repetitions                      1 to 4
+ *    m     evaluation points of a question           1 to 8
+ *
+ *   Below, width is w nu + l: the number of coefficients of a row's polynomial.
+ *
+ * A question
+ *
+ *   "SWQ", version (2 bytes, 1), h, mu (1 byte each), nu, w (2 bytes each), l, eta, m (1 byte each): the header, 14 bytes.
+ *   Then the root (32 bytes), eta challenges and m points (4 bytes each, below q), l leaf indices (2 bytes each, strictly rising).
+ *
+ * A reply
+ *
+ *   eta batching answers of width words each; for each point w nu column values and l tail values; for each index mu row values, eta mask
+ *   values and a nonce of 32 bytes; then the missing nodes of the tree, 32 bytes each. Words take 4 bytes.
+ *   Its length is 4 width (eta + m) + l (4 (mu + eta) + 32) + 32 for each missing node, of which there are at most l h.
+ */
+#ifndef SMALLWOOD_H
+#define SMALLWOOD_H
+
+#include <stddef.h>
+#include <stdint.h>
+
+#ifdef __cplusplus
+extern "C" {
+#endif
+
+/* The number of elements of the field. */
+#define SMALLWOOD_Q 4294967291u
+
+/*
+ * Commits to w polynomials of mu nu coefficients each.
+ *
+ *   Reads                                                                             length
+ *     coefficients   polynomial by polynomial, lowest first; elements                 w mu nu
+ *     tails          row by row; random elements                                      mu l
+ *     masks          repetition by repetition, width coefficients each, lowest first; random elements   eta width
+ *     nonces         leaf by leaf, 32 random bytes each                               32 N
+ *   Fills
+ *     table          leaf by leaf: mu row values, then eta mask values                N (mu + eta)
+ *     tree           leaf digests, then each level above; the root is the last 32 bytes   32 (2 N - 1)
+ *
+ * Returns 0, or the first of: 1; 2, for any of the six; 3, in coefficients, tails or masks.
+ */
+uint32_t smallwood_commit(uint32_t h, uint32_t mu, uint32_t nu, uint32_t w, uint32_t l, uint32_t eta,
+                          const uint32_t *coefficients, size_t coefficients_length,
+                          const uint32_t *tails, size_t tails_length,
+                          const uint32_t *masks, size_t masks_length,
+                          const uint8_t *nonces, size_t nonces_length,
+                          uint32_t *table, size_t table_length,
+                          uint8_t *tree, size_t tree_length);
+
+/*
+ * Opens a commitment: writes the reply to a question, from what was lent to smallwood_commit and what it left in table and tree.
+ * The table and the tree are taken as they are. The sizes are those of the question's header.
+ *
+ *   Fills
+ *     reply          a buffer for a reply with l h nodes        4 width (eta + m) + l (4 (mu + eta) + 32) + 32 l h
+ *     length         the reply's true length; the buffer's bytes after it stay as they were. A refusal leaves *length as it was.
+ *
+ * Returns 0, or the first of: 6, 5, 1, 6, 3, 4 for the question (6 for under 14 bytes, then 6 for another length than the header's);
+ * 2, for any of the seven other slices; 3, in any lent words, the table too; 8, where the tree's last 32 bytes are not the question's root.
+ */
+uint32_t smallwood_open(const uint8_t *question, size_t question_length,
+                        const uint32_t *coefficients, size_t coefficients_length,
+                        const uint32_t *tails, size_t tails_length,
+                        const uint32_t *masks, size_t masks_length,
+                        const uint32_t *table, size_t table_length,
+                        const uint8_t *nonces, size_t nonces_length,
+                        const uint8_t *tree, size_t tree_length,
+                        uint8_t *reply, size_t reply_length,
+                        uint64_t *length);
+
+/*
+ * Checks a reply to a question, and on 0 hands out the polynomials' values.
+ *
+ *   Fills
+ *     values         point by point, the value of each of the w polynomials: 4 bytes each, lowest first      4 w m
+ *
+ * Returns 0, or the first of: 6, 5, 1, 6, 3, 4 for the question, as above; 2, where values has not 4 w m bytes; 7; 3, in the reply; 8; 9; 10.
+ * One accepted reply alone does not make its values true: what accepted replies together guarantee is said in the project's promises.
+ */
+uint32_t smallwood_check(const uint8_t *question, size_t question_length,
+                         const uint8_t *reply, size_t reply_length,
+                         uint8_t *values, size_t values_length);
+
+#ifdef __cplusplus
+}
+#endif
+
+#endif

@@ -1,0 +1,430 @@
+/* Cost of the library beside the plain C implementation, on the same inputs in one run.
+ *
+ *     bench                      all tables below, in Markdown
+ *     bench times                time of committing, opening, checking at six sizes
+ *     bench growth               how the library's time grows with each size
+ *     bench stack                stack that each entry uses
+ *     bench names                the implementations, one to a line
+ *     bench once OP SIZE NAME    one call alone, to be counted by valgrind (bench.sh)
+ *     bench permutations OP SIZE permutations of Keccak in that call
+ *
+ * Built with -DPLAIN_OPENSSL, plain_* hashes with OpenSSL and plain_keccak_* with plain/keccak.c; without it
+ * only plain_* is there, with plain/keccak.c. Times are processor time of this program. */
+#define _GNU_SOURCE
+#include <inttypes.h>
+#include <pthread.h>
+#include <stdio.h>
+#include <stdlib.h>
+#include <string.h>
+#include <sys/mman.h>
+#include <time.h>
+
+#include "instance.h"
+#include "plain/shake.h"
+
+ENTRIES(smallwood);
+ENTRIES(plain);
+ENTRIES(plain_keccak);
+
+#define ROUNDS 25          /* runs of which least and median are taken */
+#define RUN_SECONDS 2e-3   /* a run repeats the call for about so long */
+#define STACK_BYTES ((size_t)16 << 20)
+#define STACK_BYTE 0x5a
+
+enum operation { COMMIT, OPEN, CHECK, OPERATIONS };
+
+static const char *const operation_names[OPERATIONS] = {"commit", "open", "check"};
+
+static const struct implementation implementations[] = {
+    IMPLEMENTATION(smallwood),
+    IMPLEMENTATION(plain),
+#ifdef PLAIN_OPENSSL
+    IMPLEMENTATION(plain_keccak),
+#endif
+};
+
+static const char *const shown_names[] = {
+    "library",
+#ifdef PLAIN_OPENSSL
+    "plain C, OpenSSL",
+#endif
+    "plain C",
+};
+
+#define IMPLEMENTATIONS (sizeof implementations / sizeof implementations[0])
+
+static const struct sizes six_sizes[] = {
+    {1, 1, 1, 1, 1, 1, 1},     {4, 4, 2, 2, 4, 1, 1},      {6, 8, 4, 4, 8, 2, 1},
+    {8, 16, 8, 8, 16, 2, 2},   {10, 32, 16, 8, 32, 3, 4},  {12, 64, 16, 16, 64, 4, 8},
+};
+
+#define SIZES (sizeof six_sizes / sizeof six_sizes[0])
+
+static uint32_t call(const struct implementation *with, enum operation operation,
+                     struct instance *a)
+{
+    switch (operation) {
+    case COMMIT:
+        return commit_with(with, a);
+    case OPEN:
+        return open_with(with, a);
+    default:
+        return check_with(with, a);
+    }
+}
+
+/* An instance on which the last implementation has done what comes before the operation. It depends on
+ * nothing but the sizes. */
+static struct instance *prepared(struct sizes s, enum operation operation)
+{
+    const struct implementation *with = &implementations[IMPLEMENTATIONS - 1];
+    struct instance *a;
+
+    draw_again();
+    a = make_instance(s);
+    if (operation > COMMIT) {
+        if (call(with, COMMIT, a) != 0)
+            fail("committing was refused");
+        ask(a);
+    }
+    if (operation > OPEN && call(with, OPEN, a) != 0)
+        fail("opening was refused");
+    return a;
+}
+
+/* Clears what an operation writes, or copies it out; returns its bytes. */
+static size_t outcome(struct instance *a, enum operation operation, uint8_t *copy)
+{
+    uint8_t *first = operation == COMMIT ? a->tree : operation == OPEN ? a->reply : a->values;
+    size_t bytes = operation == COMMIT ? a->tree_bytes
+                   : operation == OPEN ? a->reply_bytes
+                                       : a->value_bytes;
+    size_t more = operation == COMMIT ? 4 * a->table_count : operation == OPEN ? 8 : 0;
+    void *second = operation == COMMIT ? (void *)a->table : (void *)&a->length;
+
+    if (copy == NULL) {
+        memset(first, 0, bytes);
+        memset(second, 0, more);
+    } else {
+        memcpy(copy, first, bytes);
+        memcpy(copy + bytes, second, more);
+    }
+    return bytes + more;
+}
+
+/* All implementations have to leave the same. */
+static void compare(struct instance *a, enum operation operation)
+{
+    size_t bytes = outcome(a, operation, NULL);
+    uint8_t *first = allocate(bytes), *other = allocate(bytes);
+
+    for (size_t i = 0; i < IMPLEMENTATIONS; i++) {
+        outcome(a, operation, NULL);
+        if (call(&implementations[i], operation, a) != 0)
+            fail("an honest call was refused");
+        outcome(a, operation, i == 0 ? first : other);
+        if (i > 0 && memcmp(first, other, bytes) != 0)
+            fail("the implementations differ");
+    }
+    free(first);
+    free(other);
+}
+
+/* ---- Permutations of Keccak, from the lengths of the strings hashed ------------------------------- */
+
+static uint64_t permutations_of(size_t string)
+{
+    return string / RATE_BYTES + 1;
+}
+
+static uint64_t permutations(const struct instance *a, enum operation operation)
+{
+    const struct sizes *s = &a->s;
+    uint64_t leaves = (uint64_t)1 << s->h, nodes = 0;
+    uint64_t leaf = permutations_of(3 + 4 * (s->mu + s->eta) + 32);
+    uint64_t node = permutations_of(1 + 2 * DIGEST_BYTES);
+
+    if (operation == COMMIT)
+        return leaves * leaf + (leaves - 1) * node;
+    if (operation == OPEN)
+        return 0;
+    for (uint32_t level = 1; level <= s->h; level++)
+        for (uint32_t b = 0; b < s->l; b++)
+            nodes += b == 0 || a->indices[b] >> level != a->indices[b - 1] >> level;
+    return s->l * leaf + nodes * node;
+}
+
+/* ---- Times --------------------------------------------------------------------------------------- */
+
+struct timing {
+    double least, median; /* seconds of one call */
+};
+
+static double now(void)
+{
+    struct timespec t;
+
+    clock_gettime(CLOCK_PROCESS_CPUTIME_ID, &t);
+    return (double)t.tv_sec + 1e-9 * (double)t.tv_nsec;
+}
+
+static int by_size(const void *a, const void *b)
+{
+    double x = *(const double *)a, y = *(const double *)b;
+
+    return (x > y) - (x < y);
+}
+
+static double run(const struct implementation *with, enum operation operation, struct instance *a,
+                  uint64_t times)
+{
+    double start = now();
+
+    for (uint64_t i = 0; i < times; i++)
+        call(with, operation, a);
+    return (now() - start) / (double)times;
+}
+
+/* The first `count` implementations in turn, each round beginning with another one. */
+static void measure(struct instance *a, enum operation operation, size_t count,
+                    struct timing *found)
+{
+    static double seconds[IMPLEMENTATIONS][ROUNDS];
+    double once = run(&implementations[0], operation, a, 1);
+    uint64_t times = once < RUN_SECONDS ? (uint64_t)(RUN_SECONDS / (once + 1e-8)) + 1 : 1;
+
+    for (size_t r = 0; r < ROUNDS; r++)
+        for (size_t i = 0; i < count; i++) {
+            size_t turn = (r + i) % count;
+            seconds[turn][r] = run(&implementations[turn], operation, a, times);
+        }
+    for (size_t i = 0; i < count; i++) {
+        qsort(seconds[i], ROUNDS, sizeof(double), by_size);
+        found[i].least = seconds[i][0];
+        found[i].median = seconds[i][ROUNDS / 2];
+    }
+}
+
+static void print_sizes(const struct sizes *s)
+{
+    printf("| %u | %u | %u | %u | %u | %u | %u ", s->h, s->mu, s->nu, s->w, s->l, s->eta, s->m);
+}
+
+static void show_times(void)
+{
+    printf("\nMicroseconds of processor time for one call, least (median) of %d runs in turn; the ratio is "
+           "the library's least over the other's least, and in brackets that of the medians.\n\n",
+           ROUNDS);
+    printf("| h | mu | nu | w | l | eta | m | operation | permutations ");
+    for (size_t i = 0; i < IMPLEMENTATIONS; i++)
+        printf("| %s ", shown_names[i]);
+    for (size_t i = 1; i < IMPLEMENTATIONS; i++)
+        printf("| to %s ", shown_names[i]);
+    printf("|\n|---|---|---|---|---|---|---|---|---|");
+    for (size_t i = 1; i < 2 * IMPLEMENTATIONS; i++)
+        printf("---|");
+    puts("");
+    for (size_t n = 0; n < SIZES; n++)
+        for (enum operation operation = 0; operation < OPERATIONS; operation++) {
+            struct instance *a = prepared(six_sizes[n], operation);
+            struct timing found[IMPLEMENTATIONS];
+            compare(a, operation);
+            measure(a, operation, IMPLEMENTATIONS, found);
+            print_sizes(&a->s);
+            printf("| %s | %" PRIu64 " ", operation_names[operation], permutations(a, operation));
+            for (size_t i = 0; i < IMPLEMENTATIONS; i++)
+                printf("| %.2f (%.2f) ", 1e6 * found[i].least, 1e6 * found[i].median);
+            for (size_t i = 1; i < IMPLEMENTATIONS; i++)
+                printf("| %.2f (%.2f) ", found[0].least / found[i].least,
+                       found[0].median / found[i].median);
+            puts("|");
+            fflush(stdout);
+            free_instance(a);
+        }
+}
+
+/* ---- Growth -------------------------------------------------------------------------------------- */
+
+/* `size` is one of the sizes in s; it doubles, and h goes up by 1. */
+static void show_growth_of(const char *name, struct sizes *s, uint32_t *size, uint32_t first,
+                           uint32_t last)
+{
+    double before[OPERATIONS] = {0};
+    uint32_t kept = *size;
+
+    for (uint32_t value = first; value <= last; value = size == &s->h ? value + 1 : 2 * value) {
+        *size = value;
+        printf("| %s | %u ", name, size == &s->h ? 1u << value : value);
+        for (enum operation operation = 0; operation < OPERATIONS; operation++) {
+            struct instance *a = prepared(*s, operation);
+            struct timing found;
+            measure(a, operation, 1, &found);
+            printf("| %.1f ", 1e6 * found.least);
+            if (before[operation] > 0)
+                printf("| %.2f ", found.least / before[operation]);
+            else
+                printf("| ");
+            before[operation] = found.least;
+            free_instance(a);
+        }
+        puts("|");
+        fflush(stdout);
+    }
+    *size = kept;
+}
+
+static void show_growth(void)
+{
+    struct sizes s = {10, 16, 8, 8, 16, 2, 2};
+
+    printf("\nThe library's least microseconds as one size doubles and the others stay (h=%u, mu=%u, nu=%u, "
+           "w=%u, l=%u, eta=%u, m=%u), with the factor to the line above.\n\n",
+           s.h, s.mu, s.nu, s.w, s.l, s.eta, s.m);
+    puts("| doubled | to | commit | factor | open | factor | check | factor |");
+    puts("|---|---|---|---|---|---|---|---|");
+    show_growth_of("N", &s, &s.h, 7, 12);
+    show_growth_of("mu (rows)", &s, &s.mu, 4, 64);
+    show_growth_of("l", &s, &s.l, 4, 64);
+    show_growth_of("nu (w = 8)", &s, &s.nu, 2, 32);
+    show_growth_of("eta", &s, &s.eta, 1, 4);
+    show_growth_of("m", &s, &s.m, 1, 8);
+}
+
+/* ---- Stack --------------------------------------------------------------------------------------- */
+
+struct stack_call {
+    const struct implementation *with; /* NULL: no call */
+    enum operation operation;
+    struct instance *a;
+    uint32_t number;
+};
+
+static void *on_thread(void *data)
+{
+    struct stack_call *c = data;
+
+    if (c->with != NULL)
+        c->number = call(c->with, c->operation, c->a);
+    return NULL;
+}
+
+/* Bytes of a painted stack that a thread with this call has touched. */
+static size_t touched(struct stack_call *c)
+{
+    uint8_t *stack = mmap(NULL, STACK_BYTES, PROT_READ | PROT_WRITE,
+                          MAP_PRIVATE | MAP_ANONYMOUS | MAP_STACK, -1, 0);
+    pthread_attr_t attributes;
+    pthread_t thread;
+    size_t at = 0;
+
+    if (stack == MAP_FAILED)
+        fail("no memory for a stack");
+    memset(stack, STACK_BYTE, STACK_BYTES);
+    if (pthread_attr_init(&attributes) != 0 ||
+        pthread_attr_setstack(&attributes, stack, STACK_BYTES) != 0 ||
+        pthread_create(&thread, &attributes, on_thread, c) != 0 || pthread_join(thread, NULL) != 0)
+        fail("no thread");
+    pthread_attr_destroy(&attributes);
+    while (at < STACK_BYTES && stack[at] == STACK_BYTE)
+        at++;
+    munmap(stack, STACK_BYTES);
+    return STACK_BYTES - at;
+}
+
+static void show_stack(void)
+{
+    struct stack_call none = {.with = NULL};
+    size_t base = touched(&none);
+
+    puts("\nBytes of stack that one call uses: a painted stack's touched part, less that of a thread without a "
+         "call.\n");
+    printf("| h | mu | nu | w | l | eta | m ");
+    for (size_t i = 0; i < IMPLEMENTATIONS; i++)
+        for (enum operation operation = 0; operation < OPERATIONS; operation++)
+            printf("| %s, %s ", operation_names[operation], shown_names[i]);
+    printf("|\n|---|---|---|---|---|---|---|");
+    for (size_t i = 0; i < OPERATIONS * IMPLEMENTATIONS; i++)
+        printf("---|");
+    puts("");
+    for (size_t n = 0; n < SIZES; n++) {
+        print_sizes(&six_sizes[n]);
+        for (size_t i = 0; i < IMPLEMENTATIONS; i++)
+            for (enum operation operation = 0; operation < OPERATIONS; operation++) {
+                struct instance *a = prepared(six_sizes[n], operation);
+                struct stack_call c = {&implementations[i], operation, a, 0};
+                size_t used = touched(&c);
+                if (c.number != 0)
+                    fail("an honest call was refused");
+                printf("| %zu ", used > base ? used - base : 0);
+                free_instance(a);
+            }
+        puts("|");
+        fflush(stdout);
+    }
+}
+
+/* ---- One call ------------------------------------------------------------------------------------ */
+
+static enum operation operation_named(const char *name)
+{
+    for (enum operation operation = 0; operation < OPERATIONS; operation++)
+        if (strcmp(operation_names[operation], name) == 0)
+            return operation;
+    fail("no such operation");
+    return OPERATIONS;
+}
+
+static const struct sizes *sizes_numbered(const char *number)
+{
+    size_t n = (size_t)atoi(number);
+
+    if (n < 1 || n > SIZES)
+        fail("sizes are numbered from 1 to 6");
+    return &six_sizes[n - 1];
+}
+
+static void once(const char *operation, const char *size, const char *name)
+{
+    struct instance *a = prepared(*sizes_numbered(size), operation_named(operation));
+
+#ifdef PLAIN_OPENSSL
+    uint8_t digest[DIGEST_BYTES];
+    evp_digest(NULL, 0, digest); /* looks the algorithm up, outside the call that is counted */
+#endif
+    for (size_t i = 0; i < IMPLEMENTATIONS; i++)
+        if (strcmp(implementations[i].name, name) == 0) {
+            if (call(&implementations[i], operation_named(operation), a) != 0)
+                fail("an honest call was refused");
+            free_instance(a);
+            return;
+        }
+    fail("no such implementation");
+}
+
+int main(int count, char **words)
+{
+    const char *mode = count > 1 ? words[1] : "all";
+    int all = strcmp(mode, "all") == 0;
+
+    if (count == 5 && strcmp(mode, "once") == 0) {
+        once(words[2], words[3], words[4]);
+    } else if (count == 4 && strcmp(mode, "permutations") == 0) {
+        struct instance *a = prepared(*sizes_numbered(words[3]), CHECK);
+        printf("%" PRIu64 "\n", permutations(a, operation_named(words[2])));
+        free_instance(a);
+    } else if (strcmp(mode, "names") == 0) {
+        for (size_t i = 0; i < IMPLEMENTATIONS; i++)
+            printf("%s\n", implementations[i].name);
+    } else if (all || strcmp(mode, "times") == 0 || strcmp(mode, "growth") == 0 ||
+               strcmp(mode, "stack") == 0) {
+        if (all || strcmp(mode, "times") == 0)
+            show_times();
+        if (all || strcmp(mode, "growth") == 0)
+            show_growth();
+        if (all || strcmp(mode, "stack") == 0)
+            show_stack();
+    } else {
+        fail("usage: bench [times | growth | stack | names | once OP SIZE NAME | permutations OP SIZE]");
+    }
+    return 0;
+}

@@ -1,0 +1,90 @@
+#!/bin/sh
+# Cost of the library beside the plain C implementation; prints Markdown tables.
+#
+#     tools/bench.sh                   times, growth, stack, and instructions where valgrind is installed
+#     tools/bench.sh times             one of: times, growth, stack, instructions
+#
+#     --archive FILE     measures this archive and does not build the library
+#     --stand-in         measures the plain C implementation, to test these tools
+#
+# Needs gcc, and rt unless an archive is given. With OpenSSL's headers (libssl-dev) the plain implementation
+# is measured with OpenSSL's hash too; with valgrind instructions are counted.
+
+set -eu
+. "$(dirname "$0")/common.sh"
+
+read_options "$@"
+need_compiler
+find_archive
+
+object keccak.o plain/keccak.c
+objects=$build/keccak.o
+if has_openssl; then
+    object plain.o plain/plain.c -DPLAIN_OPENSSL
+    object plain-keccak.o plain/plain.c -DPLAIN_PREFIX=plain_keccak
+    object evp.o plain/evp.c
+    objects="$objects $build/plain.o $build/plain-keccak.o $build/evp.o"
+    with="-DPLAIN_OPENSSL -lcrypto"
+else
+    echo "OpenSSL's headers (libssl-dev) are not installed: only plain/keccak.c is measured beside the library"
+    object plain.o plain/plain.c
+    objects="$objects $build/plain.o"
+    with=
+fi
+# With all symbols bound at the start, no count includes the linker's work.
+# shellcheck disable=SC2086
+"$CC" $CFLAGS "$tools/bench.c" "$tools/instance.c" $objects "$archive" $with -lpthread -Wl,-z,now -o "$build/bench"
+
+# count OPERATION SIZE NAME: instructions inside that call
+count() {
+    valgrind --tool=callgrind --callgrind-out-file=/dev/null --toggle-collect="$3_$1" \
+        "$build/bench" once "$1" "$2" "$3" 2>&1 | sed -n 's/.*Collected : \([0-9]*\).*/\1/p'
+}
+
+instructions() {
+    names=$("$build/bench" names)
+    printf '\nInstructions of one call (callgrind), and the ratio of the library to each of the others. Sizes as '
+    printf 'above, from the first.\n\n| size | operation | permutations '
+    for name in $names; do printf '| %s ' "$name"; done
+    for name in $names; do [ "$name" = smallwood ] || printf '| to %s ' "$name"; done
+    printf '|\n|---|---|---|'
+    for name in $names; do printf -- '---|'; done
+    for name in $names; do [ "$name" = smallwood ] || printf -- '---|'; done
+    echo
+    for size in 1 2 3 4 5 6; do
+        for operation in commit open check; do
+            printf '| %s | %s | %s ' "$size" "$operation" "$("$build/bench" permutations "$operation" "$size")"
+            ratios=
+            for name in $names; do
+                found=$(count "$operation" "$size" "$name")
+                [ -n "$found" ] || fail "callgrind gave no count for ${name}_$operation"
+                printf '| %s ' "$found"
+                if [ "$name" = smallwood ]; then
+                    library=$found
+                else
+                    ratios="$ratios| $(awk "BEGIN { printf \"%.2f\", $library / $found }") "
+                fi
+            done
+            echo "$ratios|"
+        done
+    done
+}
+
+# shellcheck disable=SC2086
+set -- $words
+case ${1:-all} in
+    all)
+        "$build/bench"
+        if command -v valgrind > /dev/null 2>&1; then
+            instructions
+        else
+            echo "valgrind is not installed: instructions are not counted"
+        fi
+        ;;
+    times | growth | stack) exec "$build/bench" "$1" ;;
+    instructions)
+        need valgrind "to count instructions"
+        instructions
+        ;;
+    *) fail "no such table: $1" ;;
+esac

@@ -1,0 +1,91 @@
+# Sourced by the scripts beside it: tests for what they need, and builds into target/tools/.
+
+root=$(cd "$(dirname "$0")/.." && pwd)
+tools=$root/tools
+build=$root/target/tools
+CC=${CC:-gcc}
+CFLAGS=${CFLAGS:--O3 -Wall -Wextra -Werror}
+
+fail() {
+    echo "$(basename "$0"): $1" >&2
+    exit 2
+}
+
+# need COMMAND WHAT-FOR
+need() {
+    command -v "$1" > /dev/null 2>&1 || fail "'$1' is not installed; it is needed $2"
+}
+
+need_compiler() {
+    need "$CC" "to compile the C programs (or name another compiler in CC)"
+    mkdir -p "$build"
+}
+
+need_python() {
+    need python3 "to run the second implementation in reference/"
+    python3 -c 'import sys; sys.exit(sys.version_info < (3, 9))' || fail "python3 must be 3.9 or later"
+    export PYTHONDONTWRITEBYTECODE=1
+}
+
+# Whether programs can be built with OpenSSL.
+has_openssl() {
+    printf '#include <openssl/evp.h>\nint main(void) { return EVP_shake256() == 0; }\n' > "$build/openssl.c"
+    "$CC" "$build/openssl.c" -lcrypto -o "$build/openssl" > /dev/null 2>&1
+}
+
+# object OUT SOURCE [WORDS...]
+object() {
+    out=$1
+    source=$2
+    shift 2
+    # shellcheck disable=SC2086
+    "$CC" $CFLAGS "$@" -c "$tools/$source" -o "$build/$out"
+}
+
+# Sets archive: the one given, the stand-in, or the library's, which rt proves and writes.
+find_archive() {
+    if [ -n "$given_archive" ]; then
+        archive=$given_archive
+        [ -f "$archive" ] || fail "there is no archive $archive"
+    elif [ "$stand_in" = yes ]; then
+        object stand-in.o plain/plain.c -DPLAIN_PREFIX=smallwood
+        object stand-in-keccak.o plain/keccak.c
+        archive=$build/stand-in/libsmallwood.a
+        mkdir -p "$build/stand-in"
+        rm -f "$archive"
+        ar rcs "$archive" "$build/stand-in.o" "$build/stand-in-keccak.o"
+        echo "stand-in: the plain C implementation under the library's names"
+    else
+        need rt "to prove and build the library (or give --archive FILE)"
+        (cd "$root" && rt staticlib smallwood) || fail "rt staticlib smallwood failed"
+        archive=$root/target/staticlib/libsmallwood.a
+        [ -f "$archive" ] || fail "rt staticlib left no $archive"
+    fi
+}
+
+# Sets given_archive, given_program, without_program, stand_in; the other words stay in `words`.
+given_archive=
+given_program=
+without_program=no
+stand_in=no
+words=
+
+read_options() {
+    while [ $# -gt 0 ]; do
+        case $1 in
+            --archive | --program)
+                [ $# -gt 1 ] || fail "$1 needs a file"
+                [ "$1" = --archive ] && given_archive=$2 || given_program=$2
+                shift
+                ;;
+            --stand-in) stand_in=yes ;;
+            --without-program) without_program=yes ;;
+            --help)
+                sed -n '2,/^$/s/^# \{0,1\}//p' "$0"
+                exit 0
+                ;;
+            *) words="$words $1" ;;
+        esac
+        shift
+    done
+}

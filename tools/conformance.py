@@ -1,0 +1,300 @@
+"""Compares a compiled library and checking program with the second implementation in reference/.
+
+    python3 conformance.py CALLER [--program PROGRAM] [--long N] [--seed S]
+
+CALLER is conformance.c linked with the archive, PROGRAM the compiled checking program. Without --long: every
+case of reference/cases.py and some drawn inputs. With --long N: N drawn inputs instead, and the checking
+program on every case. Numbers, every slice after the call, the bytes beside the slices and the program's
+whole output are compared. The last line is a summary; the exit status is 1 after a difference.
+"""
+
+import argparse
+import struct
+import subprocess
+import sys
+import time
+from collections import Counter
+
+import paths  # noqa: F401  (makes the modules below importable)
+from calls import CommitCall, OpenCall
+from cases import (
+    CHECK_GROUPS, CheckCase, commit_calls, honest_cases, open_calls, place_cases, program_borders, program_case,
+)  # fmt: skip
+from drafts import case_p, large_drafts, small_drafts
+from drawn import BLOCK, drawn_inputs
+from smallwood import to_bytes
+
+SHOWN = 10  # differences after which a run stops
+DRAWN = 1000  # drawn inputs of a run without --long
+EVERY = 12  # the program gets one of so many check cases without --long
+UNTOUCHED = 0x1122334455667788  # the opener's length before a call
+FLAGS = {1: "bytes beside a slice changed", 2: "the outcome depends on where the slices stand"}
+
+COMMIT_SLICES = ("coefficients", "tails", "masks", "nonces", "table", "tree")
+OPEN_SLICES = ("question", "coefficients", "tails", "masks", "table", "nonces", "tree", "buffer")
+CHECK_SLICES = ("question", "reply", "buffer")
+
+
+class Broken(Exception):
+    """The caller or the program did not answer."""
+
+
+# ---- Calls ------------------------------------------------------------------------------------------
+
+
+class Call:
+    """One call of an entry: what is sent to the caller, and what has to come back."""
+
+    def __init__(self, label, entry, head, slices, number, length, after):
+        self.label, self.entry, self.number, self.length = label, entry, number, length
+        self.names = list(slices)
+        self.before = [raw(contents) for contents in slices.values()]
+        self.after = [raw(after.get(name, contents)) for name, contents in slices.items()]
+        self.empty = any(len(contents) == 0 for contents in slices.values())
+        parts = [{"commit": b"c", "open": b"o", "check": b"k"}[entry], head]
+        for contents, data in zip(slices.values(), self.before):
+            parts += [struct.pack("<I", len(contents)), data]
+        self.message = b"".join(parts)
+
+
+def raw(contents):
+    return contents if isinstance(contents, bytes) else to_bytes(contents)
+
+
+def commit(label, sizes, slices, number, after):
+    return Call(label, "commit", struct.pack("<6I", *sizes), slices, number, 0, after)
+
+
+def opened(label, slices, number, length, after):
+    return Call(label, "open", struct.pack("<Q", UNTOUCHED), slices, number, length, after)
+
+
+def check(label, slices, number, after):
+    return Call(label, "check", b"", slices, number, 0, after)
+
+
+def call_of(case):
+    """The call that a case of the second implementation describes."""
+    if isinstance(case, CheckCase):
+        slices = {name: getattr(case, name) for name in CHECK_SLICES}
+        return check(case.label, slices, case.number, {"buffer": case.after})
+    if isinstance(case, CommitCall):
+        slices = {name: getattr(case, name) for name in COMMIT_SLICES}
+        after = {"table": case.table_after, "tree": case.tree_after}
+        return commit(case.label, case[1:7], slices, case.number, after)
+    assert isinstance(case, OpenCall)
+    slices = {name: getattr(case, name) for name in OPEN_SLICES}
+    length = UNTOUCHED if case.length is None else case.length
+    return opened(case.label, slices, case.number, length, {"buffer": case.buffer_after})
+
+
+def empty_calls():
+    """Calls in which every slice, or every slice but one, is empty."""
+
+    def empty(names, **others):
+        return dict(dict.fromkeys(names, b""), **others)
+
+    question = case_p().question()
+    yield commit("empty: commit, sizes 1", [1] * 6, empty(COMMIT_SLICES), 2, {})
+    yield commit("empty: commit, sizes 0", [0] * 6, empty(COMMIT_SLICES), 1, {})
+    yield commit("empty: commit, sizes 2^32 - 1", [2**32 - 1] * 6, empty(COMMIT_SLICES), 1, {})
+    yield opened("empty: open", empty(OPEN_SLICES), 6, UNTOUCHED, {})
+    yield opened("empty: open, but the question", empty(OPEN_SLICES, question=question), 2, UNTOUCHED, {})
+    yield check("empty: check", empty(CHECK_SLICES), 6, {})
+    yield check("empty: check, but the question", empty(CHECK_SLICES, question=question), 2, {})
+    yield check("empty: check, reply", empty(CHECK_SLICES, question=question, buffer=bytes(4)), 7, {})
+
+
+def call_groups(drawn, seed):
+    """(name, calls) of every group; the quick groups come first."""
+    yield "empty slices", empty_calls()
+    quick = [group for group in CHECK_GROUPS if group not in (honest_cases, place_cases)]
+    for group in quick + [place_cases]:
+        yield group.__name__, map(call_of, group())
+    yield "drawn inputs", map(call_of, drawn_inputs(drawn, seed))
+    for group in (commit_calls, open_calls, honest_cases):
+        yield group.__name__, map(call_of, group())
+
+
+class Caller:
+    """The running program that has the archive's entries."""
+
+    def __init__(self, path):
+        self.process = subprocess.Popen([path], stdin=subprocess.PIPE, stdout=subprocess.PIPE)
+        self.calls = self.null_calls = 0
+
+    def read(self, count):
+        data = self.process.stdout.read(count)
+        if len(data) != count:
+            raise Broken("the call did not return (exit status %s)" % self.process.wait())
+        return data
+
+    def differences(self, call):
+        """What is different after the call: a list of short texts."""
+        try:
+            self.process.stdin.write(call.message)
+            self.process.stdin.flush()
+        except BrokenPipeError:
+            pass  # reading will say it
+        number, length, flags, calls = struct.unpack("<IQII", self.read(20))
+        self.calls += calls
+        self.null_calls += call.empty
+        found = []
+        if number != call.number:
+            found.append("returned %d, expected %d" % (number, call.number))
+        if length != call.length:
+            found.append("length is %d, expected %d" % (length, call.length))
+        found += [text for bit, text in FLAGS.items() if flags & bit]
+        for name, before, wanted in zip(call.names, call.before, call.after):
+            data = self.read(len(before))
+            if data != wanted:
+                at = next(i for i, (a, b) in enumerate(zip(data, wanted)) if a != b)
+                found.append("%s differs at byte %d: %d, expected %d" % (name, at, data[at], wanted[at]))
+        return found
+
+    def close(self):
+        """Ends the caller; also one that waits for more."""
+        try:
+            self.process.stdin.close()
+        except BrokenPipeError:
+            pass
+        self.process.stdout.close()
+        return self.process.wait()
+
+
+# ---- The checking program ---------------------------------------------------------------------------
+
+
+def run_whole(path, data):
+    return subprocess.run([path], input=data, stdout=subprocess.PIPE, stderr=subprocess.PIPE, timeout=60)
+
+
+def run_in_pieces(path, data):
+    """The input arrives in pieces, so that one read does not give it all."""
+    cuts = [0, 5, 100, 5000, 40000, len(data)]
+    pipes = dict.fromkeys(("stdin", "stdout", "stderr"), subprocess.PIPE)
+    with subprocess.Popen([path], **pipes) as process:
+        for start, end in zip(cuts, cuts[1:]):
+            time.sleep(0.005)
+            try:
+                process.stdin.write(data[start:end])
+                process.stdin.flush()
+            except BrokenPipeError:
+                break
+        out, err = process.communicate(timeout=60)
+    return subprocess.CompletedProcess(path, process.returncode, out, err)
+
+
+def program_differences(path, case, run):
+    try:
+        done = run(path, case.input)
+    except (OSError, subprocess.TimeoutExpired) as error:
+        raise Broken("the program did not run: %s" % error)
+    found = []
+    if done.returncode != 0:
+        found.append("exit status %d" % done.returncode)
+    if done.stderr:
+        found.append("wrote to standard error: %r" % done.stderr[:80])
+    if done.stdout != case.output:
+        found.append("printed %r, expected %r" % (done.stdout[:80], case.output[:80]))
+    return found
+
+
+def program_groups(checks, every):
+    """(name, cases, how to run the program): its borders, check cases, and inputs that come in pieces."""
+    chosen = [call for call in checks if not call.label.startswith("buffer")][::every]
+    inputs = (program_case(call.label, call.before[0] + call.before[1]) for call in chosen)
+    data = [d.question() + d.reply() for d in small_drafts() + large_drafts()]
+    data += [b"", b"SWQ", bytes(13), bytes(65536), bytes(65537), data[-1] + bytes(65536)]
+    pieces = (program_case("program: in pieces, input %d" % n, each) for n, each in enumerate(data))
+    yield "program borders", program_borders(), run_whole
+    yield "program inputs", inputs, run_whole
+    yield "in pieces", pieces, run_in_pieces
+
+
+# ---- The run ----------------------------------------------------------------------------------------
+
+
+class Run:
+    def __init__(self, caller, program=None, shown=SHOWN):
+        self.caller, self.program, self.shown = Caller(caller), program, shown
+        self.counts, self.numbers, self.failed = Counter(), Counter(), []
+
+    def fail(self, label, texts):
+        self.failed.append(label)
+        print("DIFFERENT %s\n    %s" % (label, "; ".join(texts)), flush=True)
+
+    def compare(self, kind, label, differences):
+        """Counts one comparison; `differences` is a function without arguments."""
+        self.counts[kind] += 1
+        try:
+            found = differences()
+        except Broken as error:
+            self.fail(label, [str(error)])
+            raise
+        if found:
+            self.fail(label, found)
+            if len(self.failed) >= self.shown:
+                raise Broken("%d differences" % self.shown)
+
+    def call(self, call):
+        self.numbers[call.number] += 1
+        self.compare(call.entry, call.label, lambda: self.caller.differences(call))
+
+    def run_program(self, case, run):
+        self.compare("program", case.label, lambda: program_differences(self.program, case, run))
+
+    def group(self, label, cases, act):
+        start, before = time.time(), sum(self.counts.values())
+        for case in cases:
+            act(case)
+        count = sum(self.counts.values()) - before
+        print("%-16s %7d in %6.1f s" % (label, count, time.time() - start), flush=True)
+
+    def everything(self, drawn, seed, every):
+        checks = []
+
+        def act(call):
+            self.call(call)
+            if call.entry == "check" and not call.label.startswith("drawn"):
+                checks.append(call)
+
+        for label, calls in call_groups(drawn, seed):
+            self.group(label, calls, act)
+        if self.program:
+            for label, cases, run in program_groups(checks, every):
+                self.group(label, cases, lambda case: self.run_program(case, run))
+
+    def finish(self, seconds):
+        """The summary; whether all was equal."""
+        status = self.caller.close()
+        if status != 0 and not self.failed:
+            self.fail("end of the caller", ["exit status %d" % status])
+        numbers = " ".join("%d:%d" % pair for pair in sorted(self.numbers.items()))
+        calls = self.caller.calls, self.caller.null_calls
+        print("numbers expected: %s; entries called %d times, %d with NULL" % (numbers, *calls))
+        if not self.program:
+            print("no checking program was given: it is not compared")
+        counts = ", ".join("%d %s" % (self.counts[kind], kind) for kind in ("check", "commit", "open", "program"))
+        outcome = "%d DIFFERENT, first: %s" % (len(self.failed), self.failed[0]) if self.failed else "all equal"
+        print("conformance: %s inputs in %.0f s: %s" % (counts, seconds, outcome), flush=True)
+        return not self.failed
+
+
+def main():
+    parser = argparse.ArgumentParser(description=__doc__.split("\n")[0])
+    parser.add_argument("caller", help="conformance.c linked with the archive")
+    parser.add_argument("--program", help="the compiled checking program")
+    parser.add_argument("--long", type=int, metavar="N", help="N drawn inputs, and the program on every case")
+    parser.add_argument("--seed", type=int, default=1, help="of the first %d drawn inputs (default 1)" % BLOCK)
+    options = parser.parse_args()
+    start, run = time.time(), Run(options.caller, options.program)
+    try:
+        run.everything(options.long or DRAWN, options.seed, 1 if options.long else EVERY)
+    except Broken:
+        pass  # has been shown
+    return 0 if run.finish(time.time() - start) else 1
+
+
+if __name__ == "__main__":
+    sys.exit(main())

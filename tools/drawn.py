@@ -1,0 +1,333 @@
+"""Drawn inputs without end: a pool of honest and simulated drafts, each input with none, one or two faults.
+
+The second implementation alone tells the expected outcomes. A block of inputs depends on its seed only.
+"""
+
+import paths  # noqa: F401  (makes the modules below importable)
+import smallwood as S
+from calls import OpenCall, CommitCall, off_by, with_word
+from cases import check_case
+from drafts import (
+    LAST_WORD, Source, ask, committed, honest, lend, name, outputs, prefill, product, simulated, vanishing,
+)  # fmt: skip
+from faults import BAD_MARKS, BAD_SIZES, spoil
+from smallwood import Q
+
+BLOCK = 10000  # inputs for one seed
+POOL = 40  # drafts to take an input from
+RENEWED = 1000  # inputs after which a commitment is replaced
+
+
+# ---- Faults in the parts of a draft -----------------------------------------------------------------
+
+
+def place(src, sequence):
+    """A place in it, often the first or the last."""
+    return src.pick((0, len(sequence) - 1, src.below(len(sequence))))
+
+
+def rehash(src, d):
+    """The root to fit leaves and nodes, where indices and nodes allow it."""
+    rising = all(a < b for a, b in zip(d.indices, d.indices[1:] + [d.sizes.leaves]))
+    if rising and len(d.nodes) == len(S.missing_nodes(d.sizes.h, d.indices)):
+        d.rehash()
+
+
+def leaf_value(src, d):
+    d.change_value(place(src, d.leaves), src.below(d.sizes.record), src.nonzero())
+
+
+def leaf_value_rehashed(src, d):
+    leaf_value(src, d)
+    rehash(src, d)
+
+
+def row_hidden(src, d):
+    """A row value that no repetition sees."""
+    d.compensate(place(src, d.leaves), src.below(d.sizes.mu), src.nonzero(), range(d.sizes.eta))
+    rehash(src, d)
+
+
+def row_seen_once(src, d):
+    seen = place(src, d.challenges)
+    fitted = [k for k in range(d.sizes.eta) if k != seen]
+    d.compensate(place(src, d.leaves), src.below(d.sizes.mu), src.nonzero(), fitted)
+    rehash(src, d)
+
+
+def nonce(src, d):
+    b = place(src, d.leaves)
+    d.leaves[b] = d.leaves[b][0], spoil(d.leaves[b][1], src.below(32))
+
+
+def node(src, d):
+    if d.nodes:
+        n = place(src, d.nodes)
+        d.nodes[n] = spoil(d.nodes[n], src.below(32))
+
+
+def root(src, d):
+    d.root = spoil(d.root, src.below(32))
+
+
+def batching_word(src, d):
+    d.shift_batching(place(src, d.batchings), [0] * src.below(d.sizes.width) + [src.nonzero()])
+
+
+def batching_at_one_leaf(src, d):
+    d.shift_batching(place(src, d.batchings), product([src.nonzero()], d.others(place(src, d.leaves))))
+
+
+def batching_right_at_leaves(src, d):
+    extra = src.elements(src.between(1, d.sizes.columns))
+    d.shift_batching(place(src, d.batchings), product(vanishing(d.indices), extra))
+
+
+def answer_word(src, d):
+    answer = d.answers[place(src, d.answers)]
+    at = place(src, answer)
+    answer[at] = (answer[at] + src.nonzero()) % Q
+
+
+def answer_at_one_leaf(src, d):
+    d.shift_answer(place(src, d.answers), product([src.nonzero()], d.others(place(src, d.leaves))))
+
+
+def answer_right_at_leaves(src, d):
+    extra = src.elements(src.between(1, d.sizes.columns))
+    d.shift_answer(place(src, d.answers), product(vanishing(d.indices), extra))
+
+
+def challenge(src, d):
+    d.challenges[place(src, d.challenges)] = src.edgy(1)[0]
+
+
+def point(src, d):
+    d.points[place(src, d.points)] = src.edgy(1)[0]
+
+
+def exchanged(src, d):
+    sequence = src.pick((d.batchings, d.answers, d.leaves, d.nodes, d.challenges, d.points, d.indices))
+    if sequence:
+        a, b = place(src, sequence), place(src, sequence)
+        sequence[a], sequence[b] = sequence[b], sequence[a]
+
+
+def index(src, d):
+    choices = src.below(d.sizes.leaves), d.sizes.leaves, d.indices[0], src.below(65536)
+    d.indices[place(src, d.indices)] = src.pick(choices)
+
+
+def records(d):
+    return [d.challenges, d.points] + d.batchings + d.answers + [values for values, _ in d.leaves]
+
+
+def large_word(src, d):
+    record = src.pick(records(d))
+    record[place(src, record)] = src.pick((Q, Q + 1, LAST_WORD, Q - 1))
+
+
+def second_encoding(src, d):
+    """The first word below 5, plus q."""
+    for record in records(d):
+        for at, word in enumerate(record):
+            if word < 5:
+                record[at] = word + Q
+                return
+    large_word(src, d)
+
+
+def node_left_out(src, d):
+    if d.nodes:
+        d.nodes.pop(place(src, d.nodes))
+
+
+def node_too_many(src, d):
+    d.nodes.insert(src.below(len(d.nodes) + 1), src.pick(d.nodes + [d.root]))
+
+
+# ---- Faults in the bytes ----------------------------------------------------------------------------
+
+
+def changed_byte(src, data):
+    if not data:
+        return data
+    at = src.below(len(data))
+    return data[:at] + bytes([src.pick((0, 1, 255, data[at] ^ 1 << src.below(8), src.below(256)))]) + data[at + 1 :]
+
+
+def changed_length(src, data):
+    cut = src.pick((1, 2, 4, 32, len(data), src.below(len(data) + 1)))
+    return src.pick((data[: max(0, len(data) - cut)], data + bytes(cut), data + data[:cut]))
+
+
+def question_byte(src, q, r, size):
+    return changed_byte(src, q), r, size
+
+
+def reply_byte(src, q, r, size):
+    return q, changed_byte(src, r), size
+
+
+def question_length(src, q, r, size):
+    return changed_length(src, q), r, size
+
+
+def reply_length(src, q, r, size):
+    return q, changed_length(src, r), size
+
+
+def mark(src, q, r, size):
+    return src.pick(BAD_MARKS) + q[5:], r, size
+
+
+def bad_size(src, q, r, size):
+    at, part = src.pick(BAD_SIZES)
+    return q[:at] + part + q[at + len(part) :], r, size
+
+
+def header_byte(src, q, r, size):
+    at = src.below(14)
+    return q[:at] + bytes([src.pick((0, 1, 2, 3, src.below(256)))]) + q[at + 1 :], r, size
+
+
+def buffer_length(src, q, r, size):
+    return q, r, src.pick((0, size + 1, size + 4, max(0, size - 1), max(0, size - 4), 2 * size))
+
+
+def boundary(src, q, r, size):
+    """Bytes over the border of question and reply."""
+    if src.below(2):
+        return q[:-2], q[-2:] + r, size
+    return q + r[:4], r[4:], size
+
+
+PART_FAULTS = (
+    leaf_value, leaf_value_rehashed, row_hidden, row_seen_once, nonce, node, rehash, root, batching_word,
+    batching_at_one_leaf, batching_right_at_leaves, answer_word, answer_at_one_leaf, answer_right_at_leaves,
+    challenge, point, exchanged, index, large_word, second_encoding, node_left_out, node_too_many,
+)  # fmt: skip
+
+BYTE_FAULTS = (
+    question_byte, reply_byte, question_length, reply_length, mark, bad_size, header_byte, buffer_length, boundary,
+)  # fmt: skip
+
+
+# ---- Inputs -----------------------------------------------------------------------------------------
+
+
+class Pool:
+    """Commitments of drawn sizes, and drafts of questions with accepted replies; some change with time."""
+
+    def __init__(self, seed):
+        self.src = Source("drawn inputs %d" % seed)
+        self.seed, self.count = seed, 0
+        self.commitments = [self.new_commitment(n) for n in range(10)]
+        self.drafts = [self.new_draft(n) for n in range(POOL)]
+
+    def new_commitment(self, n):
+        """The last but one is of medium size, the last is large."""
+        src = self.src
+        s = src.sizes(*{8: (8, 16, 60), 9: (9, 64, 320)}.get(n, (5, 5, 20)))
+        return committed(s, lend(src, s, src.edgy if n % 2 else src.elements))
+
+    def new_draft(self, n):
+        """Every fourth is simulated; one in 8 is of medium size, one in 40 large."""
+        src = self.src
+        if n % 4 == 3:
+            s = src.sizes(4, 4, 12)
+            return simulated(src, s, challenges=src.edgy(s.eta), points=src.edgy(s.m))
+        c = self.commitments[9 if n % 40 == 38 else 8 if n % 8 == 6 else src.below(8)]
+        m = src.between(1, 8)
+        if n % 2:
+            return honest(c, ask(src, c, m))
+        return honest(c, ask(src, c, m, challenges=src.edgy(c.sizes.eta), points=src.edgy(m)))
+
+    def next(self):
+        """Counts an input; now and then a commitment is replaced."""
+        self.count += 1
+        if self.count % RENEWED == 0:
+            at = self.src.below(len(self.commitments))
+            self.commitments[at] = self.new_commitment(at)
+
+    def check_case(self):
+        """One input of the check, as a CheckCase; one without a fault is a new draft."""
+        self.next()
+        src = self.src
+        at = src.below(POOL)
+        faults = [src.pick(PART_FAULTS + BYTE_FAULTS) for _ in range(src.pick((0, 1, 1, 1, 1, 2, 2, 2)))]
+        if not faults:
+            self.drafts[at] = self.new_draft(at)
+        d = self.drafts[at]
+        parts = [fault for fault in faults if fault in PART_FAULTS]
+        if parts:
+            d = d.copy()
+        for fault in parts:
+            fault(src, d)
+        question, reply, size = d.question(), d.reply(), 4 * d.sizes.w * d.sizes.m
+        for fault in faults:
+            if fault not in parts:
+                question, reply, size = fault(src, question, reply, size)
+        shown = " + ".join(fault.__name__ for fault in faults) or "none"
+        label = "drawn %d.%d: %s [%s]" % (self.seed, self.count, shown, name(d.sizes))
+        return check_case(label, question, reply, None, None, size)
+
+    def commit_call(self):
+        """A call of the committer with drawn words, with a fault in one of three."""
+        self.next()
+        src = self.src
+        s = src.sizes(5, 6, 24)
+        given = dict(lend(src, s, src.edgy if src.below(2) else src.elements)._asdict())
+        given["table"], given["tree"] = outputs(s)
+        label = "drawn %d.%d: commit" % (self.seed, self.count)
+        if src.below(3) == 0:
+            label += self.slice_fault(given)
+        if src.below(8) == 0:
+            field = src.pick(("h", "mu", "nu", "w", "l", "eta"))
+            s = s._replace(**{field: src.pick((0, getattr(s, field) + 1, src.below(300), src.below(2**32)))})
+            label += ", size %s" % field
+        found = S.commit(*s[:6], *given.values())
+        return CommitCall("%s [h%d mu%d nu%d w%d l%d eta%d]" % (label, *s[:6]), *s[:6], *given.values(), *found)
+
+    def open_call(self):
+        """A call of the opener, with a fault in one of three."""
+        self.next()
+        src = self.src
+        c = src.pick(self.commitments)
+        m = src.between(1, 8)
+        q = ask(src, c, m, challenges=src.edgy(c.sizes.eta), points=src.edgy(m))
+        question, s = S.write_question(q), q.sizes
+        given = dict(c.lent._asdict(), table=c.table, tree=c.tree, buffer=prefill(S.reply_bytes(s, s.l * s.h)))
+        label = "drawn %d.%d: open" % (self.seed, self.count)
+        kind = src.below(6)
+        if kind == 0:
+            question = src.pick((changed_byte, changed_length))(src, question)
+            label += ", question"
+        elif kind < 3:
+            label += self.slice_fault(given)
+        found = S.open_reply(question, *given.values())
+        return OpenCall("%s [%s]" % (label, name(s)), question, *given.values(), *found)
+
+    def slice_fault(self, given):
+        """A slice of wrong length, or with another word or byte in it."""
+        src = self.src
+        part = src.pick(list(given))
+        whole = given[part]
+        if src.below(3) == 0:
+            given[part] = off_by(whole, src.pick((-1, 1, 32, -len(whole))))
+            return ", length of %s" % part
+        at = src.pick((-1, src.below(len(whole))))
+        if isinstance(whole, bytes):
+            given[part] = spoil(whole, at)
+        else:
+            given[part] = with_word(whole, at, src.pick((0, Q - 1, Q, LAST_WORD, src.below(2**32))))
+        return ", %s" % part
+
+
+def drawn_inputs(count, seed=1):
+    """This many inputs: mostly of the check, one in 50 a call of the committer, one in 50 of the opener."""
+    pool = None
+    for n in range(count):
+        if n % BLOCK == 0:
+            pool = Pool(seed + n // BLOCK)
+        yield pool.commit_call() if n % 50 == 49 else pool.open_call() if n % 50 == 24 else pool.check_case()

@@ -1,0 +1,167 @@
+#include "instance.h"
+
+#include <stdio.h>
+#include <stdlib.h>
+#include <string.h>
+
+void fail(const char *message)
+{
+    fprintf(stderr, "%s\n", message);
+    exit(2);
+}
+
+void *allocate(size_t bytes)
+{
+    void *block = calloc(bytes > 0 ? bytes : 1, 1);
+
+    if (block == NULL)
+        fail("out of memory");
+    return block;
+}
+
+#define FIRST_STATE 0x9e3779b97f4a7c15
+
+static uint64_t state = FIRST_STATE;
+
+void draw_again(void)
+{
+    state = FIRST_STATE;
+}
+
+/* xorshift64* */
+static uint32_t draw(void)
+{
+    state ^= state >> 12;
+    state ^= state << 25;
+    state ^= state >> 27;
+    return (uint32_t)(state * 0x2545f4914f6cdd1d >> 32);
+}
+
+uint32_t draw_below(uint32_t bound)
+{
+    return (uint32_t)((uint64_t)draw() * bound >> 32);
+}
+
+static uint32_t *draw_elements(size_t count)
+{
+    uint32_t *words = allocate(4 * count);
+
+    for (size_t i = 0; i < count; i++)
+        words[i] = draw_below(Q);
+    return words;
+}
+
+size_t width_of(const struct sizes *s)
+{
+    return (size_t)s->w * s->nu + s->l;
+}
+
+void set_points(struct instance *a, uint32_t m)
+{
+    struct sizes *s = &a->s;
+
+    s->m = m;
+    a->question_bytes = 14 + 32 + 4 * (s->eta + m) + 2 * s->l;
+    a->reply_bytes = 4 * width_of(s) * (s->eta + m) +
+                     (4 * (size_t)(s->mu + s->eta) + 32 + 32 * (size_t)s->h) * s->l;
+    a->value_bytes = 4 * (size_t)s->w * m;
+}
+
+struct instance *make_instance(struct sizes s)
+{
+    struct instance *a = allocate(sizeof *a);
+    size_t leaves = (size_t)1 << s.h;
+
+    a->s = s;
+    a->coefficient_count = (size_t)s.mu * s.nu * s.w;
+    a->tail_count = (size_t)s.mu * s.l;
+    a->mask_count = s.eta * width_of(&s);
+    a->table_count = leaves * (s.mu + s.eta);
+    a->nonce_bytes = 32 * leaves;
+    a->tree_bytes = 32 * (2 * leaves - 1);
+    a->coefficients = draw_elements(a->coefficient_count);
+    a->tails = draw_elements(a->tail_count);
+    a->masks = draw_elements(a->mask_count);
+    a->table = allocate(4 * a->table_count);
+    a->nonces = allocate(a->nonce_bytes);
+    a->tree = allocate(a->tree_bytes);
+    for (size_t i = 0; i < a->nonce_bytes; i++)
+        a->nonces[i] = (uint8_t)draw();
+    set_points(a, MAX_POINTS);
+    a->question = allocate(a->question_bytes);
+    a->reply = allocate(a->reply_bytes);
+    a->values = allocate(a->value_bytes);
+    set_points(a, s.m);
+    return a;
+}
+
+void free_instance(struct instance *a)
+{
+    free(a->coefficients);
+    free(a->tails);
+    free(a->masks);
+    free(a->table);
+    free(a->nonces);
+    free(a->tree);
+    free(a->question);
+    free(a->reply);
+    free(a->values);
+    free(a);
+}
+
+uint8_t *put(uint8_t *to, uint32_t number, int bytes)
+{
+    for (int i = 0; i < bytes; i++)
+        *to++ = (uint8_t)(number >> 8 * i);
+    return to;
+}
+
+void ask(struct instance *a)
+{
+    const struct sizes *s = &a->s;
+    uint32_t leaves = (uint32_t)1 << s->h, taken = 0;
+    uint8_t *to = a->question;
+
+    memcpy(to, "SWQ\1", 5);
+    to = put(put(to + 5, s->h, 1), s->mu, 1);
+    to = put(put(to, s->nu, 2), s->w, 2);
+    to = put(put(put(to, s->l, 1), s->eta, 1), s->m, 1);
+    memcpy(to, a->tree + a->tree_bytes - 32, 32);
+    to += 32;
+    for (uint32_t k = 0; k < s->eta; k++)
+        to = put(to, draw_below(Q), 4);
+    for (uint32_t p = 0; p < s->m; p++) {
+        a->points[p] = draw_below(8) == 0 ? 0 : draw_below(Q);
+        to = put(to, a->points[p], 4);
+    }
+    /* Each set of l leaves is as likely as any other. */
+    for (uint32_t i = 0; taken < s->l; i++)
+        if (draw_below(leaves - i) < s->l - taken) {
+            a->indices[taken++] = i;
+            to = put(to, i, 2);
+        }
+}
+
+uint32_t commit_with(const struct implementation *with, struct instance *a)
+{
+    const struct sizes *s = &a->s;
+
+    return with->commit(s->h, s->mu, s->nu, s->w, s->l, s->eta, a->coefficients,
+                        a->coefficient_count, a->tails, a->tail_count, a->masks, a->mask_count,
+                        a->nonces, a->nonce_bytes, a->table, a->table_count, a->tree,
+                        a->tree_bytes);
+}
+
+uint32_t open_with(const struct implementation *with, struct instance *a)
+{
+    return with->open(a->question, a->question_bytes, a->coefficients, a->coefficient_count,
+                      a->tails, a->tail_count, a->masks, a->mask_count, a->table, a->table_count,
+                      a->nonces, a->nonce_bytes, a->tree, a->tree_bytes, a->reply, a->reply_bytes,
+                      &a->length);
+}
+
+uint32_t check_with(const struct implementation *with, struct instance *a)
+{
+    return with->check(a->question, a->question_bytes, a->reply, a->length, a->values,
+                       a->value_bytes);
+}

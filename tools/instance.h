@@ -1,0 +1,69 @@
+/* Drawn inputs of all three entries for given sizes, for soak.c and bench.c. */
+#ifndef INSTANCE_H
+#define INSTANCE_H
+
+#include "entries.h"
+
+#define Q 4294967291u
+#define MAX_POINTS 8
+
+struct sizes {
+    uint32_t h, mu, nu, w, l, eta, m;
+};
+
+/* What the entries are lent, with lengths in elements, and the drawn question's points and indices. */
+struct instance {
+    struct sizes s;
+    size_t coefficient_count, tail_count, mask_count, table_count;
+    size_t nonce_bytes, tree_bytes, question_bytes, reply_bytes, value_bytes;
+    uint32_t *coefficients, *tails, *masks, *table;
+    uint8_t *nonces, *tree, *question, *reply, *values;
+    uint64_t length; /* of the reply, once opened */
+    uint32_t points[MAX_POINTS], indices[64];
+};
+
+/* The three entries under one name. */
+struct implementation {
+    const char *name;
+    uint32_t (*commit)(uint32_t, uint32_t, uint32_t, uint32_t, uint32_t, uint32_t, const uint32_t *,
+                       size_t, const uint32_t *, size_t, const uint32_t *, size_t, const uint8_t *,
+                       size_t, uint32_t *, size_t, uint8_t *, size_t);
+    uint32_t (*open)(const uint8_t *, size_t, const uint32_t *, size_t, const uint32_t *, size_t,
+                     const uint32_t *, size_t, const uint32_t *, size_t, const uint8_t *, size_t,
+                     const uint8_t *, size_t, uint8_t *, size_t, uint64_t *);
+    uint32_t (*check)(const uint8_t *, size_t, const uint8_t *, size_t, uint8_t *, size_t);
+};
+
+#define IMPLEMENTATION(prefix) {#prefix, prefix##_commit, prefix##_open, prefix##_check}
+
+/* Ends the program with a message. */
+void fail(const char *message) __attribute__((noreturn));
+
+/* Memory, or the end of the program. */
+void *allocate(size_t bytes);
+
+/* Drawn numbers, the same in every run; `draw_again` goes back to the first. */
+uint32_t draw_below(uint32_t bound);
+void draw_again(void);
+
+/* An instance with drawn coefficients, tails, masks and nonces; table and tree are empty. */
+struct instance *make_instance(struct sizes s);
+void free_instance(struct instance *a);
+
+/* Another number of points. */
+void set_points(struct instance *a, uint32_t m);
+
+/* Draws a question to the commitment that the tree has. */
+void ask(struct instance *a);
+
+/* d + 1 */
+size_t width_of(const struct sizes *s);
+
+uint32_t commit_with(const struct implementation *with, struct instance *a);
+uint32_t open_with(const struct implementation *with, struct instance *a);
+uint32_t check_with(const struct implementation *with, struct instance *a);
+
+/* A number as little-endian bytes; returns what follows. */
+uint8_t *put(uint8_t *to, uint32_t number, int bytes);
+
+#endif

@@ -1,0 +1,17 @@
+/* SHAKE256 of FIPS 202, cut to 32 bytes. */
+#ifndef SHAKE_H
+#define SHAKE_H
+
+#include <stddef.h>
+#include <stdint.h>
+
+#define DIGEST_BYTES 32
+#define RATE_BYTES 136
+
+/* In keccak.c: plain C. */
+void keccak_digest(const uint8_t *string, size_t length, uint8_t digest[DIGEST_BYTES]);
+
+/* In evp.c: OpenSSL's. It keeps one context for the whole program: one thread at a time. */
+void evp_digest(const uint8_t *string, size_t length, uint8_t digest[DIGEST_BYTES]);
+
+#endif

@@ -1,0 +1,322 @@
+/* Verdicts without a restart:  soak FILE [SECONDS]     (12 hours unless told otherwise)
+ *
+ * FILE has inputs of the check with their expected outcomes (soak_inputs.py). They are checked in drawn
+ * order. In between, questions are drawn for commitments made at the start: the opener's reply must be
+ * accepted with the polynomials' values, and the same reply with one bit changed must be refused with the
+ * number that the bit's place tells. Every number and every byte of the value buffer is compared. From the
+ * end of a first pass over all inputs on, the resident memory must not grow. Exit status 1 after a
+ * difference or growth. */
+#define _POSIX_C_SOURCE 200809L
+#include <inttypes.h>
+#include <stdio.h>
+#include <stdlib.h>
+#include <string.h>
+#include <time.h>
+
+#include "instance.h"
+
+ENTRIES(smallwood);
+
+#define DEFAULT_SECONDS (12 * 60 * 60)
+#define GUARD 64
+#define GUARD_BYTE 0xa5
+#define ALLOWED_GROWTH 256 /* kB of resident memory: what the C library and the kernel may need */
+#define FRESH_EVERY 64     /* inputs from the file to one drawn question */
+
+static void differ(const char *what, size_t number, uint32_t found, uint32_t expected)
+{
+    printf("soak: DIFFERENT: %s %zu returned %" PRIu32 ", expected %" PRIu32 "\n", what, number,
+           found, expected);
+    exit(1);
+}
+
+/* ---- One call, in buffers of the program's whole life -------------------------------------------- */
+
+static uint8_t *values; /* between guard bytes */
+static size_t values_room;
+static uint64_t verdicts, by_number[11];
+
+static uint32_t check(const uint8_t *question, size_t question_bytes, const uint8_t *reply,
+                      size_t reply_bytes, const uint8_t *before, size_t value_bytes)
+{
+    uint32_t number;
+
+    if (value_bytes > values_room)
+        fail("a value buffer is longer than expected");
+    if (value_bytes > 0)
+        memcpy(values, before, value_bytes);
+    memset(values - GUARD, GUARD_BYTE, GUARD);
+    memset(values + value_bytes, GUARD_BYTE, GUARD);
+    number = smallwood_check(question, question_bytes, reply, reply_bytes, values, value_bytes);
+    for (size_t i = 0; i < GUARD; i++)
+        if (values[-1 - (ptrdiff_t)i] != GUARD_BYTE || values[value_bytes + i] != GUARD_BYTE) {
+            puts("soak: DIFFERENT: bytes beside the value buffer changed");
+            exit(1);
+        }
+    verdicts++;
+    by_number[number < 11 ? number : 10]++;
+    return number;
+}
+
+static void expect_values(const char *what, size_t number, const uint8_t *expected, size_t bytes)
+{
+    if (bytes > 0 && memcmp(values, expected, bytes) != 0) {
+        printf("soak: DIFFERENT: %s %zu: value buffer\n", what, number);
+        exit(1);
+    }
+}
+
+/* ---- Inputs from the file ------------------------------------------------------------------------ */
+
+struct input {
+    uint32_t question_bytes, reply_bytes, value_bytes, number;
+    const uint8_t *question, *reply, *before, *after;
+};
+
+static struct input *inputs;
+static uint32_t input_count;
+
+static uint8_t *read_file(const char *path, size_t *length)
+{
+    FILE *file = fopen(path, "rb");
+    uint8_t *data;
+    long end;
+
+    if (file == NULL || fseek(file, 0, SEEK_END) != 0 || (end = ftell(file)) < 0)
+        fail("the file of inputs cannot be read");
+    rewind(file);
+    *length = (size_t)end;
+    data = allocate(*length + 1);
+    if (fread(data, 1, *length, file) != *length)
+        fail("the file of inputs cannot be read");
+    fclose(file);
+    return data;
+}
+
+static const uint8_t *take(const uint8_t **at, const uint8_t *end, size_t bytes)
+{
+    const uint8_t *taken = *at;
+
+    if ((size_t)(end - *at) < bytes)
+        fail("the file of inputs ends early");
+    *at += bytes;
+    return taken;
+}
+
+static void load_inputs(const char *path)
+{
+    size_t length;
+    const uint8_t *at = read_file(path, &length), *end = at + length;
+
+    memcpy(&input_count, take(&at, end, 4), 4);
+    if (input_count == 0 || input_count > length)
+        fail("the file of inputs is empty or damaged");
+    inputs = allocate(input_count * sizeof *inputs);
+    for (uint32_t i = 0; i < input_count; i++) {
+        struct input *input = &inputs[i];
+        memcpy(input, take(&at, end, 16), 16);
+        input->question = take(&at, end, input->question_bytes);
+        input->reply = take(&at, end, input->reply_bytes);
+        input->before = take(&at, end, input->value_bytes);
+        input->after = take(&at, end, input->value_bytes);
+        if (input->value_bytes > values_room)
+            values_room = input->value_bytes;
+    }
+}
+
+static void check_input(uint32_t i)
+{
+    const struct input *input = &inputs[i];
+    uint32_t number = check(input->question, input->question_bytes, input->reply,
+                            input->reply_bytes, input->before, input->value_bytes);
+
+    if (number != input->number)
+        differ("input", i, number, input->number);
+    expect_values("input", i, input->after, input->value_bytes);
+}
+
+/* ---- Drawn questions ----------------------------------------------------------------------------- */
+
+static const struct implementation library = IMPLEMENTATION(smallwood);
+
+/* At least two leaves are opened, so that one of them is not leaf 0 and sees every coefficient of R. */
+static const struct sizes sizes[] = {
+    {2, 1, 1, 1, 2, 1, 1},   {5, 4, 2, 3, 5, 2, 1},      {8, 16, 8, 8, 20, 3, 1},
+    {9, 2, 1, 256, 64, 4, 1}, {12, 64, 16, 16, 64, 4, 1},
+};
+
+#define COMMITMENTS (sizeof sizes / sizeof sizes[0])
+
+static struct instance *commitments[COMMITMENTS];
+static uint8_t *expected;
+static uint64_t opened;
+
+static void make_commitments(void)
+{
+    for (size_t i = 0; i < COMMITMENTS; i++) {
+        uint32_t number;
+        commitments[i] = make_instance(sizes[i]);
+        number = commit_with(&library, commitments[i]);
+        if (number != 0)
+            differ("commitment", i, number, 0);
+        if (values_room < 4 * MAX_POINTS * (size_t)sizes[i].w)
+            values_room = 4 * MAX_POINTS * (size_t)sizes[i].w;
+    }
+    expected = allocate(values_room);
+    values = (uint8_t *)allocate(values_room + 2 * GUARD) + GUARD;
+}
+
+static uint32_t value_at(const uint32_t *coefficients, size_t count, uint32_t z)
+{
+    uint32_t value = 0;
+
+    for (size_t i = count; i-- > 0;)
+        value = (uint32_t)((coefficients[i] + (uint64_t)z * value) % Q);
+    return value;
+}
+
+/* The polynomials' values, straight from the coefficients. */
+static void expect_polynomials(const struct instance *a)
+{
+    size_t each = (size_t)a->s.mu * a->s.nu;
+    uint8_t *to = expected;
+
+    for (uint32_t p = 0; p < a->s.m; p++)
+        for (uint32_t i = 0; i < a->s.w; i++)
+            to = put(to, value_at(a->coefficients + i * each, each, a->points[p]), 4);
+}
+
+/* What the check has to return when the byte at this place of an honest reply has been changed. */
+static uint32_t number_of_damage(const struct instance *a, size_t at)
+{
+    const struct sizes *s = &a->s;
+    size_t batchings = 4 * width_of(s) * s->eta, records = batchings + 4 * width_of(s) * s->m;
+    size_t record = 4 * (size_t)(s->mu + s->eta) + 32;
+    uint32_t word;
+
+    if (at >= records + record * s->l)
+        return 8; /* a node */
+    if (at >= records && (at - records) % record >= record - 32)
+        return 8; /* a nonce */
+    memcpy(&word, a->reply + at - at % 4, 4); /* all records have whole words */
+    return word >= Q ? 3 : at < batchings ? 9 : at < records ? 10 : 8;
+}
+
+static uint32_t check_instance(const struct instance *a, const uint8_t *before, size_t value_bytes)
+{
+    return check(a->question, a->question_bytes, a->reply, a->length, before, value_bytes);
+}
+
+/* A drawn question: the honest reply, then the reply with one bit changed. */
+static void check_fresh(size_t which)
+{
+    struct instance *a = commitments[which];
+    uint32_t number;
+
+    set_points(a, 1 + draw_below(MAX_POINTS));
+    ask(a);
+    expect_polynomials(a);
+    number = open_with(&library, a);
+    opened++;
+    if (number != 0)
+        differ("opening of commitment", which, number, 0);
+    number = check_instance(a, expected, 0);
+    if (number != 2)
+        differ("no value buffer, commitment", which, number, 2);
+    number = check_instance(a, a->reply, a->value_bytes);
+    if (number != 0)
+        differ("honest reply, commitment", which, number, 0);
+    expect_values("honest reply, commitment", which, expected, a->value_bytes);
+    for (int i = 0; i < 4; i++) {
+        size_t at = draw_below((uint32_t)a->length);
+        uint8_t bit = (uint8_t)(1u << draw_below(8));
+        a->reply[at] ^= bit;
+        number = check_instance(a, expected, a->value_bytes);
+        if (number != number_of_damage(a, at))
+            differ("changed bit, commitment", which, number, number_of_damage(a, at));
+        expect_values("changed bit, commitment", which, expected, a->value_bytes);
+        a->reply[at] ^= bit;
+    }
+}
+
+/* ---- Time and memory ----------------------------------------------------------------------------- */
+
+static double now(void)
+{
+    struct timespec t;
+
+    clock_gettime(CLOCK_MONOTONIC, &t);
+    return (double)t.tv_sec + 1e-9 * (double)t.tv_nsec;
+}
+
+/* VmRSS in kB. */
+static long resident(void)
+{
+    char line[256];
+    long size = -1;
+    FILE *file = fopen("/proc/self/status", "r");
+
+    if (file == NULL)
+        fail("/proc/self/status cannot be read");
+    while (fgets(line, sizeof line, file) != NULL)
+        if (sscanf(line, "VmRSS: %ld kB", &size) == 1)
+            break;
+    fclose(file);
+    if (size < 0)
+        fail("/proc/self/status has no VmRSS");
+    return size;
+}
+
+static void progress(double seconds, long size)
+{
+    printf("%8.0f s  %" PRIu64 " verdicts (%.0f a second), %" PRIu64 " openings, VmRSS %ld kB;",
+           seconds, verdicts, (double)verdicts / seconds, opened, size);
+    for (int i = 0; i < 11; i++)
+        printf(" %d:%" PRIu64, i, by_number[i]);
+    puts("");
+    fflush(stdout);
+}
+
+int main(int count, char **words)
+{
+    double limit = count > 2 ? atof(words[2]) : DEFAULT_SECONDS, begun, elapsed = 0, sampled = 0;
+    long start, most;
+
+    if (count < 2 || limit <= 0) {
+        fputs("usage: soak FILE [SECONDS]\n", stderr);
+        return 2;
+    }
+    load_inputs(words[1]);
+    make_commitments();
+    begun = now();
+    for (uint32_t i = 0; i < input_count; i++)
+        check_input(i);
+    for (size_t i = 0; i < COMMITMENTS; i++)
+        check_fresh(i);
+    progress(now() - begun, resident());
+    start = most = resident(); /* after the first line: what printing and sampling need is there */
+    while (elapsed < limit) {
+        long size;
+        for (int i = 0; i < FRESH_EVERY; i++)
+            check_input(draw_below(input_count));
+        check_fresh(draw_below(COMMITMENTS));
+        elapsed = now() - begun;
+        if (elapsed < sampled + 1 && elapsed < limit)
+            continue;
+        size = resident();
+        most = size > most ? size : most;
+        /* A line every second in the first ten, then every minute. */
+        if (elapsed < 10 || (long)elapsed / 60 != (long)sampled / 60 || elapsed >= limit ||
+            most > start + ALLOWED_GROWTH)
+            progress(elapsed, size);
+        if (most > start + ALLOWED_GROWTH) {
+            printf("soak: memory grows: from %ld to %ld kB\n", start, most);
+            return 1;
+        }
+        sampled = elapsed;
+    }
+    printf("soak: %" PRIu64 " verdicts in %.0f s without a restart, all equal; VmRSS from %ld to at most "
+           "%ld kB\n",
+           verdicts, elapsed, start, most);
+    return 0;
+}

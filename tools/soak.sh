@@ -1,0 +1,23 @@
+#!/bin/sh
+# Verdicts without a restart, every one compared, with constant memory.
+#
+#     tools/soak.sh             for 12 hours
+#     tools/soak.sh SECONDS
+#
+#     --archive FILE     uses this archive and does not build the library
+#     --stand-in         uses the plain C implementation, to test these tools
+#
+# Needs gcc and python3, and rt unless an archive is given.
+
+set -eu
+. "$(dirname "$0")/common.sh"
+
+read_options "$@"
+need_compiler
+need_python
+find_archive
+# shellcheck disable=SC2086
+"$CC" $CFLAGS "$tools/soak.c" "$tools/instance.c" "$archive" -o "$build/soak"
+python3 "$tools/soak_inputs.py" "$build/soak.inputs"
+# shellcheck disable=SC2086
+exec "$build/soak" "$build/soak.inputs" $words

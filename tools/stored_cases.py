@@ -1,0 +1,236 @@
+#!/usr/bin/env python3
+"""Stored inputs and outputs of the programs `verdict`, `verdict_empty` and `cases`, made by the second implementation.
+
+    tools/stored_cases.py            writes them
+    tools/stored_cases.py --check    makes them anew, compares them with what is stored and names what differs
+
+Nothing here runs the proved program: every output is what reference/smallwood.py says. Each case also has the
+verdict that its construction gives, and the two must agree.
+"""
+
+import sys
+from pathlib import Path
+
+ROOT = Path(__file__).resolve().parent.parent
+sys.dont_write_bytecode = True
+sys.path.insert(0, str(ROOT / "reference"))
+
+import smallwood as S  # noqa: E402
+from drafts import Lent, Source, ask, case_p, committed, honest, lend, name, product, simulated, vanishing  # noqa: E402
+from faults import levels_with, wrong_batchings, wrong_strings  # noqa: E402
+from smallwood import Q, Question, Sizes  # noqa: E402
+
+SEVERAL = Sizes(5, 3, 2, 4, 6, 2, 3)
+FULL = Sizes(3, 1, 4, 1, 4, 1, 1)  # w nu + l = N
+
+
+def whole(draft):
+    """What the program reads: the question, then the reply."""
+    return draft.question() + draft.reply()
+
+
+def header_with(s):
+    """A header with these sizes, and zeros after it."""
+    return S.write_header(s) + bytes(100)
+
+
+def spoiled(data, at):
+    """The bytes with one of them changed."""
+    return data[:at] + bytes([data[at] ^ 1]) + data[at + 1 :]
+
+
+def commitment(s):
+    src = Source("stored " + name(s))
+    return src, committed(s, lend(src, s, src.elements))
+
+
+def drawn(s, **given):
+    """An honest draft of these sizes; what is not given is drawn."""
+    src, c = commitment(s)
+    return honest(c, ask(src, c, **given))
+
+
+def altered(draft, change):
+    """A copy of the draft, changed."""
+    e = draft.copy()
+    change(e)
+    return whole(e)
+
+
+# ---- Accepted ---------------------------------------------------------------------------------------
+
+
+def columns_and_value():
+    """The polynomial 1 + 2X + 3X^2 + 4X^3 in two columns, at 10 and at 0."""
+    s = Sizes(2, 2, 2, 1, 1, 1, 2)
+    src = Source("stored columns")
+    c = committed(s, Lent([1, 2, 3, 4], src.elements(2), src.elements(3), src.bytes(128)))
+    return honest(c, Question(s, c.tree[-32:], [7], [10, 0], [2]))
+
+
+def largest_elements():
+    """Every word is q - 1."""
+    s = Sizes(3, 2, 2, 1, 2, 1, 2)
+    src = Source("stored largest elements")
+    c = committed(s, lend(src, s, lambda count: [Q - 1] * count))
+    return honest(c, ask(src, c, challenges=[Q - 1], points=[Q - 1, 1]))
+
+
+def false_value():
+    """T shifted by a multiple of the product of X - e_i over the opened leaves: accepted, with a false value."""
+    d = drawn(Sizes(3, 2, 2, 1, 2, 1, 1))
+    return d.shift_answer(0, product([5], vanishing(d.indices)))
+
+
+def accepted():
+    yield "case_p", case_p()
+    yield "columns_and_value", columns_and_value()
+    yield "largest_elements", largest_elements()
+    yield "every_place_used", drawn(FULL)
+    yield "several_polynomials", drawn(SEVERAL)
+    yield "first_and_last_leaf", drawn(Sizes(4, 2, 1, 3, 2, 4, 2), indices=[0, 15])
+    yield "index_last", drawn(Sizes(2, 1, 1, 1, 2, 1, 1), indices=[2, 3])
+    yield "equal_points", drawn(Sizes(4, 3, 2, 2, 3, 2, 3), points=[9, 9, 0])
+    yield "false_value", false_value()
+    yield "largest_sizes", simulated(Source("stored largest sizes"), Sizes(12, 64, 1, 256, 64, 4, 8))
+
+
+# ---- Refused ----------------------------------------------------------------------------------------
+
+
+def set_entry(part, at, word):
+    """A change: one word of a part of the draft."""
+
+    def change(e):
+        getattr(e, part)[at] = word
+
+    return change
+
+
+def question_refused():
+    d = drawn(SEVERAL)
+    question, data = d.question(), whole(d)
+    yield "thirteen_bytes", 6, question[:13]
+    yield "wrong_mark", 5, spoiled(data, 2)
+    yield "wrong_version", 5, spoiled(data, 3)
+    yield "version_in_other_order", 5, data[:3] + b"\0\1" + data[5:]
+    yield "one_leaf_too_many", 1, header_with(FULL._replace(l=5))
+    yield "depth_13", 1, header_with(SEVERAL._replace(h=13))
+    yield "columns_257", 1, header_with(Sizes(12, 1, 257, 1, 1, 1, 1))
+    yield "columns_65536", 1, header_with(Sizes(12, 1, 256, 256, 1, 1, 1))
+    yield "nine_points", 1, header_with(SEVERAL._replace(m=9))
+    yield "header_alone", 6, question[:14]
+    yield "question_cut", 6, question[:-1]
+    yield "challenge_q", 3, altered(d, set_entry("challenges", -1, Q))
+    yield "point_q", 3, altered(d, set_entry("points", 0, Q))
+    pair = drawn(Sizes(2, 1, 1, 1, 2, 1, 1), indices=[2, 3])
+    yield "index_twice", 4, altered(pair, set_entry("indices", 0, 3))
+    yield "index_falling", 4, altered(pair, set_entry("indices", 1, 1))
+    yield "index_n", 4, altered(pair, set_entry("indices", 1, 4))
+
+
+def reply_refused():
+    question, reply = case_p().question(), case_p().reply()
+    yield "reply_87", 7, question + reply[:87]
+    yield "reply_89", 7, question + reply + b"\0"
+    yield "no_reply", 7, question
+    siblings = drawn(Sizes(3, 1, 1, 2, 2, 1, 1), indices=[0, 1])
+    listed = S.digest(S.leaf_string(1, *siblings.leaves[1]))
+    yield "computable_sibling_listed", 7, altered(siblings, lambda e: e.nodes.insert(0, listed))
+    d = drawn(SEVERAL)
+    last, repetition, point = d.sizes.l - 1, d.sizes.eta - 1, d.sizes.m - 1
+    yield "batching_word_q", 3, altered(d, lambda e: e.batchings[0].__setitem__(0, Q))
+    yield "answer_word_q", 3, altered(d, lambda e: e.answers[-1].__setitem__(-1, Q))
+    yield "leaf_word_over_q", 3, altered(d, lambda e: e.leaves[-1][0].__setitem__(-1, 2**32 - 1))
+    yield "other_root", 8, spoiled(whole(d), 14 + 31)
+    yield "other_nonce", 8, altered(d, set_entry("leaves", 2, (d.leaves[2][0], spoiled(d.leaves[2][1], 0))))
+    yield "other_node", 8, altered(d, set_entry("nodes", -1, spoiled(d.nodes[-1], 0)))
+    yield "no_first_bytes", 8, whole(unmarked())
+    yield "batching_at_last_leaf", 9, altered(d, lambda e: e.shift_batching(repetition, product([3], d.others(last))))
+    yield "batching_from_power_0", 9, whole(from_power_0())
+    yield "answer_at_last_leaf", 10, altered(d, lambda e: e.shift_answer(point, product([3], d.others(last))))
+    yield "row_hidden_by_masks", 10, altered(d, lambda e: e.compensate(0, 1, 8, range(d.sizes.eta)).rehash())
+
+
+def unmarked():
+    """Leaves and nodes hashed without their first byte, up to the root."""
+    s = Sizes(3, 1, 1, 2, 2, 1, 1)
+    src, c = commitment(s)
+    e = honest(c, ask(src, c))
+    strings = {label: (leaf, node) for label, leaf, node in wrong_strings()}
+    levels = levels_with(c, *strings["leaf and node without first byte"])
+    e.root = levels[-1][0]
+    e.nodes = [levels[level][i] for level, i in S.missing_nodes(s.h, e.indices)]
+    return e
+
+
+def from_power_0():
+    """Batching answers that begin with the power 0 of the challenge."""
+    src, c = commitment(Sizes(3, 2, 1, 2, 2, 2, 1))
+    q = ask(src, c)
+    e = honest(c, q)
+    e.batchings = dict(wrong_batchings(c, q))["batching from power 0"]
+    return e
+
+
+# ---- Files ------------------------------------------------------------------------------------------
+
+
+def cases():
+    """(name, verdict, input)"""
+    for label, draft in accepted():
+        yield label, 0, whole(draft)
+    yield from question_refused()
+    yield from reply_refused()
+
+
+def files():
+    """(path from the repository's root, contents)"""
+    p = whole(case_p())
+    assert len(case_p().question()) == 56 and len(case_p().reply()) == 88
+    assert S.program(p) == b"verdict 0\n1 1 5\n" and S.program(b"") == b"verdict 6\n"
+    yield "crates/verdict/stdin", p
+    yield "crates/verdict/stdout", S.program(p)
+    yield "crates/verdict_empty/stdout", S.program(b"")
+    labels, text = [], b""
+    for label, verdict, data in cases():
+        printed = S.program(data)
+        assert printed.startswith(b"verdict %d\n" % verdict), (label, printed)
+        assert label not in labels, label
+        labels.append(label)
+        text += label.encode() + b"\n" + printed
+        yield "crates/cases/data/" + label, data
+    yield "crates/cases/args", "".join(label + "\n" for label in labels).encode()
+    yield "crates/cases/stdout", text
+
+
+def differing(stored):
+    """Paths whose contents are not the ones made here, and stored inputs that are not made here."""
+    for path, data in stored.items():
+        if not (ROOT / path).is_file() or (ROOT / path).read_bytes() != data:
+            yield path
+    for path in sorted((ROOT / "crates/cases/data").glob("*")):
+        if str(path.relative_to(ROOT)) not in stored:
+            yield str(path.relative_to(ROOT))
+
+
+def main():
+    stored = dict(files())
+    if sys.argv[1:] == ["--check"]:
+        wrong = list(differing(stored))
+        for path in wrong:
+            print("not what the second implementation gives:", path)
+        print("%d stored files, %d differ" % (len(stored), len(wrong)))
+        sys.exit(1 if wrong else 0)
+    if sys.argv[1:]:
+        sys.exit(__doc__)
+    for path in differing(stored):
+        (ROOT / path).unlink(missing_ok=True)
+    for path, data in stored.items():
+        (ROOT / path).parent.mkdir(parents=True, exist_ok=True)
+        (ROOT / path).write_bytes(data)
+    print("%d files written" % len(stored))
+
+
+if __name__ == "__main__":
+    main()
