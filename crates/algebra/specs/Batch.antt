@@ -1,17 +1,15 @@
 -- The honest side: a batch P₀ + z P₁ + z² P₂ + .. of polynomials as numbers, coefficient by coefficient, and what it is worth at a point.
 use mathlib.Core.Path.{_≡_, refl, sym, _∙_, ap, ap₂}
 use mathlib.Core.List.{List, [], _∷_, map}
-use Prim.Native.Nat.{ℕ, _+_, _*_, _≤_, _<_}
-use native.Mathlib.Nat.{not-suc-le-zero, le-of-suc-le-suc}
+use Prim.Native.Nat.{ℕ, _+_, _<_}
 use native.Mathlib.Omega.{arith}
 use lib.ListN.{length, getD, length-map, List·getD-map}
 use Rattle.lists.specs.All.{Distinct}
-use Rattle.algebra.specs.Field.{K, of, of-zero, of-val, val-of, of-add, of-mul, _⊕_, _⊗_, 𝟎}
-use Rattle.algebra.specs.Poly.{eval, addV, scale, coeff-add, coeff-scale}
+use Rattle.algebra.specs.Field.{K, of, of-zero, _⊕_, _⊗_, 𝟎}
+use Rattle.algebra.specs.Poly.{eval, scale, coeff-add, coeff-scale}
 use Rattle.algebra.specs.Interp.{interp}
-use Rattle.algebra.specs.Dot.{accumulateN}
 use Rattle.algebra.specs.Rows.{batch, eval-batch, length-batch, answer-honest}
-use Rattle.algebra.specs.Numbers.{evalN, evalN-below, of-evalN, of-injective, val-of-below, ofs, vals, vals-ofs, ofs-vals, Elements, distinct-ofs, Polys, sized-ofs, interpN, valuesAtN, ofs-valuesAtN, map-ofs-values}
+use Rattle.algebra.specs.Numbers.{evalN, evalN-below, of-evalN, of-injective, val-of-below, ofs, vals, ofs-vals, Elements, distinct-ofs, Polys, sized-ofs, interpN, valuesAtN, ofs-valuesAtN, map-ofs-values}
 
 -- coefficient i of each polynomial
 unfoldable pub columnN : List (List ℕ) → ℕ → List ℕ
@@ -68,12 +66,3 @@ honestN ps n l h z pts lp b d =
     ∙ answer-honest (map ofs ps) n (omega (arith, length-map ps ofs)) (sized-ofs n ps h) (of z) (ofs pts) (length-map pts of ∙ lp) (distinct-ofs pts b d))
 
 -- ---- a step of Horner's rule over rows
-accumulate-vals : (p : List ℕ) (z : ℕ) (r : List K) → Elements p → length r ≤ length p → vals (addV (ofs p) (scale (of z) r)) ≡ accumulateN p z (vals r)
-unfolding addV scale accumulateN
-accumulate-vals [] z [] b l = refl
-accumulate-vals [] z (k ∷ r) b l = absurd (not-suc-le-zero l)
-accumulate-vals (a ∷ p) z [] b l = vals-ofs (a ∷ p) b
-accumulate-vals (a ∷ p) z (k ∷ r) b l = ap₂ (λ (c : ℕ) (t : List ℕ). c ∷ t) (ap (λ (t : K). t .val) head ∙ val-of (a + z * k .val)) (accumulate-vals p z r (b .1) (le-of-suc-le-suc l))
-  where
-    head : of a ⊕ of z ⊗ k ≡ of (a + z * k .val)
-    head = ap (λ (t : K). of a ⊕ of z ⊗ t) (sym (of-val k)) ∙ ap (λ (t : K). of a ⊕ t) (of-mul z (k .val)) ∙ of-add a (z * k .val)

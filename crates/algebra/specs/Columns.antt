@@ -10,7 +10,7 @@ use Rattle.algebra.specs.Prime.{q}
 use Rattle.algebra.specs.Field.{K, of, of-path, of-mul, of-one, _⊗_}
 use Rattle.algebra.specs.Rows.{power, concat, eval-concat}
 use Rattle.algebra.specs.Poly.{eval}
-use Rattle.algebra.specs.Numbers.{evalN, evalN-below, of-evalN, of-injective, ofs, ofs-valuesAtN, valuesAtN}
+use Rattle.algebra.specs.Numbers.{ofs-append, evalN, evalN-below, of-evalN, of-injective, ofs, ofs-valuesAtN, valuesAtN}
 
 -- ---- a polynomial cut into columns of m coefficients
 unfoldable pub powN : ℕ → ℕ → ℕ
@@ -33,10 +33,6 @@ of-powN z (suc m) = of-path _ (z * powN z m) (mod-mod _ q) ∙ sym (of-mul z (po
 unfoldable pub concatN : List (List ℕ) → List ℕ
 concatN [] = []
 concatN (c ∷ cs) = c ++ concatN cs
-
-ofs-append : (p r : List ℕ) → ofs (p ++ r) ≡ ofs p ++ ofs r
-ofs-append [] r = refl
-ofs-append (a ∷ p) r = ap (λ (t : List K). of a ∷ t) (ofs-append p r)
 
 ofs-concat : (cs : List (List ℕ)) → ofs (concatN cs) ≡ concat (map ofs cs)
 unfolding concatN concat

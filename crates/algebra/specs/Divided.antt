@@ -13,7 +13,7 @@ use Rattle.lists.specs.All.{All, Distinct, all-from, all-at, all-map, distinct-
 use Rattle.algebra.specs.Prime.{q}
 use Rattle.algebra.specs.Field.{K, of, of-path, same-mod, of-add, of-mul, of-neg, of-zero, of-one, _⊕_, _⊗_, _⊝_, ⊖, 𝟎, 𝟏, dv, ring, dif-path}
 use Rattle.algebra.specs.Poly.{eval, prod, prod-zero, prod-ne-zero}
-use Rattle.algebra.specs.Numbers.{evalN, evalN-below, of-evalN, of-injective, ofs, Elements, uniqueN, interpN, interpN-below, interpN-length, interpN-values}
+use Rattle.algebra.specs.Numbers.{ofs-append, evalN, evalN-below, of-evalN, of-injective, ofs, Elements, uniqueN, interpN, interpN-below, interpN-length, interpN-values}
 
 -- ---- in the field
 lin : K → K → List K → List K
@@ -150,10 +150,6 @@ nevN-end xs cs z = ap (λ (t : List ℕ). nevN t cs z) (drop-length xs)
 -- the first k give the values at the first k points
 abbrev pub Good : List ℕ → List ℕ → List ℕ → ℕ → Type 0
 Good xs ys cs k = (j : ℕ) → j < k → nevN (take k xs) (take k cs) (getD xs j 0) ≡ getD ys j 0
-
-ofs-append : (p r : List ℕ) → ofs (p ++ r) ≡ ofs p ++ ofs r
-ofs-append [] r = refl
-ofs-append (a ∷ p) r = ap (λ (t : List K). of a ∷ t) (ofs-append p r)
 
 pub below-append : (p r : List ℕ) → Elements p → Elements r → Elements (p ++ r)
 below-append [] r h k = k

@@ -223,8 +223,3 @@ inv-unique a b e = sym (⊗-one b) ∙ ap (λ (t : K). b ⊗ t) (sym (inv-right 
 zero-val : 𝟎 .val ≡ 0
 unfolding 𝟎 of
 zero-val = refl
-
-inv-at-zero : (a : K) (d : Dec (a .val ≡ 0)) → a .val ≡ 0 → inv-at a d ≡ 𝟎
-unfolding inv-at
-inv-at-zero a (yes e) z = refl
-inv-at-zero a (no n) z = absurd (n z)

@@ -1,7 +1,7 @@
 -- The same for numbers: what programs compute on lists of numbers below q, and the field's theorems about it.
 use mathlib.Core.Path.{_≡_, refl, sym, _∙_, ap, ap₂}
 use mathlib.Core.Logic.{_≢_}
-use mathlib.Core.List.{List, [], _∷_, map}
+use mathlib.Core.List.{List, [], _∷_, _++_, map}
 use Prim.Native.Nat.{suc-le-suc, ℕ, suc, _+_, _*_, _-_, _%_, _≤_, _<_}
 use native.Mathlib.Nat.{zero-lt-suc, suc-inj, suc-ne-zero, mod-lt, mod-eq-of-lt, mod-mod, add-mod-mod}
 use native.Mathlib.Omega.{arith}
@@ -230,3 +230,7 @@ values-from v e (g ∷ gs) [] l h = absurd (suc-ne-zero _ (sym l))
 values-from v e (g ∷ gs) (r ∷ rs) l h =
     ap₂ (λ (a : ℕ) (t : List ℕ). a ∷ t) (h 0 (zero-lt-suc _))
     (values-from v e gs rs (suc-inj l) (λ (c : ℕ) (k : c < length gs). h (suc c) (suc-le-suc k)))
+
+pub ofs-append : (p r : List ℕ) → ofs (p ++ r) ≡ ofs p ++ ofs r
+ofs-append [] r = refl
+ofs-append (a ∷ p) r = ap (λ (t : List K). of a ∷ t) (ofs-append p r)

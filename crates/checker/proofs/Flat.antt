@@ -14,6 +14,7 @@ use Rattle.lists.specs.Pieces.{pieces, piece}
 use Rattle.lists.specs.Tests.{all, every, each, all-true, all-places, each-true, true-each}
 use Rattle.checker.specs.Words.{rowsOf}
 use Rattle.checker.proofs.Rows.{rows-none, rows-next, row-at}
+use Rattle.lists.specs.Choice.{and-assoc}
 
 -- ---- tests
 
@@ -35,10 +36,6 @@ each-swap m n f =
     iff (each m (λ p. each n (λ a. f p a))) (each n (λ a. each m (λ p. f p a)))
     (λ e. true-each n (λ a. each m (λ p. f p a)) (λ a l. true-each m (λ p. f p a) (λ p h. each-true n (λ a. f p a) (each-true m (λ p. each n (λ a. f p a)) e p h) a l)))
     (λ e. true-each m (λ p. each n (λ a. f p a)) (λ p h. true-each n (λ a. f p a) (λ a l. each-true m (λ p. f p a) (each-true n (λ a. each m (λ p. f p a)) e a l) p h)))
-
-and-assoc : (a b c : Bool) → (a && b) && c ≡ a && (b && c)
-and-assoc true b c = refl
-and-assoc false b c = refl
 
 all-append : (t : ℕ → Bool) (xs ys : List ℕ) → all t (xs ++ ys) ≡ all t xs && all t ys
 unfolding all

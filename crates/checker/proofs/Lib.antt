@@ -8,4 +8,3 @@ pub mod Roots
 pub mod ReplyTests
 pub mod Verdicts
 pub mod Asking
-pub mod Collected

@@ -3,14 +3,14 @@ use mathlib.Core.Path.{_≡_, refl, sym, ap, ap₂, _∙_}
 use mathlib.Core.Bool.{Bool, _&&_}
 use mathlib.Core.List.{List, [], _∷_, _++_, map, flatten, append-assoc, append-nil}
 use Prim.Native.Nat.{ℕ, zero, suc, _+_, _-_, _*_, _≤_, _<_}
-use native.Mathlib.Nat.{add-zero, suc-add, add-suc, zero-add, mul-suc, mul-le-mul-left, sub-zero}
+use native.Mathlib.Nat.{zero-add, mul-suc, mul-le-mul-left, sub-zero}
 use native.Mathlib.Numerals.{add-one}
 use native.Mathlib.Omega.{arith}
 use lib.ListN.{length, getD, take, drop, length-map, length-take, length-drop}
 use lib.Seq.{take-at, drop-drop, drop-append-add}
 use borrow.Rule.Slice.PartMut.{putMid, post-is}
 use Rattle.lists.specs.All.{Sized, all-each}
-use Rattle.lists.specs.Range.{upFrom, length-upFrom, at-run}
+use Rattle.lists.specs.Range.{upFrom-snoc, upFrom, length-upFrom, at-run}
 use Rattle.lists.specs.Pieces.{piece, pieces, pieces-at, pieces-flatten, flatten-append, length-flatten}
 use Rattle.lists.specs.Tests.{each}
 use Rattle.checker.specs.Words.{rowsOf}
@@ -20,12 +20,6 @@ pub each-ext : (n : ℕ) (f g : ℕ → Bool) → ((i : ℕ) → i < n → f i �
 unfolding each
 each-ext zero f g h = refl
 each-ext (suc n) f g h = ap₂ _&&_ (each-ext n f g (λ i l. h i (omega arith))) (h n (omega arith))
-
-upFrom-snoc : (a n : ℕ) → upFrom a (suc n) ≡ upFrom a n ++ ((a + n) ∷ [])
-unfolding upFrom
-upFrom-snoc a zero = ap (λ (k : ℕ). k ∷ []) (sym (add-zero a))
-upFrom-snoc a (suc n) =
-    ap (λ (t : List ℕ). a ∷ t) (upFrom-snoc (suc a) n ∙ ap (λ (k : ℕ). upFrom (suc a) n ++ (k ∷ [])) (suc-add a n ∙ sym (add-suc a n)))
 
 map-append : (f : ℕ → List ℕ) (xs ys : List ℕ) → map f (xs ++ ys) ≡ map f xs ++ map f ys
 map-append f [] ys = refl

@@ -33,14 +33,6 @@ pointsIn (Refused v) = 0
 
 -- ---- a verdict's answer
 
-pub answered-number : (v : ℕ) (b : Bytes) → numberOf (answered v b) ≡ v
-unfolding answered
-answered-number v b = go (eqb v 0) refl
-  where
-    go : (t : Bool) → eqb v 0 ≡ t → numberOf (pick t (WellFormed (headerShape b) (headerPoints b)) (Refused v)) ≡ v
-    go true e = sym (eqb-true v 0 e)
-    go false e = refl
-
 pub answered-well : (v : ℕ) (b : Bytes) (s : Shape) (m : ℕ) → answered v b ≡ WellFormed s m → (v ≡ 0) × (s ≡ headerShape b) × (m ≡ headerPoints b)
 unfolding answered
 answered-well v b s m = go (eqb v 0) refl

@@ -11,7 +11,7 @@ use Rattle.lists.specs.Range.{upFrom}
 use Rattle.algebra.specs.Numbers.{interpN, valuesAtN}
 use Rattle.scheme.specs.Sizes.{Sizes, width, leaves, recordValues, points}
 use Rattle.scheme.proofs.Row.{length-values, values-append}
-use Rattle.lent.proofs.Parts.{filledParts, front-length, rest-length, two-parts}
+use Rattle.lent.proofs.Parts.{filledParts, rest-length, two-parts}
 use Rattle.committer.specs.Clauses.{Evaluable, valuesOf}
 
 pub values-length : (s : Sizes) (rows masks : List ℕ) (i : ℕ) → length (valuesOf s rows masks i) ≡ recordValues s
@@ -43,9 +43,6 @@ module _ (s : Sizes) (rows masks : List ℕ) (can : Evaluable s rows masks) (i k
       ap length h ∙ length-values (map (interpN (upFrom a k)) (pieces k (length (take (s .μ) out)) rows)) i
       ∙ length-map (pieces k (length (take (s .μ) out)) rows) (interpN (upFrom a k))
       ∙ length-pieces k (length (take (s .μ) out)) rows ∙ front-is
-
-  pub rows-kept : (ys : List ℕ) → RowValues ys → length (after-rows ys) ≡ recordValues s
-  rows-kept ys h = front-length (s .μ) (s .η) out ys (rows-count ys h) hl
 
   masks-count : (ys : List ℕ) → RowValues ys → length (take (length (after-rows ys) - s .μ) (drop (s .μ) (after-rows ys))) ≡ s .η
   masks-count ys h = rest-length (s .μ) (s .η) out ys (rows-count ys h) hl

@@ -12,6 +12,7 @@ ghost use Rattle.scheme.specs.Commit.{lentOk, filledOk, lentElements};
 ghost use Rattle.commitment.specs.Shape.{sizesIn};
 ghost use Rattle.lent.specs.Rows.{CanExtend, strided};
 use commitment::Shape;
+use commitment::both;
 use commitment::elements_ok;
 use commitment::leaf_count;
 
@@ -34,12 +35,6 @@ pub fn row_width(s: Shape) -> usize
 }
 
 // ---- tests
-
-fn both(a: bool, b: bool) -> bool
-    ensures { λ r. ⌜ r ≡ (a && b) ⌝ }
-{
-    if a { b } else { false }
-}
 
 // Is each slice that is lent to be read of its length?
 pub fn lent_ok(s: Shape, coefficients: &[u32], tails: &[u32], masks: &[u32], nonces: &[u8]) -> bool

@@ -89,12 +89,6 @@ words-at n i x l =
 pub word-from : (n at i : ℕ) (x : Bytes) → i < n → getD (words n (drop at x)) i 0 ≡ fromBytes (take 4 (drop (at + 4 * i) x))
 word-from n at i x l = words-at n i (drop at x) l ∙ ap (λ (y : Bytes). fromBytes (take 4 y)) (drop-drop (4 * i) at x)
 
-pub half-from : (n at i : ℕ) (x : Bytes) → i < n → getD (halves n (drop at x)) i 0 ≡ fromBytes (take 2 (drop (at + 2 * i) x))
-half-from n at i x l =
-    getD-map-in fromBytes (pieces 2 n (drop at x)) i [] 0 (subst (λ (k : ℕ). i < k) (sym (length-pieces 2 n (drop at x))) l)
-    ∙ ap fromBytes (pieces-at 2 n i (drop at x) l)
-    ∙ ap (λ (y : Bytes). fromBytes (take 2 y)) (drop-drop (2 * i) at x)
-
 pub four-bytes : (a : ℕ) (x : Bytes) → a + 4 ≤ length x
     → fromBytes (take 4 (drop a x)) ≡ getD x a 0 + 256 * (getD x (a + 1) 0 + 256 * (getD x (a + 2) 0 + 256 * (getD x (a + 3) 0 + 256 * 0)))
 unfolding number

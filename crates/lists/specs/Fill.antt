@@ -6,7 +6,7 @@ use native.Mathlib.Nat.{not-suc-le-zero, ne-of-gt, ne-of-lt}
 use native.Mathlib.Omega.{arith}
 use native.Mathlib.Decide.{ℕ-discrete}
 use lib.ListN.{length, getD, set}
-use lib.Seq.{getD-set-same, getD-set-other, ext-getD}
+use lib.Seq.{getD-set-same, getD-set-other}
 use Rattle.lists.specs.Tabulate.{tabulate, tabulate-is}
 
 abbrev pub entryOf : List ℕ → ℕ → ℕ

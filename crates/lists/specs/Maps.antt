@@ -28,10 +28,10 @@ getD-map-in f [] i d e l = absurd (not-suc-le-zero l)
 getD-map-in f (x ∷ xs) zero d e l = refl
 getD-map-in f (x ∷ xs) (suc i) d e l = getD-map-in f xs i d e (le-of-suc-le-suc l)
 
-pub drop-of : {A : Type 0} {a : A} (n : ℕ) (xs : List A) → Mem a (drop n xs) → Mem a xs
-drop-of zero xs m = m
-drop-of (suc n) [] m = m
-drop-of (suc n) (x ∷ xs) m = there (drop-of n xs m)
+pub getD-in : (s : List ℕ) (a : ℕ) → a < length s → Mem (getD s a 0) s
+getD-in [] a h = absurd (not-suc-le-zero h)
+getD-in (i ∷ s) zero h = here refl
+getD-in (i ∷ s) (suc a) h = there (getD-in s a (le-of-suc-le-suc h))
 
 pub append-cancel : {A : Type 0} (p xs ys : List A) → p ++ xs ≡ p ++ ys → xs ≡ ys
 append-cancel p xs ys e = sym (drop-at p xs (length p) refl) ∙ ap (drop (length p)) e ∙ drop-at p ys (length p) refl

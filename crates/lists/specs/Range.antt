@@ -1,7 +1,7 @@
 -- Consecutive numbers.
 use mathlib.Core.Path.{_≡_, refl, sym, ap, _∙_}
 use mathlib.Core.Logic.{⊎-elim}
-use mathlib.Core.List.{List, [], _∷_, map, List·Memᴰ as Mem, List·Memᴰ·head as here, List·Memᴰ·tail as there, List·Memᴰ·not-nil as not-nil}
+use mathlib.Core.List.{List, [], _∷_, _++_, map, List·Memᴰ as Mem, List·Memᴰ·head as here, List·Memᴰ·tail as there, List·Memᴰ·not-nil as not-nil}
 use Prim.Native.Nat.{ℕ, zero, suc, _+_, _≤_, _<_}
 use native.Mathlib.Nat.{eq-or-lt-of-le, not-suc-le-zero, le-of-suc-le-suc, add-zero, add-suc, suc-add}
 use native.Mathlib.Omega.{arith}
@@ -36,6 +36,11 @@ unfolding upFrom
 take-upFrom a n zero l = refl
 take-upFrom a zero (suc k) l = absurd (not-suc-le-zero l)
 take-upFrom a (suc n) (suc k) l = ap (λ (t : List ℕ). a ∷ t) (take-upFrom (suc a) n k (le-of-suc-le-suc l))
+
+pub upFrom-snoc : (a n : ℕ) → upFrom a (suc n) ≡ upFrom a n ++ ((a + n) ∷ [])
+unfolding upFrom
+upFrom-snoc a zero = ap (λ (k : ℕ). k ∷ []) (sym (add-zero a))
+upFrom-snoc a (suc n) = ap (λ (r : List ℕ). a ∷ r) (upFrom-snoc (suc a) n ∙ ap (λ (k : ℕ). upFrom (suc a) n ++ (k ∷ [])) (suc-add a n ∙ sym (add-suc a n)))
 
 pub upFrom-in : (a n c : ℕ) → a ≤ c → c < a + n → Mem c (upFrom a n)
 unfolding upFrom

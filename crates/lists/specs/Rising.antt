@@ -1,12 +1,11 @@
 -- Strictly rising lists: each number is below all that follow.
-use mathlib.Core.Path.{_≡_, refl, sym, subst}
+use mathlib.Core.Path.{_≡_, sym, subst}
 use mathlib.Core.Bool.{Bool, true, _&&_}
 use mathlib.Core.Logic.{_≢_, ⊎-elim}
-use mathlib.Core.List.{List, [], _∷_, List·Memᴰ as Mem, List·Memᴰ·head as here, List·Memᴰ·not-nil as not-nil, List·Memᴰ·cases-cons as in-cons}
-use Prim.Native.Nat.{ℕ, zero, suc, _<_, suc-le-suc}
-use native.Mathlib.Nat.{zero-lt-suc, not-suc-le-zero, le-of-suc-le-suc, lt-trans, ne-of-gt}
+use mathlib.Core.List.{List, [], _∷_, List·Memᴰ as Mem, List·Memᴰ·not-nil as not-nil, List·Memᴰ·cases-cons as in-cons}
+use Prim.Native.Nat.{ℕ, _<_}
+use native.Mathlib.Nat.{lt-trans, ne-of-gt}
 use lib.Dec.{ltb}
-use lib.ListN.{length, getD}
 use borrow.Author.Tests.{ltb-true}
 use Rattle.lists.specs.Choice.{and-true}
 use Rattle.lists.specs.All.{mem-all, Distinct}
@@ -21,18 +20,6 @@ rising-distinct (x ∷ xs) h = (mem-all (λ (y : ℕ). y ≢ x) xs (λ y m. ne-o
 
 pub rising-cons : (i j : ℕ) (s : List ℕ) → i < j → Rising (j ∷ s) → Rising (i ∷ j ∷ s)
 rising-cons i j s l r = ((λ k m. ⊎-elim (λ (e : k ≡ j). subst (λ (n : ℕ). i < n) (sym e) l) (λ n. lt-trans l (r .0 k n)) (in-cons m)), r)
-
--- from each number to the next
-pub rising-of : (s : List ℕ) → ((k : ℕ) → suc k < length s → getD s k 0 < getD s (suc k) 0) → Rising s
-rising-of [] h = tt
-rising-of (i ∷ []) h = (λ j m. absurd (not-nil m), tt)
-rising-of (i ∷ k ∷ s) h = rising-cons i k s (h 0 (suc-le-suc (zero-lt-suc (length s)))) (rising-of (k ∷ s) (λ n l. h (suc n) (suc-le-suc l)))
-
-pub rising-at : (s : List ℕ) → Rising s → (k : ℕ) → suc k < length s → getD s k 0 < getD s (suc k) 0
-rising-at [] r k l = absurd (not-suc-le-zero l)
-rising-at (i ∷ []) r k l = absurd (not-suc-le-zero (le-of-suc-le-suc l))
-rising-at (i ∷ j ∷ s) r zero l = r .0 j (here refl)
-rising-at (i ∷ j ∷ s) r (suc k) l = rising-at (j ∷ s) (r .1) k (le-of-suc-le-suc l)
 
 -- as a test
 unfoldable pub rising : List ℕ → Bool

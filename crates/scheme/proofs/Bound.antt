@@ -2,7 +2,7 @@
 -- Assumes nothing: that no two do is a hypothesis.
 use mathlib.Core.Path.{_≡_, refl, sym, ap, _∙_, subst}
 use mathlib.Core.Bool.{Bool}
-use mathlib.Core.List.{List, [], _∷_, _++_, map, List·Memᴰ as Mem, List·Memᴰ·head as here, List·Memᴰ·tail as there}
+use mathlib.Core.List.{List, [], _∷_, _++_, map, List·Memᴰ as Mem, List·Memᴰ·tail as there}
 use Prim.Native.Nat.{ℕ, zero, suc, _+_, _-_, _^_, _<_}
 use native.Mathlib.Nat.{not-suc-le-zero, le-of-suc-le-suc, suc-inj, suc-ne-zero, ne-of-gt, zero-add}
 use native.Mathlib.Omega.{arith}
@@ -15,7 +15,7 @@ use Rattle.lists.specs.Range.{upFrom, at-run, length-upFrom}
 use Rattle.lists.specs.Rising.{Rising}
 use Rattle.lists.specs.Bytes.{Bytes, littleEndian}
 use Rattle.tree.specs.Tree.{found, rootFrom, hashed}
-use Rattle.lists.specs.Maps.{append-cancel}
+use Rattle.lists.specs.Maps.{getD-in, append-cancel}
 use Rattle.lists.specs.All.{Below}
 use Rattle.lists.specs.Pieces.{length-pieces, pieces-sized}
 use Rattle.tree.proofs.Binding.{Opening, leaf-binding}
@@ -25,11 +25,6 @@ use Rattle.scheme.specs.Reply.{Reply, readReply, nodesAt}
 use Rattle.tree.specs.Leaf.{leafString}
 use Rattle.scheme.specs.Check.{leafAt, recordAt, leafStrings, replyRoot, hashedStrings}
 use Rattle.scheme.proofs.Accepted.{Accepted}
-
-pub getD-in : (s : List ℕ) (a : ℕ) → a < length s → Mem (getD s a 0) s
-getD-in [] a l = absurd (not-suc-le-zero l)
-getD-in (i ∷ s) zero l = here refl
-getD-in (i ∷ s) (suc a) l = there (getD-in s a (le-of-suc-le-suc l))
 
 -- what stands for the node at place a of a rising set is found there
 pub found-at : (s : List ℕ) (l : List Bytes) (a : ℕ) → Rising s → length s ≡ length l → a < length s → found s l (getD s a 0) ≡ getD l a []

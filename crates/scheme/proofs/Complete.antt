@@ -13,7 +13,7 @@ use Rattle.lists.specs.Range.{upFrom, at-run, length-upFrom, upFrom-of}
 use Rattle.tree.specs.Sets.{missing}
 use Rattle.lists.specs.Bytes.{Bytes, bytesOf, Small}
 use Rattle.tree.specs.Tree.{at, allParts, opened, rootFrom}
-use Rattle.lists.specs.Maps.{map-cong, getD-map-in}
+use Rattle.lists.specs.Maps.{getD-in, map-cong, getD-map-in}
 use Rattle.lists.specs.All.{Sized, Below, below-mem, All, all-imp, all-append, all-each}
 use Rattle.tree.proofs.Counts.{missing-bound}
 use Rattle.tree.proofs.Complete.{complete}
@@ -32,7 +32,7 @@ use Rattle.scheme.specs.Open.{openedBatching, openedAnswers, openedRecor
 use Rattle.scheme.specs.Check.{leafAt, recordAt, challengeOf, batchingOf, pointOf, answerOf, replyElements, leafStrings, replyRoot, batchingAt, evaluationAt, replyTests, checkVerdict, checkValues, checking, checkingC}
 use Rattle.scheme.specs.Honest.{trueValues, Right, Replied, Completeness}
 use Rattle.scheme.proofs.Accepted.{Asked, well-formed, question-numbers}
-use Rattle.scheme.proofs.Bound.{some-children, leaves-are, indices-length, points-length, getD-in}
+use Rattle.scheme.proofs.Bound.{some-children, leaves-are, indices-length, points-length}
 use Rattle.scheme.proofs.Row.{combination-length, combination-below, evaluation-honest, batching-honest, values-honest}
 use Rattle.scheme.proofs.Whole.{whole-length, back-batching, back-answers, back-records, back-nodes}
 use Rattle.scheme.proofs.Lent.{small, below-elements, Rights, rights}

@@ -1,21 +1,20 @@
 -- A question written as bytes is read back, and is well formed where its parts are.
-use mathlib.Core.Path.{_≡_, refl, sym, ap, ap₂, _∙_, subst}
-use mathlib.Core.Bool.{Bool, true, false, not, _&&_}
-use mathlib.Core.List.{List, [], _∷_, _++_, map, flatten, append-assoc, append-nil}
-use Prim.Native.Nat.{ℕ, suc, _+_, _*_, _^_, _≤_, _<_}
+use mathlib.Core.Path.{_≡_, refl, sym, ap, ap₂, _∙_}
+use mathlib.Core.Bool.{true, not, _&&_}
+use mathlib.Core.List.{List, [], _++_, map, flatten, append-nil}
+use Prim.Native.Nat.{ℕ, _+_, _*_, _≤_, _<_}
 use native.Mathlib.Omega.{arith}
-use lib.Dec.{eqb, ltb}
-use lib.ListN.{length, getD, take, drop, length-append}
+use lib.Dec.{ltb}
+use lib.ListN.{length, take, drop, length-append}
 use lib.Seq.{take-at, drop-at, drop-drop}
 use borrow.Author.Tests.{eq-eqb, le-ltb, ltb-true}
 use Rattle.lists.specs.Choice.{both-true}
-use Rattle.lists.specs.All.{All, Below, all-append, all-imp}
-use Rattle.lists.specs.Rising.{Rising, rising}
-use Rattle.lists.specs.Bytes.{Bytes, fromBytes, littleEndian, halves, words, bytesOf, Small, length-littleEndian, number-littleEndian, numbers-back, length-numbers, words-bytesOf, length-bytesOf}
-use Rattle.lists.specs.Number.{number}
-use Rattle.lists.specs.Tests.{Test, verdictOf, all, same, same-refl, pass, all-true, true-all}
+use Rattle.lists.specs.All.{Below, all-append, all-imp}
+use Rattle.lists.specs.Rising.{rising}
+use Rattle.lists.specs.Bytes.{Bytes, fromBytes, littleEndian, halves, words, bytesOf, Small, number-littleEndian, numbers-back, length-numbers, words-bytesOf, length-bytesOf}
+use Rattle.lists.specs.Tests.{all, same, same-refl, pass, all-true, true-all}
 use Rattle.scheme.specs.Sizes.{Sizes, leaves, sizesOk, pointsOk, elements}
-use Rattle.scheme.specs.Question.{Question, readQuestion, questionTests, questionVerdict, headerLength, headerSizes, headerPoints, headerTests, mark, challengesAt, pointsAt, indicesAt, questionLength}
+use Rattle.scheme.specs.Question.{Question, readQuestion, questionTests, questionVerdict, headerLength, headerSizes, headerPoints, mark, challengesAt, pointsAt, indicesAt, questionLength}
 use Rattle.scheme.specs.HonestCalls.{headerBytes, questionBytes}
 use Rattle.algebra.specs.Prime.{q}
 use Rattle.scheme.proofs.Accepted.{Good, good, leaves-high, elements-below}

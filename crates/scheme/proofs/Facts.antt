@@ -22,9 +22,9 @@ use Rattle.scheme.specs.Question.{Question, readQuestion}
 use Rattle.scheme.specs.Reply.{Reply, readReply, recordWords, rowValues, maskValue, recordsAt, answersAt, recordLength}
 use Rattle.scheme.specs.Check.{recordAt, challengeOf, batchingOf, pointOf, answerOf, checkVerdict, checkValues, checking, checkingC}
 use Rattle.scheme.specs.Collect.{Entry, forRust, forC, Call, does, Answered, valuesIn, returned, asked, given, Opens}
-use Rattle.lists.specs.Maps.{getD-map-in}
+use Rattle.lists.specs.Maps.{getD-in, getD-map-in}
 use Rattle.scheme.proofs.Accepted.{Good, Accepted, accepted}
-use Rattle.scheme.proofs.Bound.{Placed, placed, indices-length, challenges-length, getD-in}
+use Rattle.scheme.proofs.Bound.{Placed, placed, indices-length, challenges-length}
 
 -- n elements
 abbrev pub Poly : ℕ → List ℕ → Type 0

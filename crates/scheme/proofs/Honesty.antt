@@ -1,35 +1,35 @@
 -- Honest calls meet the hypotheses of demand 3, but for collisions, and it finds the committed rows from them.
-use mathlib.Core.Path.{_≡_, refl, sym, ap, ap₂, _∙_, subst}
-use mathlib.Core.Bool.{Bool, true, false, _&&_}
+use mathlib.Core.Path.{_≡_, refl, sym, ap, _∙_, subst}
+use mathlib.Core.Bool.{true}
 use mathlib.Core.Logic.{_⊎_, inl, inr, ⊎-elim}
-use mathlib.Core.List.{List, [], _∷_, _++_, map, flatten, append-nil, List·Memᴰ as Mem, List·Memᴰ·head as here, List·Memᴰ·tail as there, List·Memᴰ·not-nil as not-nil, Memᴰ·append-left as in-left, Memᴰ·append-right as in-right, List·Memᴰ·append-cases as in-cases}
+use mathlib.Core.List.{List, [], _∷_, map, flatten, append-nil, List·Memᴰ as Mem, List·Memᴰ·head as here, List·Memᴰ·tail as there, List·Memᴰ·not-nil as not-nil, Memᴰ·append-left as in-left, Memᴰ·append-right as in-right, List·Memᴰ·append-cases as in-cases}
 use Prim.Native.Nat.{ℕ, zero, suc, _+_, _-_, _*_, _≤_, _<_}
 use native.Mathlib.Nat.{zero-add, le-refl, mul-le-mul-left, mul-le-mul-right}
 use native.Mathlib.Decide.{decLe}
 use native.Mathlib.Omega.{arith}
 use lib.Dec.{ltb}
-use lib.ListN.{length, getD, take, drop, replicate, length-replicate, length-drop, length-map}
+use lib.ListN.{length, getD, take, replicate, length-replicate, length-drop, length-map}
 use lib.Seq.{take-at}
 use borrow.Author.Tests.{lt-ltb}
 use Rattle.lists.specs.Choice.{both-true}
-use Rattle.lists.specs.All.{All, Below, all-imp}
+use Rattle.lists.specs.All.{all-imp}
 use Rattle.lists.specs.Rising.{rising}
 use Rattle.lists.specs.Range.{upFrom, length-upFrom, upFrom-at, at-run, upFrom-in, upFrom-of, upFrom-below, upFrom-distinct}
 use Rattle.lists.specs.Maps.{map-in, map-of}
 use Rattle.lists.specs.Bytes.{Bytes}
-use Rattle.lists.specs.Tests.{all, true-all}
+use Rattle.lists.specs.Tests.{true-all}
 use Rattle.algebra.specs.Prime.{q}
 use Rattle.algebra.specs.Numbers.{Elements}
-use Rattle.scheme.specs.Sizes.{Sizes, leaves, rows, width, degree, elements}
+use Rattle.scheme.specs.Sizes.{Sizes, leaves, rows, degree}
 use Rattle.scheme.specs.Layers.{Lent, rowPolynomials, batchingAnswer}
 use Rattle.scheme.specs.Question.{Question, readQuestion, headerLength, headerSizes}
 use Rattle.scheme.specs.Commit.{tableOf, treeOf, lastDigest}
 use Rattle.scheme.specs.Open.{replyOf}
 use Rattle.scheme.specs.Check.{checking, batchingOf, challengeOf, leafAt}
-use Rattle.scheme.specs.Collect.{Call, forRust, Answered, asked, given, Collected, Opens, NoCollision, Covered, Extracted}
+use Rattle.scheme.specs.Collect.{Call, forRust, Answered, asked, given, Collected, Opens, Covered}
 use Rattle.scheme.specs.Honest.{Right, Names, trueValues}
 use Rattle.scheme.specs.HonestCalls.{headerBytes, questionBytes, committedRoot, honestQuestion, honestCall, honestChallenges, honestAnswers, honestRuns, honestCalls, HonestCollection}
-use Rattle.scheme.proofs.Accepted.{Good, good, leaves-high, degree-suc}
+use Rattle.scheme.proofs.Accepted.{degree-suc}
 use Rattle.scheme.proofs.Lent.{Rights, rights, below-elements}
 use Rattle.scheme.proofs.Committed.{tree-bytes}
 use Rattle.scheme.proofs.Complete.{checks, batching-is, reply-is}

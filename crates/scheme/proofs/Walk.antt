@@ -1,33 +1,18 @@
 -- For programs: what a test is worth as a walk goes over its elements, and where each record of a question and a reply begins.
 use mathlib.Core.Path.{_≡_, sym, ap, _∙_, subst}
-use mathlib.Core.Bool.{true, false}
 use mathlib.Core.List.{[]}
-use Prim.Native.Nat.{ℕ, _+_, _*_, _≤_, _<_}
-use lib.Dec.{ltb}
-use borrow.Author.Tests.{lt-ltb, le-ltb}
+use Prim.Native.Nat.{ℕ, _+_, _*_, _<_}
 use lib.ListN.{take, drop}
 use lib.Seq.{drop-drop}
-use Rattle.lists.specs.Bytes.{words-of-piece, word-from, Bytes, fromBytes, words, length-words}
-use Rattle.algebra.specs.Prime.{q}
+use Rattle.lists.specs.Bytes.{words-of-piece, Bytes, words}
 use Rattle.lists.specs.Pieces.{pieces, length-pieces, pieces-at}
-use Rattle.lists.specs.Tests.{all-places, all-fails, each}
+use Rattle.lists.specs.Tests.{each}
 use Rattle.scheme.specs.Sizes.{elements}
 use Rattle.scheme.specs.Sizes.{width}
 use Rattle.scheme.specs.Question.{Question}
 use Rattle.scheme.specs.Reply.{readReply, answersAt, recordsAt, recordLength}
 use Rattle.scheme.specs.Check.{batchingOf, answerOf, recordAt}
 use Rattle.lists.specs.Maps.{getD-map-in}
-
--- the words from at on are elements, word by word
-pub elements-hold : (n at : ℕ) (x : Bytes) → ((i : ℕ) → i < n → fromBytes (take 4 (drop (at + 4 * i) x)) < q) → elements (words n (drop at x)) ≡ true
-elements-hold n at x h =
-    all-places (λ y. ltb y q) 0 (words n (drop at x))
-    (λ i l. let m : i < n = subst (λ (k : ℕ). i < k) (length-words n (drop at x)) l in ap (λ (y : ℕ). ltb y q) (word-from n at i x m) ∙ lt-ltb _ q (h i m))
-
-pub elements-fail : (n at i : ℕ) (x : Bytes) → i < n → q ≤ fromBytes (take 4 (drop (at + 4 * i) x)) → elements (words n (drop at x)) ≡ false
-elements-fail n at i x l h =
-    all-fails (λ y. ltb y q) 0 (words n (drop at x)) i (subst (λ (k : ℕ). i < k) (sym (length-words n (drop at x))) l)
-    (ap (λ (y : ℕ). ltb y q) (word-from n at i x l) ∙ le-ltb _ q h)
 
 -- ---- where each record of a reply begins
 

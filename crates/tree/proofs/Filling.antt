@@ -16,7 +16,7 @@ use Rattle.tree.specs.Clauses.{CanHashLevel, withLevel, CanFillLevels}
 use Rattle.tree.specs.Sets.{children, treeSize}
 use Rattle.tree.specs.Tree.{at, nodeString, above, tree, parts, allParts}
 use Rattle.tree.proofs.Digests.{parts-bytes, consecutive, replaced-length, parts-set, part-is, part-put}
-use Rattle.tree.proofs.Lists.{upFrom-snoc, take-pieces}
+use Rattle.tree.proofs.Lists.{first-snoc, take-pieces}
 
 -- ---- one level
 
@@ -41,7 +41,7 @@ partly-step b pre n ds p h =
     ∙ append-assoc (take n ds) (map f (upFrom 0 p)) (f p ∷ drop (suc (n + p)) ds)
     ∙ ap (λ (r : List Bytes). take n ds ++ r)
     (sym (append-snoc (map f (upFrom 0 p)) (f p) (drop (suc (n + p)) ds))
-    ∙ ap₂ (λ (x y : List Bytes). x ++ y) (sym (ap (map f) (upFrom-snoc p) ∙ map-append f (upFrom 0 p) (p ∷ []))) (ap (λ (k : ℕ). drop k ds) e))
+    ∙ ap₂ (λ (x y : List Bytes). x ++ y) (sym (ap (map f) (first-snoc p) ∙ map-append f (upFrom 0 p) (p ∷ []))) (ap (λ (k : ℕ). drop k ds) e))
 
 pub record HashLevelInv (b w : ℕ) (part₀ buf₀ : Bytes) (off : ℕ) (part buf : Bytes) (p : ℕ) : Type 0 where
   pub bound : p ≤ w

@@ -2,25 +2,20 @@
 use mathlib.Core.List.{List, [], _∷_, _++_, List·Memᴰ as Mem, List·Memᴰ·head as here, List·Memᴰ·tail as there, tail}
 use mathlib.Core.Path.{_≡_, refl, sym, ap, _∙_}
 use Prim.Native.Nat.{ℕ, zero, suc, _+_, _≤_, _<_, _-_}
-use native.Mathlib.Nat.{zero-add, add-zero, not-suc-le-zero, zero-lt-suc, le-of-suc-le-suc, add-suc, suc-add}
+use native.Mathlib.Nat.{zero-add, not-suc-le-zero, zero-lt-suc, le-of-suc-le-suc}
 use native.Mathlib.Numerals.{add-one}
 use native.Mathlib.Omega.{arith}
-use lib.ListN.{length, getD, take, drop}
+use lib.ListN.{length, take, drop}
 use lib.Seq.{drop-drop}
 use Rattle.lists.specs.Bytes.{Bytes}
 use Rattle.lists.specs.Pieces.{pieces}
-use Rattle.lists.specs.Range.{upFrom}
+use Rattle.lists.specs.Range.{upFrom-snoc, upFrom}
 use Rattle.lists.specs.Rising.{Rising}
 
 pub rising-drop : (a : ℕ) (s : List ℕ) → Rising s → Rising (drop a s)
 rising-drop zero s r = r
 rising-drop (suc a) [] r = r
 rising-drop (suc a) (i ∷ s) r = rising-drop a s (r .1)
-
-pub getD-in : (s : List ℕ) (a : ℕ) → a < length s → Mem (getD s a 0) s
-getD-in [] a h = absurd (not-suc-le-zero h)
-getD-in (i ∷ s) zero h = here refl
-getD-in (i ∷ s) (suc a) h = there (getD-in s a (le-of-suc-le-suc h))
 
 pub in-length : {A : Type 0} {a : A} {l : List A} → Mem a l → zero < length l
 in-length (here {xs = l} e) = zero-lt-suc (length l)
@@ -41,13 +36,8 @@ drop-later x y i j h e =
     let q : i + (j - i) ≡ j = omega arith in
     ap (λ (k : ℕ). drop k x) (sym q) ∙ sym (drop-drop (j - i) i x) ∙ ap (drop (j - i)) e ∙ drop-drop (j - i) i y ∙ ap (λ (k : ℕ). drop k y) q
 
-upFrom-last : (a n : ℕ) → upFrom a (suc n) ≡ upFrom a n ++ ((a + n) ∷ [])
-unfolding upFrom
-upFrom-last a zero = ap (λ (k : ℕ). k ∷ []) (sym (add-zero a))
-upFrom-last a (suc n) = ap (λ (r : List ℕ). a ∷ r) (upFrom-last (suc a) n ∙ ap (λ (k : ℕ). upFrom (suc a) n ++ (k ∷ [])) (suc-add a n ∙ sym (add-suc a n)))
-
-pub upFrom-snoc : (n : ℕ) → upFrom 0 (n + 1) ≡ upFrom 0 n ++ (n ∷ [])
-upFrom-snoc n = ap (upFrom 0) (add-one n) ∙ upFrom-last 0 n ∙ ap (λ (k : ℕ). upFrom 0 n ++ (k ∷ [])) (zero-add n)
+pub first-snoc : (n : ℕ) → upFrom 0 (n + 1) ≡ upFrom 0 n ++ (n ∷ [])
+first-snoc n = ap (upFrom 0) (add-one n) ∙ upFrom-snoc 0 n ∙ ap (λ (k : ℕ). upFrom 0 n ++ (k ∷ [])) (zero-add n)
 
 pub take-pieces : {A : Type 0} (k n m : ℕ) (x : List A) → n ≤ m → take n (pieces k m x) ≡ pieces k n x
 unfolding pieces

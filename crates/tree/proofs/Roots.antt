@@ -17,9 +17,10 @@ use Rattle.tree.specs.Sets.{parents, siblings, missing}
 use Rattle.tree.specs.Tree.{found, strings, rootFrom, parts, allParts}
 use Rattle.tree.proofs.Counting.{set-kept, set-fewer}
 use Rattle.tree.proofs.Counts.{missing-count}
-use Rattle.tree.proofs.Lists.{getD-in, in-length}
+use Rattle.tree.proofs.Lists.{in-length}
 use Rattle.tree.proofs.Members.{parents-in, parents-below}
 use Rattle.tree.proofs.Turns.{set-length}
+use Rattle.lists.specs.Maps.{getD-in}
 
 pub record RootInv (b h : ℕ) (idx₀ : List ℕ) (n₀ : ℕ) (dig₀ nodes buf₀ : Bytes) (off : ℕ) (idx : List ℕ) (dig buf : Bytes) (n t left : ℕ) : Type 0 where
   pub can : CanRoot b left idx n dig nodes buf off

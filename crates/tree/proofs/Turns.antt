@@ -13,8 +13,9 @@ use Rattle.tree.specs.Clauses.{NodeSet}
 use Rattle.tree.specs.Sets.{children, parents, siblings, below, without}
 use Rattle.tree.specs.Tree.{strings}
 use Rattle.tree.specs.Walk.{used, skipped, fill}
-use Rattle.tree.proofs.Lists.{rising-drop, getD-in}
+use Rattle.tree.proofs.Lists.{rising-drop}
 use Rattle.tree.proofs.Walk as Walk
+use Rattle.lists.specs.Maps.{getD-in}
 
 -- p is the first node above the set, and u of the set's nodes are under it
 pub record Turn (b : ℕ) (s : List ℕ) (p u : ℕ) : Type 0 where
