@@ -1,6 +1,6 @@
 -- The lines of one point, and of all points: one more each turn.
 use mathlib.Core.Path.{_≡_, refl, sym, ap, _∙_}
-use mathlib.Core.List.{List, [], _∷_, _++_, map, flatten, append-assoc, append-nil}
+use mathlib.Core.List.{List, [], _++_, map, flatten, append-assoc, append-nil}
 use Prim.Native.Nat.{ℕ, zero, suc, _+_, _*_, _≤_, _<_}
 use native.Mathlib.Nat.{add-zero, suc-add, add-suc, zero-add, mul-suc, mul-assoc, mul-comm, mul-le-mul-left}
 use native.Mathlib.Numerals.{add-one}

@@ -1,18 +1,18 @@
 -- How the input splits into a question and a reply, and what is printed for the two parts.
-use mathlib.Core.Path.{_≡_, refl, sym, ap, ap₂, _∙_, subst}
+use mathlib.Core.Path.{_≡_, sym, ap, ap₂, _∙_, subst}
 use mathlib.Core.Logic.{_⊎_, inl, inr, ⊎-elim}
 use mathlib.Core.Bool.{Bool, true, false, not}
-use mathlib.Core.List.{List, [], _∷_, _++_, append-nil}
+use mathlib.Core.List.{List, []}
 use Prim.Native.Nat.{ℕ, _-_, _*_, _≤_, _<_, min}
 use native.Mathlib.Nat.{one-mul, not-suc-le-zero, min-eq-left, min-eq-right, le-min, le-of-eq, sub-zero, mul-le-mul, mul-le-mul-left}
 use native.Mathlib.Omega.{arith}
 use lib.Dec.{eqb, leb}
-use lib.ListN.{length, getD, take, drop, length-drop, drop-of-length-le}
+use lib.ListN.{length, take, drop, length-drop, drop-of-length-le}
 use lib.Seq.{take-all, take-take, take-length, drop-length, getD-take}
 use borrow.Author.Tests.{eq-eqb, ne-eqb, eqb-false, ltb-false, leb-true, leb-false}
 use Rattle.lists.specs.Choice.{pick, tested, and-true}
 use Rattle.lists.specs.Bytes.{Bytes}
-use Rattle.lists.specs.Tests.{verdictOf, passed, verdict-stop}
+use Rattle.lists.specs.Tests.{passed, verdict-stop}
 use Rattle.scheme.specs.Sizes.{Sizes}
 use Rattle.scheme.specs.Question.{Question, readQuestion, questionTests, headerTests, headerLength, headerSizes, headerPoints, questionLength}
 use Rattle.scheme.specs.Reply.{readReply}

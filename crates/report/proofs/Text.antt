@@ -1,8 +1,8 @@
 -- The text of a verdict: `verdict `, the number, a line end, and after verdict 0 the lines of the values.
 use mathlib.Core.Path.{_≡_, refl, sym, ap, _∙_}
 use mathlib.Core.Bool.{Bool, true, false}
-use mathlib.Core.List.{List, [], _∷_, _++_, append-assoc, append-nil}
-use Prim.Native.Nat.{ℕ, _+_, _*_, _≤_, _<_}
+use mathlib.Core.List.{[], _∷_, _++_, append-assoc, append-nil}
+use Prim.Native.Nat.{ℕ, _+_, _*_, _≤_}
 use native.Mathlib.Nat.{mul-le-mul}
 use native.Mathlib.Omega.{arith}
 use lib.Dec.{eqb}
@@ -10,7 +10,7 @@ use lib.ListN.{length, take, drop, length-append}
 use borrow.Author.Tests.{eq-eqb, ne-eqb}
 use Rattle.lists.specs.Choice.{pick}
 use Rattle.lists.specs.Bytes.{Bytes}
-use Rattle.scheme.specs.Program.{decimal, valueLines, text}
+use Rattle.scheme.specs.Program.{decimal, text}
 use Rattle.report.specs.Written.{written}
 use Rattle.report.proofs.Writing.{written-more, left-over}
 use Rattle.report.proofs.Decimal.{decimal-few}

@@ -43,9 +43,11 @@ written-more b at t u r o z room e f =
 pub written-front : (b t : Bytes) → written b 0 t ≡ overwritten b t
 written-front b t = ap (λ (n : ℕ). (n, t ++ drop n b)) (zero-add (length t))
 
-pub front-within : (b t : Bytes) (r : ℕ) (o : Bytes) → (r, o) ≡ overwritten b t → r ≤ length o
-front-within b t r o e =
-    omega (arith, ap (λ (x : ℕ × Bytes). x .0) e, ap (λ (x : ℕ × Bytes). length (x .1)) e, length-append t (drop (length t) b))
+-- the text lies within the buffer: what lending the buffer's front asks
+pub front-counts : (b t : Bytes) (r : ℕ) (o : Bytes) → (r, o) ≡ overwritten b t → (r ≤ length o) × (r ≡ length (take r o))
+front-counts b t r o e =
+    let h : r ≤ length o = omega (arith, ap (λ (x : ℕ × Bytes). x .0) e, ap (λ (x : ℕ × Bytes). length (x .1)) e, length-append t (drop (length t) b)) in
+    (h, sym (length-take-le r o h))
 
 pub front-length : (n : ℕ) (l : List ℕ) → n ≤ length l → length (take (n - 0) l) ≡ n
 front-length n l h = ap (λ (k : ℕ). length (take k l)) (sub-zero n) ∙ length-take-le n l h

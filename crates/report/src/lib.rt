@@ -150,12 +150,3 @@ pub fn report(input: &[u8], out: &mut [u8]) -> usize
         Questioned::Refused(v) => put_verdict(out, v),
     }
 }
-
-// Reads at most 65,536 bytes and prints their text.
-pub fn answer(from: i32) {
-    let mut input = io::large_buffer();
-    let n = io::read_full(from, &mut input);
-    let mut out = io::large_buffer();
-    let r = report(&input[..n], &mut out);
-    io::write_all(1, &out[..r]);
-}

@@ -1,5 +1,4 @@
 -- Collected replies for the two entries of the check: a list of calls of either, each as its contract describes it.
-use mathlib.Core.Path.{_≡_}
 use mathlib.Core.List.{List, List·Memᴰ as Mem}
 use Prim.Native.Nat.{ℕ}
 use contract.Lifetimes.{Lfts}
@@ -7,7 +6,7 @@ use denote.Ref.{now}
 use denote.Triple.Clauses.{AtExit}
 use borrow.Fn.Kinds.{Dens, resT, endedOf}
 use Rattle.lists.specs.Bytes.{Bytes}
-use Rattle.scheme.specs.Collect.{Entry, forRust, forC, Call, Answered, CollectedReplies, NoCollision, Covered, Extracted}
+use Rattle.scheme.specs.Collect.{forRust, forC, Call, Answered, NoCollision, Covered, Extracted}
 use Rattle.scheme.proofs.Replies.{collected-replies}
 use Rattle.checker.proofs.check.Kinds as check-kinds
 use Rattle.checker.proofs.check.Reads as check

@@ -11,14 +11,13 @@ use lib.Seq.{length-take-le}
 use borrow.Author.Tests.{eq-eqb, ne-eqb}
 use Rattle.lists.specs.Choice.{pick}
 use Rattle.lists.specs.Bytes.{Bytes, bytesOf}
-use Rattle.lists.specs.Tests.{Test, verdictOf, verdict-go, verdict-stop, verdict-hit}
+use Rattle.lists.specs.Tests.{verdictOf, verdict-go, verdict-stop, verdict-hit}
 use Rattle.scheme.specs.Sizes.{Sizes}
-use Rattle.scheme.specs.Question.{Question, readQuestion, questionTests, questionVerdict}
+use Rattle.scheme.specs.Question.{Question, readQuestion, questionTests}
 use Rattle.scheme.specs.Reply.{readReply}
 use Rattle.scheme.specs.Commit.{after}
 use Rattle.scheme.specs.Check.{checkVerdict, checkValues, replyTests, checking, checkingC}
 use Rattle.scheme.proofs.Accepted.{well-formed, question-numbers}
-use Rattle.commitment.specs.Shape.{sizesIn}
 use Rattle.commitment.specs.Questioned.{questioned}
 use Rattle.commitment.specs.declared.Shape.{Shape}
 use Rattle.commitment.specs.declared.Questioned.the-variants.{WellFormed, Refused}

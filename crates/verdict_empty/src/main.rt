@@ -1,4 +1,8 @@
-// The checking program on empty input.
+// The checking program, run on empty input.
 fn main() {
-    report::answer(0);
+    let mut input = io::large_buffer();
+    let n = io::read_full(0, &mut input);
+    let mut out = io::large_buffer();
+    let r = report::report(&input[..n], &mut out);
+    io::write_all(1, &out[..r]);
 }

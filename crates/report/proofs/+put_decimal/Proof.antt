@@ -1,5 +1,5 @@
 -- `report::put_decimal` meets its contract. The measure is the number, which falls to its tenth. The digits before the last one come first.
-use mathlib.Core.Path.{_≡_, sym, ap, _∙_}
+use mathlib.Core.Path.{sym, ap, _∙_}
 use lib.ListN.{length}
 use native.Mathlib.Omega.{arith}
 use borrow.Author.Needs.{needs}

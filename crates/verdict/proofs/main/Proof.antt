@@ -1,12 +1,10 @@
--- `report::answer` meets its contract. It asks only that the text lies within the buffer.
-use mathlib.Core.Path.{sym}
+-- `verdict::main` is safe: the text that it writes lies within its buffer.
 use lib.ListN.{take}
-use lib.Seq.{length-take-le}
 use Rattle.scheme.specs.Program.{printed}
-use Rattle.report.proofs.Writing.{front-within}
+use Rattle.report.proofs.Writing.{front-counts}
 use borrow.Author.Needs.{needs}
-use Rattle.report.proofs.answer.Statement.{statement}
-use Rattle.report.proofs.answer.Tie as tie
+use Rattle.verdict.proofs.main.Statement.{statement}
+use Rattle.verdict.proofs.main.Tie as tie
 
 large-buffer-requires : tie.Need-large-buffer-requires
 large-buffer-requires c κs = search needs
@@ -35,13 +33,14 @@ report-requires c κs = search needs
 array-share-prefix-out : tie.Need-array-share-prefix-out
 array-share-prefix-out c =
     let f = c .before .before .before .before .before .before .read-full in
-    front-within (c .before .before .before .before .large-buffer2 .result) (printed (take (f .result) (f .last .1 .0))) (c .before .report .result) (c .before .report .last .1 .0) (c .before .report .ensures)
+    let k = c .before .report in
+    front-counts (c .before .before .before .before .large-buffer2 .result) (printed (take (f .result) (f .last .1 .0))) (k .result) (k .last .1 .0) (k .ensures) .0
 
 slice-aggregate-write-all : tie.Need-slice-aggregate-write-all
 slice-aggregate-write-all c =
     let f = c .before .before .before .before .before .before .before .read-full in
     let k = c .before .before .report in
-    sym (length-take-le (k .result) (k .last .1 .0) (front-within (c .before .before .before .before .before .large-buffer2 .result) (printed (take (f .result) (f .last .1 .0))) (k .result) (k .last .1 .0) (k .ensures)))
+    front-counts (c .before .before .before .before .before .large-buffer2 .result) (printed (take (f .result) (f .last .1 .0))) (k .result) (k .last .1 .0) (k .ensures) .1
 
 write-all-requires : tie.Need-write-all-requires
 write-all-requires c κs = search needs
@@ -49,8 +48,8 @@ write-all-requires c κs = search needs
 returns : tie.Need-returns
 returns c = search needs
 
-pub answer-spec : {M : Type 1} → statement M
-answer-spec =
+pub main-spec : {M : Type 1} → statement M
+main-spec =
     tie.close
     (tie.spec
     large-buffer-requires
