@@ -1,7 +1,7 @@
 -- The evaluation test: at one leaf, and for all leaves.
 use mathlib.Core.Path.{_≡_, refl, sym, ap, ap₂, _∙_}
 use mathlib.Core.Bool.{Bool, true}
-use mathlib.Core.List.{List}
+use mathlib.Core.List.{List, _++_}
 use Prim.Native.Nat.{ℕ, _+_, _-_, _*_, _≤_}
 use native.Mathlib.Nat.{sub-zero}
 use native.Mathlib.Omega.{arith}
@@ -14,46 +14,60 @@ use Rattle.lists.specs.Range.{upFrom, length-upFrom}
 use Rattle.lists.specs.Tests.{each}
 use Rattle.algebra.specs.Dot.{dotN}
 use Rattle.algebra.specs.Basis.{basisN, dot-basisN, length-basisN}
-use Rattle.algebra.specs.Numbers.{evalN}
+use Rattle.algebra.specs.Numbers.{evalN, interpN}
 use Rattle.scheme.specs.Sizes.{leafPoint}
-use Rattle.checker.specs.Words.{weighedAt, evaluatedAt, evaluatedLeaf}
-use Rattle.checker.proofs.Rows.{each-ext}
-use Rattle.checker.proofs.Batching.{part-is, front-of-piece}
+use Rattle.checker.specs.Words.{rowsOf, powersAt, weighedAt, scaledAt, scaledLeaf, evaluatedAt, evaluatedLeaf}
+use Rattle.checker.proofs.Rows.{each-ext, row-fits}
+use Rattle.checker.proofs.Batching.{part-is, length-piece, front-of-piece, dot-row}
 
 pub each-none : (f : ℕ → Bool) → each 0 f ≡ true
 unfolding each
 each-none f = refl
 
 -- the code's two sides at one point
-pub weighed : (weights points answers rows : List ℕ) (p left right : ℕ)
+pub weighed : (weights scales answers rows : List ℕ) (p left right : ℕ)
     → left ≡ dotN weights (take (length weights * p + length weights - length weights * p) (drop (length weights * p) answers))
-    → right ≡ evalN rows (getD points p 0) → eqb left right ≡ weighedAt weights points answers rows p
+    → right ≡ dotN (take (length rows * p + length rows - length rows * p) (drop (length rows * p) scales)) rows → eqb left right ≡ weighedAt weights scales answers rows p
 unfolding weighedAt
-weighed weights points answers rows p left right e f = ap₂ eqb (e ∙ ap (dotN weights) (part-is (length weights) p answers)) f
+weighed weights scales answers rows p left right e f =
+    ap₂ eqb (e ∙ ap (dotN weights) (part-is (length weights) p answers)) (f ∙ ap (λ (t : List ℕ). dotN t rows) (part-is (length rows) p scales))
 
 -- a front that was written, read again
 pub front-again : (n : ℕ) (b r : List ℕ) → length r ≡ n → take (n - 0) (drop 0 (putMid 0 (n - 0) b r)) ≡ r
 front-again n b r e = take-at r (drop (n - 0) (drop 0 b)) (n - 0) (e ∙ sym (sub-zero n))
 
 -- with the basis for the weights, a dot product is the value of the polynomial through the answer
-pub weighed-is : (first width x : ℕ) (weights points answers rows : List ℕ) → weights ≡ basisN (upFrom first width) x
-    → each (length points) (weighedAt weights points answers rows) ≡ each (length points) (evaluatedAt first width points answers x rows)
-unfolding weighedAt evaluatedAt
-weighed-is first width x weights points answers rows e =
+pub weighed-is : (m first width x : ℕ) (weights scales answers rows : List ℕ) → weights ≡ basisN (upFrom first width) x
+    → each m (weighedAt weights scales answers rows) ≡ each m (scaledAt first width scales answers x rows)
+unfolding weighedAt scaledAt
+weighed-is m first width x weights scales answers rows e =
     let n : length weights ≡ width = ap length e ∙ length-basisN (upFrom first width) x ∙ length-upFrom first width in
-    each-ext (length points) (weighedAt weights points answers rows) (evaluatedAt first width points answers x rows)
-    (λ p l. ap (λ (v : ℕ). eqb v (evalN rows (getD points p 0)))
+    each-ext m (weighedAt weights scales answers rows) (scaledAt first width scales answers x rows)
+    (λ p l. ap (λ (v : ℕ). eqb v (dotN (piece (length rows) p scales) rows))
     (ap₂ (λ (t : List ℕ) (k : ℕ). dotN t (piece k p answers)) e n ∙ dot-basisN (upFrom first width) (piece width p answers) x))
 
 -- one leaf
-pub leaf-is : (leaves width μ n : ℕ) (points answers indices values : List ℕ) (a first x : ℕ) (rows : List ℕ) (r : Bool) → μ ≤ n
+pub leaf-is : (leaves width μ n m : ℕ) (scales answers indices values : List ℕ) (a first x : ℕ) (rows : List ℕ) (r : Bool) → μ ≤ n
     → first ≡ leaves → x ≡ leafPoint (getD indices a 0) → rows ≡ take (n * a + μ - n * a) (drop (n * a) values)
-    → r ≡ each (length points) (evaluatedAt first width points answers x rows) → r ≡ evaluatedLeaf leaves width μ n points answers indices values a
-unfolding evaluatedLeaf
-leaf-is leaves width μ n points answers indices values a first x rows r h e f g k =
+    → r ≡ each m (scaledAt first width scales answers x rows) → r ≡ scaledLeaf leaves width μ n m scales answers indices values a
+unfolding scaledLeaf
+leaf-is leaves width μ n m scales answers indices values a first x rows r h e f g k =
     k
-    ∙ ap (λ (v : ℕ). each (length points) (evaluatedAt v width points answers x rows)) e
-    ∙ ap₂ (λ (v : ℕ) (t : List ℕ). each (length points) (evaluatedAt leaves width points answers v t)) f (g ∙ front-of-piece n a μ values h)
+    ∙ ap (λ (v : ℕ). each m (scaledAt v width scales answers x rows)) e
+    ∙ ap₂ (λ (v : ℕ) (t : List ℕ). each m (scaledAt leaves width scales answers v t)) f (g ∙ front-of-piece n a μ values h)
+
+-- with the powers of the evaluation points for the table, a dot product is the row values' sum at the point
+pub scaled-is : (leaves width μ n : ℕ) (points scales answers indices values rest : List ℕ) → μ ≤ n → n * length indices ≤ length values
+    → scales ≡ rowsOf (powersAt μ points) (length points) ++ rest
+    → each (length indices) (scaledLeaf leaves width μ n (length points) scales answers indices values) ≡ each (length indices) (evaluatedLeaf leaves width μ n points answers indices values)
+unfolding scaledLeaf evaluatedLeaf scaledAt evaluatedAt
+scaled-is leaves width μ n points scales answers indices values rest h f e =
+    each-ext (length indices) (scaledLeaf leaves width μ n (length points) scales answers indices values) (evaluatedLeaf leaves width μ n points answers indices values)
+    (λ a l. let rows : List ℕ = take μ (piece n a values) in
+    let c : length rows ≡ μ = length-take-le μ (piece n a values) (omega (arith, length-piece n a values (omega (arith, row-fits n a (length indices) l)))) in
+    each-ext (length points) (scaledAt leaves width scales answers (leafPoint (getD indices a 0)) rows) (evaluatedAt leaves width points answers (leafPoint (getD indices a 0)) rows)
+    (λ p k. ap (λ (v : ℕ). eqb (evalN (interpN (upFrom leaves width) (piece width p answers)) (leafPoint (getD indices a 0))) v)
+    (ap₂ (λ (i : ℕ) (t : List ℕ). dotN (piece i p t) rows) c e ∙ dot-row μ points (length points) p rest rows k c)))
 
 -- a front of n elements that was lent, as it comes back
 pub front-length : (n : ℕ) (b : List ℕ) → n ≤ length b → length (take (n - 0) (drop 0 b)) ≡ n

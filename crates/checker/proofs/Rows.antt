@@ -6,8 +6,8 @@ use Prim.Native.Nat.{ℕ, zero, suc, _+_, _-_, _*_, _≤_, _<_}
 use native.Mathlib.Nat.{zero-add, mul-suc, mul-le-mul-left, sub-zero}
 use native.Mathlib.Numerals.{add-one}
 use native.Mathlib.Omega.{arith}
-use lib.ListN.{length, getD, take, drop, length-map, length-take, length-drop}
-use lib.Seq.{take-at, drop-drop, drop-append-add}
+use lib.ListN.{length, getD, take, drop, length-map, length-take, length-drop, set}
+use lib.Seq.{take-at, drop-drop, drop-append-add, drop-cons, set-at, append-snoc}
 use borrow.Rule.Slice.PartMut.{putMid, post-is}
 use Rattle.lists.specs.All.{Sized, all-each}
 use Rattle.lists.specs.Range.{upFrom-snoc, upFrom, length-upFrom, at-run}
@@ -102,3 +102,11 @@ front-is n p d e = take-at p d (n - 0) (e ∙ sym (sub-zero n))
 
 pub read-front : (n : ℕ) (p b r : List ℕ) → length p ≡ n → r ≡ p ++ drop n b → take (n - 0) (drop 0 r) ≡ p
 read-front n p b r e f = ap (λ (t : List ℕ). take (n - 0) (drop 0 t)) f ∙ front-is n p (drop n b) e
+
+-- where p stands in front of d, one element more is written behind it
+pub front-step : (p d : List ℕ) (i v : ℕ) → length p ≡ i → i < length d → set (p ++ drop i d) i v ≡ (p ++ (v ∷ [])) ++ drop (i + 1) d
+front-step p d i v e h =
+    ap (λ (t : List ℕ). set (p ++ t) i v) (drop-cons d i 0 h)
+    ∙ set-at p (getD d i 0) (drop (suc i) d) v i e
+    ∙ sym (append-snoc p v (drop (suc i) d))
+    ∙ ap (λ (k : ℕ). (p ++ (v ∷ [])) ++ drop k d) (sym (add-one i))

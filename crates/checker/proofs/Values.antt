@@ -1,23 +1,16 @@
 -- The values of the polynomials: at one point, and at all.
 use mathlib.Core.Path.{_≡_, refl, sym, ap, ap₂, _∙_}
 use mathlib.Core.List.{List, [], _∷_, _++_, map, append-nil}
-use Prim.Native.Nat.{ℕ, suc, _+_, _-_, _*_, _<_}
+use Prim.Native.Nat.{ℕ, _+_, _-_, _*_, _<_}
 use native.Mathlib.Numerals.{add-one}
 use lib.ListN.{length, getD, take, drop, set, length-map}
-use lib.Seq.{set-at, drop-cons, append-snoc, drop-length}
+use lib.Seq.{drop-length}
 use Rattle.lists.specs.Pieces.{piece, pieces, pieces-snoc, length-pieces}
 use Rattle.algebra.specs.Columns.{powN}
 use Rattle.algebra.specs.Numbers.{evalN}
 use Rattle.checker.specs.Words.{pointValues, valuesAt}
+use Rattle.checker.proofs.Rows.{front-step}
 use Rattle.checker.proofs.Batching.{part-is}
-
--- where p stands in front of d, one element more is written behind it
-front-step : (p d : List ℕ) (i v : ℕ) → length p ≡ i → i < length d → set (p ++ drop i d) i v ≡ (p ++ (v ∷ [])) ++ drop (i + 1) d
-front-step p d i v e h =
-    ap (λ (t : List ℕ). set (p ++ t) i v) (drop-cons d i 0 h)
-    ∙ set-at p (getD d i 0) (drop (suc i) d) v i e
-    ∙ sym (append-snoc p v (drop (suc i) d))
-    ∙ ap (λ (k : ℕ). (p ++ (v ∷ [])) ++ drop k d) (sym (add-one i))
 
 map-snoc : (f : List ℕ → ℕ) (xs : List (List ℕ)) (x : List ℕ) → map f (xs ++ (x ∷ [])) ≡ map f xs ++ (f x ∷ [])
 map-snoc f [] x = refl

@@ -180,16 +180,20 @@ module _ (s : Sizes) (root challenges points indices reply : List ℕ) (p : Pose
 
     pub batching-asks : (wide : ℕ) → wide ≡ width s
         → (wide ≤ 320) × (length indices ≤ 64) × Below 65536 indices × (wide * length challenges ≤ length batching) × ((s .μ + length challenges) * length indices ≤ length values)
+        × (s .μ ≤ 64) × (length challenges ≤ 8)
     batching-asks wide e = (
       omega (arith, e, width-high s (p .sizes-good)),
       omega (arith, p .opened, p .sizes-good .ℓ-high),
       indices-small,
       le-of-eq (ap₂ _*_ e (p .repetitions) ∙ sym length-batching),
       le-of-eq (ap₂ (λ (i j : ℕ). (s .μ + i) * j) (p .repetitions) (p .opened) ∙ sym length-values),
+      p .sizes-good .μ-high,
+      omega (arith, p .repetitions, p .sizes-good .η-high),
     )
 
     pub evaluation-asks : (first wide n : ℕ) → first ≡ leaves s → wide ≡ width s → n ≡ recordValues s
-        → (first + wide ≤ q) × (wide ≤ 320) × Below 65536 indices × (s .μ ≤ n) × (wide * length points ≤ length answers) × (n * length indices ≤ length values)
+        → (first + wide < q) × (wide ≤ 320) × Below 65536 indices × (s .μ ≤ n) × (wide * length points ≤ length answers) × (n * length indices ≤ length values)
+        × (s .μ ≤ 64) × (length points ≤ 8)
     evaluation-asks first wide n e f g = (
       omega (arith, e, f, leaves-high s (p .sizes-good), width-high s (p .sizes-good)),
       omega (arith, f, width-high s (p .sizes-good)),
@@ -197,6 +201,8 @@ module _ (s : Sizes) (root challenges points indices reply : List ℕ) (p : Pose
       omega (arith, g),
       le-of-eq (ap (λ (k : ℕ). k * length points) f ∙ sym length-answers),
       le-of-eq (ap₂ _*_ g (p .opened) ∙ sym length-values),
+      p .sizes-good .μ-high,
+      p .few-points,
     )
 
   -- ---- what was read

@@ -1,7 +1,7 @@
 -- The check on words: the reply's words and leaf values stand in flat lists, record after record.
 use mathlib.Core.Bool.{Bool}
 use mathlib.Core.List.{List, [], _∷_, map, flatten}
-use Prim.Native.Nat.{ℕ, _+_, _*_}
+use Prim.Native.Nat.{ℕ, _+_, _*_, _%_}
 use lib.Dec.{eqb}
 use lib.ListN.{length, getD, take, drop}
 use Rattle.sponge.specs.Digest.{digest}
@@ -12,6 +12,7 @@ use Rattle.lists.specs.Range.{upFrom}
 use Rattle.lists.specs.Pieces.{piece, pieces}
 use Rattle.lists.specs.Tabulate.{tabulate}
 use Rattle.lists.specs.Tests.{each}
+use Rattle.algebra.specs.Prime.{q}
 use Rattle.algebra.specs.Columns.{powN}
 use Rattle.algebra.specs.Dot.{dotN}
 use Rattle.algebra.specs.Numbers.{evalN, interpN}
@@ -23,25 +24,29 @@ use Rattle.scheme.specs.Reply.{answersAt, recordsAt, recordLength}
 unfoldable pub rowsOf : (ℕ → List ℕ) → ℕ → List ℕ
 rowsOf f n = flatten (map f (upFrom 0 n))
 
--- ---- 9, batching answers
-
--- the powers of the point of opened leaf a
+-- the first n powers of number a of a list
 unfoldable pub powersAt : ℕ → List ℕ → ℕ → List ℕ
-powersAt width indices a = tabulate width (powN (leafPoint (getD indices a 0)))
+powersAt n xs a = tabulate n (powN (getD xs a 0))
+
+-- ---- 9, batching answers
 
 -- what the values x of a leaf give for repetition k: mask value k and the row values, batched by the powers of the challenge
 unfoldable pub batchOf : ℕ → List ℕ → ℕ → List ℕ → ℕ
 batchOf μ challenges k x = evalN (getD x (μ + k) 0 ∷ take μ x) (getD challenges k 0)
 
--- batching answer k agrees with opened leaf a, where the powers of the leaf's point are a row of a table
-unfoldable pub dottedAt : ℕ → ℕ → List ℕ → List ℕ → List ℕ → List ℕ → ℕ → ℕ → Bool
-dottedAt width μ challenges batching powers values k a =
-    eqb (dotN (piece width a powers) (piece width k batching)) (batchOf μ challenges k (piece (μ + length challenges) a values))
+-- the same by a dot product, where the challenge's powers are a row of a table
+unfoldable pub batchBy : ℕ → List ℕ → List ℕ → ℕ → List ℕ → ℕ
+batchBy μ challenges scales k x = (getD x (μ + k) 0 + getD challenges k 0 * dotN (piece μ k scales) (take μ x)) % q
 
-unfoldable pub dottedRow : ℕ → ℕ → List ℕ → List ℕ → List ℕ → List ℕ → ℕ → ℕ → Bool
-dottedRow width μ challenges batching powers values l k = each l (dottedAt width μ challenges batching powers values k)
+-- batching answer k agrees with opened leaf a, where the powers of the leaf's point are a row of a table, too
+unfoldable pub dottedAt : ℕ → ℕ → List ℕ → List ℕ → List ℕ → List ℕ → List ℕ → ℕ → ℕ → Bool
+dottedAt width μ challenges batching powers scales values k a =
+    eqb (dotN (piece width a powers) (piece width k batching)) (batchBy μ challenges scales k (piece (μ + length challenges) a values))
 
--- the same with the answer's value at the leaf's point
+unfoldable pub dottedRow : ℕ → ℕ → List ℕ → List ℕ → List ℕ → List ℕ → List ℕ → ℕ → ℕ → Bool
+dottedRow width μ challenges batching powers scales values l k = each l (dottedAt width μ challenges batching powers scales values k)
+
+-- with the answer's value at the leaf's point
 unfoldable pub batchedAt : ℕ → ℕ → List ℕ → List ℕ → List ℕ → List ℕ → ℕ → ℕ → Bool
 batchedAt width μ challenges batching indices values k a =
     eqb (evalN (piece width k batching) (leafPoint (getD indices a 0))) (batchOf μ challenges k (piece (μ + length challenges) a values))
@@ -51,15 +56,23 @@ batchedRow width μ challenges batching indices values k = each (length indices)
 
 -- ---- 10, evaluation answers
 
--- answer p agrees with the row values of a leaf, where the leaf's point gives the weights
+-- answer p agrees with the row values of a leaf, where the leaf's point gives the weights, and the powers of evaluation point p are a row of a table
 unfoldable pub weighedAt : List ℕ → List ℕ → List ℕ → List ℕ → ℕ → Bool
-weighedAt weights points answers rows p = eqb (dotN weights (piece (length weights) p answers)) (evalN rows (getD points p 0))
+weighedAt weights scales answers rows p = eqb (dotN weights (piece (length weights) p answers)) (dotN (piece (length rows) p scales) rows)
 
--- the same with the value at x of the polynomial through the answer, whose points are the numbers from first on
+-- with the value at x of the polynomial through the answer, whose points are the numbers from first on
+unfoldable pub scaledAt : ℕ → ℕ → List ℕ → List ℕ → ℕ → List ℕ → ℕ → Bool
+scaledAt first width scales answers x rows p = eqb (evalN (interpN (upFrom first width) (piece width p answers)) x) (dotN (piece (length rows) p scales) rows)
+
+-- with the row values' sum at the evaluation point
 unfoldable pub evaluatedAt : ℕ → ℕ → List ℕ → List ℕ → ℕ → List ℕ → ℕ → Bool
 evaluatedAt first width points answers x rows p = eqb (evalN (interpN (upFrom first width) (piece width p answers)) x) (evalN rows (getD points p 0))
 
--- each answer agrees with opened leaf a, whose values are n, the row values first
+-- the first m answers agree with opened leaf a, whose values are n, the row values first
+unfoldable pub scaledLeaf : ℕ → ℕ → ℕ → ℕ → ℕ → List ℕ → List ℕ → List ℕ → List ℕ → ℕ → Bool
+scaledLeaf first width μ n m scales answers indices values a =
+    each m (scaledAt first width scales answers (leafPoint (getD indices a 0)) (take μ (piece n a values)))
+
 unfoldable pub evaluatedLeaf : ℕ → ℕ → ℕ → ℕ → List ℕ → List ℕ → List ℕ → List ℕ → ℕ → Bool
 evaluatedLeaf first width μ n points answers indices values a =
     each (length points) (evaluatedAt first width points answers (leafPoint (getD indices a 0)) (take μ (piece n a values)))

@@ -1,6 +1,6 @@
 // The check of a reply.
 ghost use mathlib.Core.Path.{_≡_};
-ghost use mathlib.Core.List.{[], _∷_, _++_};
+ghost use mathlib.Core.List.{[], _∷_, _++_, map};
 ghost use Prim.Native.Nat.{_+_, _-_, _*_, _<_, _≤_};
 ghost use lib.ListN.{length, drop};
 ghost use Rattle.lists.specs.All.{Below};
@@ -15,7 +15,7 @@ ghost use Rattle.scheme.proofs.Accepted.{Good};
 ghost use Rattle.commitment.specs.Shape.{sizesIn};
 ghost use Rattle.checker.specs.Posed.{posed, Posed, Read, questionAt, Formed, laterTests, checkingReply};
 ghost use Rattle.algebra.specs.Prime.{q};
-ghost use Rattle.checker.specs.Words.{rowsOf, recordWordsAt, leafDigestAt, rootAt, powersAt, dottedAt, dottedRow, batchedRow, weighedAt, evaluatedAt, evaluatedLeaf, pointValues, valuesAt};
+ghost use Rattle.checker.specs.Words.{rowsOf, recordWordsAt, leafDigestAt, rootAt, powersAt, dottedAt, dottedRow, batchedRow, weighedAt, scaledAt, scaledLeaf, evaluatedLeaf, pointValues, valuesAt};
 use commitment::Questioned;
 use commitment::Shape;
 use field::Element;
@@ -141,20 +141,31 @@ fn reply_root(h: usize, at: usize, size: usize, indices: &[usize], reply: &[u8])
 
 // ---- batching answers
 
-// The powers of the point of each opened leaf, one row each.
-fn fill_powers(width: usize, indices: &[usize], table: &mut [u32])
-    requires { ⌜ Below 65536 (now indices) × (width * length (now indices) ≤ length (now table)) ⌝ }
-    ensures { λ _. ⌜ now (table .exit) ≡ rowsOf (powersAt width (now (indices .entry))) (length (now (indices .entry))) ++ drop (width * length (now (indices .entry))) (now (table .entry)) ⌝ }
+// The points of the opened leaves.
+fn leaf_points(indices: &[usize], out: &mut [u32])
+    requires { ⌜ Below 65536 (now indices) × (length (now indices) ≤ length (now out)) ⌝ }
+    ensures { λ _. ⌜ now (out .exit) ≡ map leafPoint (now (indices .entry)) ++ drop (length (now (indices .entry))) (now (out .entry)) ⌝ }
 {
     for a in 0..indices.len() {
-        let from = width * a;
-        let to = from + width;
         let i = indices[a];
-        field::powers(leaf_point(LeafIndex(i as u32)), &mut table[from..to]);
+        let x = leaf_point(LeafIndex(i as u32));
+        out[a] = x.0;
     }
 }
 
-// Does batching answer k agree with the values of opened leaf a?
+// The first n powers of each element, one row each.
+fn fill_powers(n: usize, xs: &[u32], table: &mut [u32])
+    requires { ⌜ n * length (now xs) ≤ length (now table) ⌝ }
+    ensures { λ _. ⌜ now (table .exit) ≡ rowsOf (powersAt n (now (xs .entry))) (length (now (xs .entry))) ++ drop (n * length (now (xs .entry))) (now (table .entry)) ⌝ }
+{
+    for a in 0..xs.len() {
+        let from = n * a;
+        let to = from + n;
+        field::powers(Element(xs[a]), &mut table[from..to]);
+    }
+}
+
+// Does batching answer k agree with the values of opened leaf a? `powers` has a row for each leaf's point, `scales` one for each challenge.
 fn batching_agrees(
     k: usize,
     a: usize,
@@ -163,20 +174,23 @@ fn batching_agrees(
     challenges: &[u32],
     batching: &[u32],
     powers: &[u32],
+    scales: &[u32],
     values: &[u32],
 ) -> bool
-    requires { ⌜ (k < length (now challenges)) × (width ≤ 65536) × (width * k + width ≤ length (now batching)) × (width * a + width ≤ length (now powers)) × ((mu + length (now challenges)) * a + (mu + length (now challenges)) ≤ length (now values)) ⌝ }
-    ensures { λ r. ⌜ r ≡ dottedAt width mu (now (challenges .entry)) (now (batching .entry)) (now (powers .entry)) (now (values .entry)) k a ⌝ }
+    requires { ⌜ (k < length (now challenges)) × (width ≤ 65536) × (mu ≤ 65536) × (width * k + width ≤ length (now batching)) × (width * a + width ≤ length (now powers)) × (mu * k + mu ≤ length (now scales)) × ((mu + length (now challenges)) * a + (mu + length (now challenges)) ≤ length (now values)) ⌝ }
+    ensures { λ r. ⌜ r ≡ dottedAt width mu (now (challenges .entry)) (now (batching .entry)) (now (powers .entry)) (now (scales .entry)) (now (values .entry)) k a ⌝ }
 {
     let answer = width * k;
     let answer_end = answer + width;
     let row = width * a;
     let row_end = row + width;
     let left = field::dot(&powers[row..row_end], &batching[answer..answer_end]);
+    let scale = mu * k;
+    let scale_end = scale + mu;
     let first = (mu + challenges.len()) * a;
     let masks = first + mu;
+    let rows = field::dot(&scales[scale..scale_end], &values[first..masks]);
     let challenge = Element(challenges[k]);
-    let rows = field::evaluate(&values[first..masks], challenge);
     let right = field::multiply_add(Element(values[masks + k]), challenge, rows);
     left.0 == right.0
 }
@@ -189,15 +203,26 @@ fn batching_walk(
     challenges: &[u32],
     batching: &[u32],
     powers: &[u32],
+    scales: &[u32],
     values: &[u32],
 ) -> bool
-    requires { ⌜ (width ≤ 65536) × (width * length (now challenges) ≤ length (now batching)) × (width * l ≤ length (now powers)) × ((mu + length (now challenges)) * l ≤ length (now values)) ⌝ }
-    ensures { λ r. ⌜ r ≡ each (length (now (challenges .entry))) (dottedRow width mu (now (challenges .entry)) (now (batching .entry)) (now (powers .entry)) (now (values .entry)) l) ⌝ }
+    requires { ⌜ (width ≤ 65536) × (mu ≤ 65536) × (width * length (now challenges) ≤ length (now batching)) × (width * l ≤ length (now powers)) × (mu * length (now challenges) ≤ length (now scales)) × ((mu + length (now challenges)) * l ≤ length (now values)) ⌝ }
+    ensures { λ r. ⌜ r ≡ each (length (now (challenges .entry))) (dottedRow width mu (now (challenges .entry)) (now (batching .entry)) (now (powers .entry)) (now (scales .entry)) (now (values .entry)) l) ⌝ }
 {
     let mut ok = true;
     'walk: for k in 0..challenges.len() {
         for a in 0..l {
-            if !batching_agrees(k, a, width, mu, challenges, batching, powers, values) {
+            if !batching_agrees(
+                k,
+                a,
+                width,
+                mu,
+                challenges,
+                batching,
+                powers,
+                scales,
+                values,
+            ) {
                 ok = false;
                 break 'walk;
             }
@@ -206,9 +231,19 @@ fn batching_walk(
     ok
 }
 
-// Room for the powers of the points of 64 leaves, 320 each.
+// Room for the points of 64 leaves.
+fn blank_leaf_points() -> [u32; 64] {
+    [0u32; 64]
+}
+
+// Room for 320 powers of each of them.
 fn blank_powers() -> [u32; 20480] {
     [0u32; 20480]
+}
+
+// Room for 64 powers of each of 8 challenges or points.
+fn blank_scales() -> [u32; 512] {
+    [0u32; 512]
 }
 
 // Does each batching answer agree with each opened leaf?
@@ -220,35 +255,35 @@ fn batching_ok(
     indices: &[usize],
     values: &[u32],
 ) -> bool
-    requires { ⌜ (width ≤ 320) × (length (now indices) ≤ 64) × Below 65536 (now indices) × (width * length (now challenges) ≤ length (now batching)) × ((mu + length (now challenges)) * length (now indices) ≤ length (now values)) ⌝ }
+    requires { ⌜ (width ≤ 320) × (length (now indices) ≤ 64) × Below 65536 (now indices) × (width * length (now challenges) ≤ length (now batching)) × ((mu + length (now challenges)) * length (now indices) ≤ length (now values)) × (mu ≤ 64) × (length (now challenges) ≤ 8) ⌝ }
     ensures { λ r. ⌜ r ≡ each (length (now (challenges .entry))) (batchedRow width mu (now (challenges .entry)) (now (batching .entry)) (now (indices .entry)) (now (values .entry))) ⌝ }
 {
+    let l = indices.len();
+    let mut points = blank_leaf_points();
+    leaf_points(indices, &mut points);
     let mut powers = blank_powers();
-    fill_powers(width, indices, &mut powers);
-    batching_walk(
-        indices.len(),
-        width,
-        mu,
-        challenges,
-        batching,
-        &powers,
-        values,
-    )
+    fill_powers(width, &points[0..l], &mut powers);
+    let mut scales = blank_scales();
+    fill_powers(mu, challenges, &mut scales);
+    batching_walk(l, width, mu, challenges, batching, &powers, &scales, values)
 }
 
 // ---- evaluation answers
 
-// Does each answer, weighed, agree with the row values of one leaf?
-fn weighed_ok(weights: &[u32], points: &[u32], answers: &[u32], rows: &[u32]) -> bool
-    requires { ⌜ (length (now weights) ≤ 65536) × (length (now weights) * length (now points) ≤ length (now answers)) ⌝ }
-    ensures { λ r. ⌜ r ≡ each (length (now (points .entry))) (weighedAt (now (weights .entry)) (now (points .entry)) (now (answers .entry)) (now (rows .entry))) ⌝ }
+// Do the first m answers, weighed, agree with the row values of one leaf? `scales` has a row of powers for each evaluation point.
+fn weighed_ok(m: usize, weights: &[u32], scales: &[u32], answers: &[u32], rows: &[u32]) -> bool
+    requires { ⌜ (length (now weights) ≤ 65536) × (length (now rows) ≤ 65536) × (length (now weights) * m ≤ length (now answers)) × (length (now rows) * m ≤ length (now scales)) ⌝ }
+    ensures { λ r. ⌜ r ≡ each m (weighedAt (now (weights .entry)) (now (scales .entry)) (now (answers .entry)) (now (rows .entry))) ⌝ }
 {
     let width = weights.len();
-    for p in 0..points.len() {
+    let mu = rows.len();
+    for p in 0..m {
         let from = width * p;
         let to = from + width;
         let left = field::dot(weights, &answers[from..to]);
-        let right = field::evaluate(rows, Element(points[p]));
+        let scale = mu * p;
+        let scale_end = scale + mu;
+        let right = field::dot(&scales[scale..scale_end], rows);
         if left.0 != right.0 {
             return false;
         }
@@ -261,24 +296,53 @@ fn blank_weights() -> [u32; 320] {
     [0u32; 320]
 }
 
-// Does each answer's polynomial, through its values at first, first + 1, .., agree at x with the row values of one leaf?
+// Do the polynomials through the first m answers, with values at first, first + 1, .., agree at x with the row values of one leaf?
 fn leaf_ok(
+    m: usize,
     first: Element,
     x: Element,
     width: usize,
-    points: &[u32],
+    scales: &[u32],
     answers: &[u32],
     rows: &[u32],
 ) -> bool
-    requires { ⌜ (first .0 + width ≤ q) × (x .0 < q) × (width ≤ 320) × (width * length (now points) ≤ length (now answers)) ⌝ }
-    ensures { λ r. ⌜ r ≡ each (length (now (points .entry))) (evaluatedAt (first .0) width (now (points .entry)) (now (answers .entry)) (x .0) (now (rows .entry))) ⌝ }
+    requires { ⌜ (first .0 + width ≤ q) × (x .0 < q) × (width ≤ 320) × (length (now rows) ≤ 65536) × (width * m ≤ length (now answers)) × (length (now rows) * m ≤ length (now scales)) ⌝ }
+    ensures { λ r. ⌜ r ≡ each m (scaledAt (first .0) width (now (scales .entry)) (now (answers .entry)) (x .0) (now (rows .entry))) ⌝ }
 {
     let mut weights = blank_weights();
     field::basis(first, x, &mut weights[0..width]);
-    weighed_ok(&weights[0..width], points, answers, rows)
+    weighed_ok(m, &weights[0..width], scales, answers, rows)
 }
 
-// Does each answer agree with each opened leaf? Each leaf has n values, the mu row values first; leaves is the first value point.
+// Do the first m answers agree with each opened leaf? Each leaf has n values, the mu row values first; leaves is the first value point.
+fn evaluation_walk(
+    m: usize,
+    leaves: usize,
+    width: usize,
+    mu: usize,
+    n: usize,
+    scales: &[u32],
+    answers: &[u32],
+    indices: &[usize],
+    values: &[u32],
+) -> bool
+    requires { ⌜ (leaves + width < q) × (width ≤ 320) × Below 65536 (now indices) × (mu ≤ n) × (width * m ≤ length (now answers)) × (n * length (now indices) ≤ length (now values)) × (mu ≤ 65536) × (mu * m ≤ length (now scales)) ⌝ }
+    ensures { λ r. ⌜ r ≡ each (length (now (indices .entry))) (scaledLeaf leaves width mu n m (now (scales .entry)) (now (answers .entry)) (now (indices .entry)) (now (values .entry))) ⌝ }
+{
+    let first = Element(leaves as u32);
+    for a in 0..indices.len() {
+        let i = indices[a];
+        let x = leaf_point(LeafIndex(i as u32));
+        let from = n * a;
+        let to = from + mu;
+        if !leaf_ok(m, first, x, width, scales, answers, &values[from..to]) {
+            return false;
+        }
+    }
+    true
+}
+
+// Does each answer agree with each opened leaf?
 fn evaluation_ok(
     leaves: usize,
     width: usize,
@@ -289,20 +353,22 @@ fn evaluation_ok(
     indices: &[usize],
     values: &[u32],
 ) -> bool
-    requires { ⌜ (leaves + width ≤ q) × (width ≤ 320) × Below 65536 (now indices) × (mu ≤ n) × (width * length (now points) ≤ length (now answers)) × (n * length (now indices) ≤ length (now values)) ⌝ }
+    requires { ⌜ (leaves + width < q) × (width ≤ 320) × Below 65536 (now indices) × (mu ≤ n) × (width * length (now points) ≤ length (now answers)) × (n * length (now indices) ≤ length (now values)) × (mu ≤ 64) × (length (now points) ≤ 8) ⌝ }
     ensures { λ r. ⌜ r ≡ each (length (now (indices .entry))) (evaluatedLeaf leaves width mu n (now (points .entry)) (now (answers .entry)) (now (indices .entry)) (now (values .entry))) ⌝ }
 {
-    let first = Element(leaves as u32);
-    for a in 0..indices.len() {
-        let i = indices[a];
-        let x = leaf_point(LeafIndex(i as u32));
-        let from = n * a;
-        let to = from + mu;
-        if !leaf_ok(first, x, width, points, answers, &values[from..to]) {
-            return false;
-        }
-    }
-    true
+    let mut scales = blank_scales();
+    fill_powers(mu, points, &mut scales);
+    evaluation_walk(
+        points.len(),
+        leaves,
+        width,
+        mu,
+        n,
+        &scales,
+        answers,
+        indices,
+        values,
+    )
 }
 
 // ---- values

@@ -43,6 +43,12 @@ part-dot-end-2 c = search needs
 dot-requires : tie.Need-dot-requires
 dot-requires c κs = search needs
 
+mul-scale : tie.Need-mul-scale
+mul-scale c = search needs
+
+add-scale-end : tie.Need-add-scale-end
+add-scale-end c = search needs
+
 add-first : tie.Need-add-first
 add-first c = search needs
 
@@ -52,44 +58,56 @@ mul-first c = search needs
 add-masks : tie.Need-add-masks
 add-masks c = search needs
 
-mul-t24 : tie.Need-mul-t24
-mul-t24 c = search needs
+mul-dot-3 : tie.Need-mul-dot-3
+mul-dot-3 c = search needs
 
-shared-slice-read-t30 : tie.Need-shared-slice-read-t30
-shared-slice-read-t30 c = search needs
+sub-dot-3 : tie.Need-sub-dot-3
+sub-dot-3 c = search needs
 
-mul-evaluate : tie.Need-mul-evaluate
-mul-evaluate c = search needs
+part-dot-start-3 : tie.Need-part-dot-start-3
+part-dot-start-3 c = search needs
 
-sub-evaluate : tie.Need-sub-evaluate
-sub-evaluate c = search needs
+part-dot-end-3 : tie.Need-part-dot-end-3
+part-dot-end-3 c = search needs
 
-part-evaluate-start : tie.Need-part-evaluate-start
-part-evaluate-start c = search needs
+mul-dot-4 : tie.Need-mul-dot-4
+mul-dot-4 c = search needs
 
-part-evaluate-end : tie.Need-part-evaluate-end
-part-evaluate-end c = search needs
+sub-dot-4 : tie.Need-sub-dot-4
+sub-dot-4 c = search needs
 
-evaluate-requires : tie.Need-evaluate-requires
-evaluate-requires c κs = search needs
+part-dot-start-4 : tie.Need-part-dot-start-4
+part-dot-start-4 c = search needs
+
+part-dot-end-4 : tie.Need-part-dot-end-4
+part-dot-end-4 c = search needs
+
+dot-requires-2 : tie.Need-dot-requires-2
+dot-requires-2 c κs = search needs
+
+mul-t27 : tie.Need-mul-t27
+mul-t27 c = search needs
+
+shared-slice-read-t39 : tie.Need-shared-slice-read-t39
+shared-slice-read-t39 c = search needs
 
 add-t24 : tie.Need-add-t24
 add-t24 c = search needs
 
-mul-t21 : tie.Need-mul-t21
-mul-t21 c = search needs
+mul-t29 : tie.Need-mul-t29
+mul-t29 c = search needs
 
-shared-slice-read-t30-2 : tie.Need-shared-slice-read-t30-2
-shared-slice-read-t30-2 c = search needs
+shared-slice-read-t39-2 : tie.Need-shared-slice-read-t39-2
+shared-slice-read-t39-2 c = search needs
 
 multiply-add-requires : tie.Need-multiply-add-requires
 multiply-add-requires c κs = search needs
 
 returns : tie.Need-returns
 returns c =
-    let s = c .before .before .before .before .before .before .before .before .before .before .before .before .before .before .args in
-    agrees (s .width) (s .mu) (s .challenges .now) (s .batching .now) (s .powers .now) (s .values .now) (s .k) (s .a)
-    (c .before .before .before .before .before .before .before .dot .result .0) (c .before .before .before .before .evaluate .result .0) (c .before .before .multiply-add .result .0) (search needs) (c .before .before .before .before .before .before .before .dot .ensures) (c .before .before .before .before .evaluate .ensures) (c .before .before .multiply-add .ensures)
+    let s = c .before .before .before .before .before .before .before .before .before .before .before .before .before .before .before .before .args in
+    agrees (s .width) (s .mu) (s .challenges .now) (s .batching .now) (s .powers .now) (s .scales .now) (s .values .now) (s .k) (s .a)
+    (c .before .before .before .before .before .before .before .before .dot .result .0) (c .before .before .before .before .before .dot2 .result .0) (c .before .before .multiply-add .result .0) (search needs) (c .before .before .before .before .before .before .before .before .dot .ensures) (c .before .before .before .before .before .dot2 .ensures) (c .before .before .multiply-add .ensures)
 
 pub batching-agrees-spec : {M : Type 1} → statement M
 batching-agrees-spec =
@@ -108,18 +126,24 @@ batching-agrees-spec =
     part-dot-start-2
     part-dot-end-2
     dot-requires
+    mul-scale
+    add-scale-end
     add-first
     mul-first
     add-masks
-    mul-t24
-    shared-slice-read-t30
-    mul-evaluate
-    sub-evaluate
-    part-evaluate-start
-    part-evaluate-end
-    evaluate-requires
+    mul-dot-3
+    sub-dot-3
+    part-dot-start-3
+    part-dot-end-3
+    mul-dot-4
+    sub-dot-4
+    part-dot-start-4
+    part-dot-end-4
+    dot-requires-2
+    mul-t27
+    shared-slice-read-t39
     add-t24
-    mul-t21
-    shared-slice-read-t30-2
+    mul-t29
+    shared-slice-read-t39-2
     multiply-add-requires
     returns)

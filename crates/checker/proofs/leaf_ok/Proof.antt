@@ -47,7 +47,7 @@ weighed-ok-requires c κs =
     let l : length b ≡ 320 = search needs in
     let n : length r ≡ s .width = basis-front (s .first .0) (s .width) (s .x .0) b r (omega arith) (c .before .before .before .basis .ensures) .1 in
     let e : s .width ≡ length (take (s .width - 0) (drop 0 (putMid 0 (s .width - 0) b r))) = sym (ap length (front-again (s .width) b r n) ∙ n) in
-    (omega arith, subst (λ (k : ℕ). k * length (s .points .now) ≤ length (s .answers .now)) e (c .before .before .before .before .before .before .before .before .before .pre .3))
+    (omega arith, c .before .before .before .before .before .before .before .before .before .pre .3, subst (λ (k : ℕ). k * s .m ≤ length (s .answers .now)) e (c .before .before .before .before .before .before .before .before .before .pre .4), c .before .before .before .before .before .before .before .before .before .pre .5)
 
 returns : tie.Need-returns
 returns c =
@@ -57,7 +57,7 @@ returns c =
     let l : length b ≡ 320 = search needs in
     let h = basis-front (s .first .0) (s .width) (s .x .0) b r (omega arith) (c .before .before .before .before .basis .ensures) in
     c .weighed-ok .ensures
-    ∙ weighed-is (s .first .0) (s .width) (s .x .0) (take (s .width - 0) (drop 0 (putMid 0 (s .width - 0) b r))) (s .points .now) (s .answers .now) (s .rows .now)
+    ∙ weighed-is (s .m) (s .first .0) (s .width) (s .x .0) (take (s .width - 0) (drop 0 (putMid 0 (s .width - 0) b r))) (s .scales .now) (s .answers .now) (s .rows .now)
     (front-again (s .width) b r (h .1) ∙ h .0)
 
 pub leaf-ok-spec : {M : Type 1} → statement M

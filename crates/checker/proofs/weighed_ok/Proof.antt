@@ -1,5 +1,5 @@
 -- `checker::weighed_ok` meets its contract: the points passed so far agree.
-use mathlib.Core.Path.{_≡_, refl, sym, _∙_}
+use mathlib.Core.Path.{_≡_, sym, _∙_}
 use mathlib.Core.Bool.{true}
 use Prim.Native.Nat.{ℕ, _-_, _≤_}
 use lib.ListN.{length}
@@ -14,27 +14,27 @@ use Rattle.checker.proofs.weighed_ok.Statement.{statement}
 use Rattle.checker.proofs.weighed_ok.Tie as tie
 
 abbrev Inv-loop : tie.InvT-loop
-Inv-loop weights points answers rows width p₀ p-end p = (p-end ≡ length points) × (p ≤ length points) × (each p (weighedAt weights points answers rows) ≡ true)
+Inv-loop m weights scales answers rows width mu p₀ p = (p ≤ m) × (each p (weighedAt weights scales answers rows) ≡ true)
 
 abbrev μ-loop : tie.MeasureT-loop
-μ-loop weights points answers rows width p₀ p-end p = p-end - p
+μ-loop m weights scales answers rows width mu p₀ p = m - p
 
 loop-holds : tie.Need-loop-holds Inv-loop μ-loop
 loop-holds c =
     let s = c .before .before .before .before .args in
-    (refl, omega arith, each-none (weighedAt (s .weights .now) (s .points .now) (s .answers .now) (s .rows .now)))
+    (omega arith, each-none (weighedAt (s .weights .now) (s .scales .now) (s .answers .now) (s .rows .now)))
 
 mul-from : tie.Need-mul-from Inv-loop μ-loop
 mul-from c =
-    let h = row-fits (length (c .before .before .before .before .before .before .args .weights .now)) (c .before .loop .p) (length (c .before .before .before .before .before .before .args .points .now)) (omega arith) in search needs
+    let h = row-fits (length (c .before .before .before .before .before .before .args .weights .now)) (c .before .loop .p) (c .before .before .before .before .before .before .args .m) (omega arith) in search needs
 
 add-to : tie.Need-add-to Inv-loop μ-loop
 add-to c =
-    let h = row-fits (length (c .before .before .before .before .before .before .args .weights .now)) (c .before .loop .p) (length (c .before .before .before .before .before .before .args .points .now)) (omega arith) in search needs
+    let h = row-fits (length (c .before .before .before .before .before .before .args .weights .now)) (c .before .loop .p) (c .before .before .before .before .before .before .args .m) (omega arith) in search needs
 
 mul-dot : tie.Need-mul-dot Inv-loop μ-loop
 mul-dot c =
-    let h = row-fits (length (c .before .before .before .before .before .before .args .weights .now)) (c .before .loop .p) (length (c .before .before .before .before .before .before .args .points .now)) (omega arith) in search needs
+    let h = row-fits (length (c .before .before .before .before .before .before .args .weights .now)) (c .before .loop .p) (c .before .before .before .before .before .before .args .m) (omega arith) in search needs
 
 sub-dot : tie.Need-sub-dot Inv-loop μ-loop
 sub-dot c = search needs
@@ -44,30 +44,51 @@ part-dot-start c = search needs
 
 part-dot-end : tie.Need-part-dot-end Inv-loop μ-loop
 part-dot-end c =
-    let h = row-fits (length (c .before .before .before .before .before .before .args .weights .now)) (c .before .loop .p) (length (c .before .before .before .before .before .before .args .points .now)) (omega arith) in search needs
+    let h = row-fits (length (c .before .before .before .before .before .before .args .weights .now)) (c .before .loop .p) (c .before .before .before .before .before .before .args .m) (omega arith) in search needs
 
 dot-requires : tie.Need-dot-requires Inv-loop μ-loop
 dot-requires c κs =
     let s = c .before .before .before .before .before .before .before .args in
     let w : ℕ = length (s .weights .now) in
-    let h = row-fits w (c .before .before .loop .p) (length (s .points .now)) (omega arith) in
+    let h = row-fits w (c .before .before .loop .p) (s .m) (omega arith) in
     (part-length w (c .before .before .loop .p) (s .answers .now) (omega arith), omega arith)
 
-mul-t13 : tie.Need-mul-t13 Inv-loop μ-loop
-mul-t13 c = search needs
+mul-scale : tie.Need-mul-scale Inv-loop μ-loop
+mul-scale c =
+    let h = row-fits (length (c .before .before .before .before .before .before .before .before .args .rows .now)) (c .before .before .before .loop .p) (c .before .before .before .before .before .before .before .before .args .m) (omega arith) in search needs
 
-shared-slice-read-t19 : tie.Need-shared-slice-read-t19 Inv-loop μ-loop
-shared-slice-read-t19 c = search needs
+add-scale-end : tie.Need-add-scale-end Inv-loop μ-loop
+add-scale-end c =
+    let h = row-fits (length (c .before .before .before .before .before .before .before .before .args .rows .now)) (c .before .before .before .loop .p) (c .before .before .before .before .before .before .before .before .args .m) (omega arith) in search needs
 
-evaluate-requires : tie.Need-evaluate-requires Inv-loop μ-loop
-evaluate-requires c κs = search needs
+mul-dot-2 : tie.Need-mul-dot-2 Inv-loop μ-loop
+mul-dot-2 c =
+    let h = row-fits (length (c .before .before .before .before .before .before .before .before .args .rows .now)) (c .before .before .before .loop .p) (c .before .before .before .before .before .before .before .before .args .m) (omega arith) in search needs
+
+sub-dot-2 : tie.Need-sub-dot-2 Inv-loop μ-loop
+sub-dot-2 c = search needs
+
+part-dot-start-2 : tie.Need-part-dot-start-2 Inv-loop μ-loop
+part-dot-start-2 c = search needs
+
+part-dot-end-2 : tie.Need-part-dot-end-2 Inv-loop μ-loop
+part-dot-end-2 c =
+    let h = row-fits (length (c .before .before .before .before .before .before .before .before .args .rows .now)) (c .before .before .before .loop .p) (c .before .before .before .before .before .before .before .before .args .m) (omega arith) in search needs
+
+dot-requires-2 : tie.Need-dot-requires-2 Inv-loop μ-loop
+dot-requires-2 c κs =
+    let s = c .before .before .before .before .before .before .before .before .before .args in
+    let w : ℕ = length (s .rows .now) in
+    let h = row-fits w (c .before .before .before .before .loop .p) (s .m) (omega arith) in
+    let e = part-length w (c .before .before .before .before .loop .p) (s .scales .now) (omega arith) in
+    (sym e, omega arith)
 
 returns : tie.Need-returns Inv-loop μ-loop
 returns c =
     let s = c .before .before .before .before .before .before .before .before .before .before .before .before .before .args in
-    sym (each-stop (length (s .points .now)) (weighedAt (s .weights .now) (s .points .now) (s .answers .now) (s .rows .now)) (c .before .before .before .before .before .before .before .before .loop .p) (omega arith)
-    (sym (weighed (s .weights .now) (s .points .now) (s .answers .now) (s .rows .now) (c .before .before .before .before .before .before .before .before .loop .p) (c .before .before .before .before .before .dot .result .0) (c .before .before .before .evaluate .result .0) (c .before .before .before .before .before .dot .ensures) (c .before .before .before .evaluate .ensures))
-    ∙ ne-eqb (c .before .before .before .before .before .dot .result .0) (c .before .before .before .evaluate .result .0) (c .if1 .taken)))
+    sym (each-stop (s .m) (weighedAt (s .weights .now) (s .scales .now) (s .answers .now) (s .rows .now)) (c .before .before .before .before .before .before .before .before .loop .p) (omega arith)
+    (sym (weighed (s .weights .now) (s .scales .now) (s .answers .now) (s .rows .now) (c .before .before .before .before .before .before .before .before .loop .p) (c .before .before .before .before .before .dot .result .0) (c .before .before .before .dot2 .result .0) (c .before .before .before .before .before .dot .ensures) (c .before .before .before .dot2 .ensures))
+    ∙ ne-eqb (c .before .before .before .before .before .dot .result .0) (c .before .before .before .dot2 .result .0) (c .if1 .taken)))
 
 add-p : tie.Need-add-p Inv-loop μ-loop
 add-p c = search needs
@@ -78,18 +99,17 @@ loop-less c = search needs
 loop-again : tie.Need-loop-again Inv-loop μ-loop
 loop-again c =
     let s = c .before .before .before .before .before .before .before .before .before .before .before .before .before .args in (
-      refl,
       omega arith,
-      each-next (weighedAt (s .weights .now) (s .points .now) (s .answers .now) (s .rows .now)) (c .before .before .before .before .before .before .before .before .loop .p) (c .before .before .before .before .before .before .before .before .loop .inv .2)
-          (sym (weighed (s .weights .now) (s .points .now) (s .answers .now) (s .rows .now) (c .before .before .before .before .before .before .before .before .loop .p) (c .before .before .before .before .before .dot .result .0) (c .before .before .before .evaluate .result .0) (c .before .before .before .before .before .dot .ensures) (c .before .before .before .evaluate .ensures))
-          ∙ eq-eqb (c .before .before .before .before .before .dot .result .0) (c .before .before .before .evaluate .result .0) (c .if1 .left)),
+      each-next (weighedAt (s .weights .now) (s .scales .now) (s .answers .now) (s .rows .now)) (c .before .before .before .before .before .before .before .before .loop .p) (c .before .before .before .before .before .before .before .before .loop .inv .1)
+          (sym (weighed (s .weights .now) (s .scales .now) (s .answers .now) (s .rows .now) (c .before .before .before .before .before .before .before .before .loop .p) (c .before .before .before .before .before .dot .result .0) (c .before .before .before .dot2 .result .0) (c .before .before .before .before .before .dot .ensures) (c .before .before .before .dot2 .ensures))
+          ∙ eq-eqb (c .before .before .before .before .before .dot .result .0) (c .before .before .before .dot2 .result .0) (c .if1 .left)),
     )
 
 returns-2 : tie.Need-returns-2 Inv-loop μ-loop
 returns-2 c =
     let s = c .before .before .before .before .before .before .args in
-    let e : c .before .loop .p ≡ length (s .points .now) = omega arith in
-    sym (rw e at (c .before .loop .inv .2))
+    let e : c .before .loop .p ≡ s .m = omega arith in
+    sym (rw e at (c .before .loop .inv .1))
 
 pub weighed-ok-spec : {M : Type 1} → statement M
 weighed-ok-spec =
@@ -105,9 +125,13 @@ weighed-ok-spec =
     part-dot-start
     part-dot-end
     dot-requires
-    mul-t13
-    shared-slice-read-t19
-    evaluate-requires
+    mul-scale
+    add-scale-end
+    mul-dot-2
+    sub-dot-2
+    part-dot-start-2
+    part-dot-end-2
+    dot-requires-2
     returns
     add-p
     loop-less
