@@ -28,9 +28,6 @@ module _ (s : Sizes) (g : Good s) where
   pub answers-high : answersAt s ≤ 5120
   answers-high = mul-le-mul {n₂ = 1280} {m₂ = 4} (omega (arith, width-high)) (g .η-high)
 
-  pub leaf-values-high : recordValues s * s .ℓ ≤ 4352
-  leaf-values-high = mul-le-mul {n₂ = 68} {m₂ = 64} values-high (g .ℓ-high)
-
   pub all-records-high : recordLength s * s .ℓ ≤ 19456
   all-records-high = mul-le-mul {n₂ = 304} {m₂ = 64} record-high (g .ℓ-high)
 

@@ -1,6 +1,6 @@
 -- The evaluation test: at one leaf, and for all leaves.
-use mathlib.Core.Path.{_≡_, refl, sym, ap, ap₂, _∙_}
-use mathlib.Core.Bool.{Bool, true}
+use mathlib.Core.Path.{_≡_, sym, ap, ap₂, _∙_}
+use mathlib.Core.Bool.{Bool}
 use mathlib.Core.List.{List, _++_}
 use Prim.Native.Nat.{ℕ, _+_, _-_, _*_, _≤_}
 use native.Mathlib.Nat.{sub-zero}
@@ -17,12 +17,8 @@ use Rattle.algebra.specs.Basis.{basisN, dot-basisN, length-basisN}
 use Rattle.algebra.specs.Numbers.{evalN, interpN}
 use Rattle.scheme.specs.Sizes.{leafPoint}
 use Rattle.checker.specs.Words.{rowsOf, powersAt, weighedAt, scaledAt, scaledLeaf, evaluatedAt, evaluatedLeaf}
-use Rattle.checker.proofs.Rows.{each-ext, row-fits}
-use Rattle.checker.proofs.Batching.{part-is, length-piece, front-of-piece, dot-row}
-
-pub each-none : (f : ℕ → Bool) → each 0 f ≡ true
-unfolding each
-each-none f = refl
+use Rattle.checker.proofs.Rows.{each-ext}
+use Rattle.checker.proofs.Batching.{part-is, dot-row}
 
 -- the code's two sides at one point
 pub weighed : (weights scales answers rows : List ℕ) (p left right : ℕ)
@@ -47,27 +43,25 @@ weighed-is m first width x weights scales answers rows e =
     (ap₂ (λ (t : List ℕ) (k : ℕ). dotN t (piece k p answers)) e n ∙ dot-basisN (upFrom first width) (piece width p answers) x))
 
 -- one leaf
-pub leaf-is : (leaves width μ n m : ℕ) (scales answers indices values : List ℕ) (a first x : ℕ) (rows : List ℕ) (r : Bool) → μ ≤ n
-    → first ≡ leaves → x ≡ leafPoint (getD indices a 0) → rows ≡ take (n * a + μ - n * a) (drop (n * a) values)
-    → r ≡ each m (scaledAt first width scales answers x rows) → r ≡ scaledLeaf leaves width μ n m scales answers indices values a
+pub leaf-is : (leaves width m : ℕ) (scales answers indices : List ℕ) (rows : ℕ → List ℕ) (a first x : ℕ) (t : List ℕ) (r : Bool)
+    → first ≡ leaves → x ≡ leafPoint (getD indices a 0) → t ≡ rows a
+    → r ≡ each m (scaledAt first width scales answers x t) → r ≡ scaledLeaf leaves width m scales answers indices rows a
 unfolding scaledLeaf
-leaf-is leaves width μ n m scales answers indices values a first x rows r h e f g k =
+leaf-is leaves width m scales answers indices rows a first x t r e f g k =
     k
-    ∙ ap (λ (v : ℕ). each m (scaledAt v width scales answers x rows)) e
-    ∙ ap₂ (λ (v : ℕ) (t : List ℕ). each m (scaledAt leaves width scales answers v t)) f (g ∙ front-of-piece n a μ values h)
+    ∙ ap (λ (v : ℕ). each m (scaledAt v width scales answers x t)) e
+    ∙ ap₂ (λ (v : ℕ) (y : List ℕ). each m (scaledAt leaves width scales answers v y)) f g
 
 -- with the powers of the evaluation points for the table, a dot product is the row values' sum at the point
-pub scaled-is : (leaves width μ n : ℕ) (points scales answers indices values rest : List ℕ) → μ ≤ n → n * length indices ≤ length values
+pub scaled-is : (leaves width μ : ℕ) (points scales answers indices rest : List ℕ) (rows : ℕ → List ℕ) → ((a : ℕ) → length (rows a) ≡ μ)
     → scales ≡ rowsOf (powersAt μ points) (length points) ++ rest
-    → each (length indices) (scaledLeaf leaves width μ n (length points) scales answers indices values) ≡ each (length indices) (evaluatedLeaf leaves width μ n points answers indices values)
+    → each (length indices) (scaledLeaf leaves width (length points) scales answers indices rows) ≡ each (length indices) (evaluatedLeaf leaves width points answers indices rows)
 unfolding scaledLeaf evaluatedLeaf scaledAt evaluatedAt
-scaled-is leaves width μ n points scales answers indices values rest h f e =
-    each-ext (length indices) (scaledLeaf leaves width μ n (length points) scales answers indices values) (evaluatedLeaf leaves width μ n points answers indices values)
-    (λ a l. let rows : List ℕ = take μ (piece n a values) in
-    let c : length rows ≡ μ = length-take-le μ (piece n a values) (omega (arith, length-piece n a values (omega (arith, row-fits n a (length indices) l)))) in
-    each-ext (length points) (scaledAt leaves width scales answers (leafPoint (getD indices a 0)) rows) (evaluatedAt leaves width points answers (leafPoint (getD indices a 0)) rows)
+scaled-is leaves width μ points scales answers indices rest rows long e =
+    each-ext (length indices) (scaledLeaf leaves width (length points) scales answers indices rows) (evaluatedLeaf leaves width points answers indices rows)
+    (λ a l. each-ext (length points) (scaledAt leaves width scales answers (leafPoint (getD indices a 0)) (rows a)) (evaluatedAt leaves width points answers (leafPoint (getD indices a 0)) (rows a))
     (λ p k. ap (λ (v : ℕ). eqb (evalN (interpN (upFrom leaves width) (piece width p answers)) (leafPoint (getD indices a 0))) v)
-    (ap₂ (λ (i : ℕ) (t : List ℕ). dotN (piece i p t) rows) c e ∙ dot-row μ points (length points) p rest rows k c)))
+    (ap₂ (λ (i : ℕ) (t : List ℕ). dotN (piece i p t) (rows a)) (long a) e ∙ dot-row μ points (length points) p rest (rows a) k (long a))))
 
 -- a front of n elements that was lent, as it comes back
 pub front-length : (n : ℕ) (b : List ℕ) → n ≤ length b → length (take (n - 0) (drop 0 b)) ≡ n

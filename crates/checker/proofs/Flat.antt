@@ -7,7 +7,7 @@ use native.Mathlib.Nat.{zero-add, suc-add, mul-zero}
 use native.Mathlib.Numerals.{add-one}
 use native.Mathlib.Omega.{arith}
 use lib.ListN.{length, getD, take, drop}
-use lib.Seq.{drop-drop}
+use lib.Seq.{drop-drop, take-at}
 use Rattle.lists.specs.All.{all-at}
 use Rattle.lists.specs.Bytes.{Bytes, fromBytes, words, length-words}
 use Rattle.lists.specs.Pieces.{pieces, piece}
@@ -22,6 +22,10 @@ pub iff : (a b : Bool) → (a ≡ true → b ≡ true) → (b ≡ true → a ≡
 iff true b f g = sym (f refl)
 iff false true f g = absurd (false≢true (g refl))
 iff false false f g = refl
+
+pub each-none : (f : ℕ → Bool) → each 0 f ≡ true
+unfolding each
+each-none f = refl
 
 -- a test of a list's elements, by places
 pub all-each : {A : Type 0} (t : A → Bool) (d : A) (xs : List A) → all t xs ≡ each (length xs) (λ k. t (getD xs k d))
@@ -86,6 +90,9 @@ words-add (suc a) b x =
     ap (λ (n : ℕ). words n x) (suc-add a b)
     ∙ ap (λ (t : List ℕ). fromBytes (take 4 x) ∷ t)
     (words-add a b (drop 4 x) ∙ ap (λ (y : Bytes). words a (drop 4 x) ++ words b y) (drop-drop (4 * a) 4 x ∙ ap (λ (n : ℕ). drop n x) e))
+
+pub words-front : (a b : ℕ) (x : Bytes) → take a (words (a + b) x) ≡ words a x
+words-front a b x = ap (take a) (words-add a b x) ∙ take-at (words a x) (words b (drop (4 * a) x)) a (length-words a x)
 
 pub words-rows : (n c : ℕ) (x : Bytes) → words (n * c) x ≡ rowsOf (wordsAt n x) c
 unfolding pieces

@@ -25,9 +25,9 @@ use Rattle.checker.proofs.Values.{front-all}
 use Rattle.scheme.specs.Reply.{Reply, readReply, answersAt, recordsAt, recordLength, nodesAt, missingNodes, replyLength, recordWords}
 use Rattle.scheme.specs.Check.{leafAt, recordAt, batchingOf, pointOf, answerOf, replyElements, leafStrings, replyRoot, batchingAt, evaluationAt, checkValues}
 use Rattle.scheme.proofs.Walk.{batching-at, answer-at, record-at}
-use Rattle.checker.specs.Words.{batchingWords, answerWords, leafValuesAt, leafWords, rowsOf, rootAt, recordWordsAt, leafDigestAt, batchOf, batchedAt, batchedRow, evaluatedAt, evaluatedLeaf, pointValues, valuesAt}
+use Rattle.checker.specs.Words.{batchingWords, answerWords, leafValuesAt, rowValuesAt, leafElementsAt, rowsOf, rootAt, recordWordsAt, recordElementsAt, leafDigestAt, batchOf, batchedAt, batchedRow, evaluatedAt, evaluatedLeaf, pointValues, valuesAt}
 use Rattle.checker.proofs.Rows.{each-ext}
-use Rattle.checker.proofs.Flat.{all-each, each-swap, all-rows, rows-ext, wordsAt, words-rows, row-of, words-piece}
+use Rattle.checker.proofs.Flat.{all-each, each-swap, all-rows, rows-ext, wordsAt, words-rows, words-front, words-piece}
 
 map-map : (f : Bytes → Bytes) (g : ℕ → Bytes) (xs : List ℕ) → map f (map g xs) ≡ map (λ a. f (g a)) xs
 map-map f g [] = refl
@@ -49,16 +49,14 @@ module _ (u : Question) (reply : Bytes) where
       ∙ ap (words (width s)) (sym (drop-drop (4 * width s * p) (answersAt s) reply))
       ∙ sym (words-piece (width s) (u .m) p (drop (answersAt s) reply) l)
 
-  length-leafValues : (a : ℕ) → length (leafValuesAt u reply a) ≡ recordValues s
-  unfolding recordWordsAt
-  length-leafValues a = length-words (recordValues s) _
-
   leaf-values : (a : ℕ) → a < s .ℓ → recordWords s (recordAt r a) ≡ leafValuesAt u reply a
   unfolding recordWordsAt
   leaf-values a l = ap (words (recordValues s)) (record-at u reply a l)
 
-  leaf-words : (a : ℕ) → a < s .ℓ → recordWords s (recordAt r a) ≡ piece (recordValues s) a (leafWords u reply)
-  leaf-words a l = leaf-values a l ∙ sym (row-of (recordValues s) (leafValuesAt u reply) length-leafValues (s .ℓ) a l)
+  -- the row values are the first of them
+  row-values : (a : ℕ) → a < s .ℓ → take (s .μ) (recordWords s (recordAt r a)) ≡ rowValuesAt u reply a
+  unfolding recordWordsAt
+  row-values a l = words-front (s .μ) (s .η) (recordAt r a) ∙ ap (words (s .μ)) (record-at u reply a l)
 
   -- ---- 3
 
@@ -80,46 +78,46 @@ module _ (u : Question) (reply : Bytes) where
       (λ k l. ap elements (answer-at u reply k l ∙ ap (words (width s)) (sym (drop-drop (4 * width s * k) (answersAt s) reply))))
       ∙ sym (ap elements (words-rows (width s) (u .m) y) ∙ all-rows (λ x. ltb x q) (wordsAt (width s) y) (u .m))
 
-  leaf-elements : all (λ x. elements (recordWords s x)) (r .records) ≡ elements (leafWords u reply)
-  unfolding readReply
+  leaf-elements : all (λ x. elements (recordWords s x)) (r .records) ≡ each (s .ℓ) (leafElementsAt u reply)
+  unfolding readReply recordElementsAt
   leaf-elements =
       let y : Bytes = drop (recordsAt s (u .m)) reply in
       all-each (λ x. elements (recordWords s x)) [] (r .records)
       ∙ ap (λ (n : ℕ). each n (λ k. elements (recordWords s (getD (r .records) k [])))) (length-pieces (recordLength s) (s .ℓ) y)
-      ∙ each-ext (s .ℓ) (λ k. elements (recordWords s (getD (r .records) k []))) (λ k. elements (leafValuesAt u reply k)) (λ k l. ap elements (leaf-values k l))
-      ∙ sym (all-rows (λ x. ltb x q) (leafValuesAt u reply) (s .ℓ))
+      ∙ each-ext (s .ℓ) (λ k. elements (recordWords s (getD (r .records) k []))) (leafElementsAt u reply) (λ k l. ap elements (leaf-values k l))
 
-  pub elements-are : every (elements (batchingWords u reply) ∷ elements (answerWords u reply) ∷ elements (leafWords u reply) ∷ []) ≡ replyElements u r
+  pub elements-are : every (elements (batchingWords u reply) ∷ elements (answerWords u reply) ∷ each (u .sizes .ℓ) (leafElementsAt u reply) ∷ []) ≡ replyElements u (readReply u reply)
   unfolding replyElements
-  elements-are = ap₂ (λ (a b : Bool). every (a ∷ b ∷ elements (leafWords u reply) ∷ [])) (sym batching-elements) (sym answer-elements) ∙ ap (λ (c : Bool). every (all elements (r .batching) ∷ all elements (r .answers) ∷ c ∷ [])) (sym leaf-elements)
+  elements-are =
+      ap₂ (λ (a b : Bool). every (a ∷ b ∷ each (s .ℓ) (leafElementsAt u reply) ∷ [])) (sym batching-elements) (sym answer-elements)
+      ∙ ap (λ (c : Bool). every (all elements (r .batching) ∷ all elements (r .answers) ∷ c ∷ [])) (sym leaf-elements)
 
   -- ---- 9
 
   pub batching-is : length (u .challenges) ≡ u .sizes .η → length (u .indices) ≡ u .sizes .ℓ
-      → each (length (u .challenges)) (batchedRow (width (u .sizes)) (u .sizes .μ) (u .challenges) (batchingWords u reply) (u .indices) (leafWords u reply))
+      → each (length (u .challenges)) (batchedRow (width (u .sizes)) (u .sizes .μ) (u .challenges) (batchingWords u reply) (u .indices) (leafValuesAt u reply))
       ≡ each (u .sizes .η) (λ k. each (u .sizes .ℓ) (batchingAt u (readReply u reply) k))
   unfolding batchedRow batchedAt batchingAt batchOf
   batching-is c i =
-      ap (λ (n : ℕ). each n (batchedRow (width s) (s .μ) (u .challenges) (batchingWords u reply) (u .indices) (leafWords u reply))) c
-      ∙ each-ext (s .η) (batchedRow (width s) (s .μ) (u .challenges) (batchingWords u reply) (u .indices) (leafWords u reply)) (λ k. each (s .ℓ) (batchingAt u r k))
-      (λ k l. ap (λ (n : ℕ). each n (batchedAt (width s) (s .μ) (u .challenges) (batchingWords u reply) (u .indices) (leafWords u reply) k)) i
-      ∙ each-ext (s .ℓ) (batchedAt (width s) (s .μ) (u .challenges) (batchingWords u reply) (u .indices) (leafWords u reply) k) (batchingAt u r k)
-      (λ a m. ap₂ (λ (p x : List ℕ). eqb (evalN p (leafPoint (leafAt u a))) (batchOf (s .μ) (u .challenges) k x))
-      (sym (batching-words k l)) (ap (λ (n : ℕ). piece (s .μ + n) a (leafWords u reply)) c ∙ sym (leaf-words a m))))
+      ap (λ (n : ℕ). each n (batchedRow (width s) (s .μ) (u .challenges) (batchingWords u reply) (u .indices) (leafValuesAt u reply))) c
+      ∙ each-ext (s .η) (batchedRow (width s) (s .μ) (u .challenges) (batchingWords u reply) (u .indices) (leafValuesAt u reply)) (λ k. each (s .ℓ) (batchingAt u r k))
+      (λ k l. ap (λ (n : ℕ). each n (batchedAt (width s) (s .μ) (u .challenges) (batchingWords u reply) (u .indices) (leafValuesAt u reply) k)) i
+      ∙ each-ext (s .ℓ) (batchedAt (width s) (s .μ) (u .challenges) (batchingWords u reply) (u .indices) (leafValuesAt u reply) k) (batchingAt u r k)
+      (λ a m. ap₂ (λ (p x : List ℕ). eqb (evalN p (leafPoint (leafAt u a))) (batchOf (s .μ) (u .challenges) k x)) (sym (batching-words k l)) (sym (leaf-values a m))))
 
   -- ---- 10
 
   pub evaluation-is : length (u .evaluationPoints) ≡ u .m → length (u .indices) ≡ u .sizes .ℓ
-      → each (length (u .indices)) (evaluatedLeaf (leaves (u .sizes)) (width (u .sizes)) (u .sizes .μ) (recordValues (u .sizes)) (u .evaluationPoints) (answerWords u reply) (u .indices) (leafWords u reply))
+      → each (length (u .indices)) (evaluatedLeaf (leaves (u .sizes)) (width (u .sizes)) (u .evaluationPoints) (answerWords u reply) (u .indices) (rowValuesAt u reply))
       ≡ each (u .m) (λ p. each (u .sizes .ℓ) (evaluationAt u (readReply u reply) p))
   unfolding evaluatedLeaf evaluatedAt evaluationAt
   evaluation-is e i =
-      ap (λ (n : ℕ). each n (evaluatedLeaf (leaves s) (width s) (s .μ) (recordValues s) (u .evaluationPoints) (answerWords u reply) (u .indices) (leafWords u reply))) i
-      ∙ each-ext (s .ℓ) (evaluatedLeaf (leaves s) (width s) (s .μ) (recordValues s) (u .evaluationPoints) (answerWords u reply) (u .indices) (leafWords u reply)) (λ a. each (u .m) (λ p. evaluationAt u r p a))
-      (λ a l. ap (λ (n : ℕ). each n (evaluatedAt (leaves s) (width s) (u .evaluationPoints) (answerWords u reply) (leafPoint (leafAt u a)) (take (s .μ) (piece (recordValues s) a (leafWords u reply))))) e
-      ∙ each-ext (u .m) (evaluatedAt (leaves s) (width s) (u .evaluationPoints) (answerWords u reply) (leafPoint (leafAt u a)) (take (s .μ) (piece (recordValues s) a (leafWords u reply)))) (λ p. evaluationAt u r p a)
-      (λ p h. ap₂ (λ (x y : List ℕ). eqb (evalN (interpN (points s) x) (leafPoint (leafAt u a))) (evalN (take (s .μ) y) (pointOf u p)))
-      (sym (answer-words p h)) (sym (leaf-words a l))))
+      ap (λ (n : ℕ). each n (evaluatedLeaf (leaves s) (width s) (u .evaluationPoints) (answerWords u reply) (u .indices) (rowValuesAt u reply))) i
+      ∙ each-ext (s .ℓ) (evaluatedLeaf (leaves s) (width s) (u .evaluationPoints) (answerWords u reply) (u .indices) (rowValuesAt u reply)) (λ a. each (u .m) (λ p. evaluationAt u r p a))
+      (λ a l. ap (λ (n : ℕ). each n (evaluatedAt (leaves s) (width s) (u .evaluationPoints) (answerWords u reply) (leafPoint (leafAt u a)) (rowValuesAt u reply a))) e
+      ∙ each-ext (u .m) (evaluatedAt (leaves s) (width s) (u .evaluationPoints) (answerWords u reply) (leafPoint (leafAt u a)) (rowValuesAt u reply a)) (λ p. evaluationAt u r p a)
+      (λ p h. ap₂ (λ (x y : List ℕ). eqb (evalN (interpN (points s) x) (leafPoint (leafAt u a))) (evalN y (pointOf u p)))
+      (sym (answer-words p h)) (sym (row-values a l))))
       ∙ sym (each-swap (u .m) (s .ℓ) (λ p a. evaluationAt u r p a))
 
   -- ---- values
@@ -162,25 +160,29 @@ module _ (u : Question) (reply : Bytes) where
 
 -- ---- what the code reads
 
-pub record-row : (at size n : ℕ) (reply d : List ℕ) (a : ℕ) (t : List ℕ) → length d ≡ n
-    → t ≡ words n (drop 0 (take (at + size * a + size - (at + size * a)) (drop (at + size * a) reply))) ++ drop n d → t ≡ recordWordsAt at size n reply a
+pub record-read : (at size n : ℕ) (reply d : List ℕ) (a : ℕ) (t : List ℕ) → length d ≡ n
+    → t ≡ words (length d) (drop 0 (take (at + size * a + size - (at + size * a)) (drop (at + size * a) reply))) ++ drop (length d) d → t ≡ recordWordsAt at size n reply a
 unfolding recordWordsAt
-record-row at size n reply d a t e f =
+record-read at size n reply d a t e f =
     let k : at + size * a + size - (at + size * a) ≡ size = omega arith in
     f
-    ∙ front-all (words n (take (at + size * a + size - (at + size * a)) (drop (at + size * a) reply))) d n (sym e)
-    ∙ ap (λ (i : ℕ). words n (take i (drop (at + size * a) reply))) k
+    ∙ front-all (words (length d) (take (at + size * a + size - (at + size * a)) (drop (at + size * a) reply))) d (length d) refl
+    ∙ ap₂ (λ (i m : ℕ). words m (take i (drop (at + size * a) reply))) k e
+
+pub record-tested : (at size n : ℕ) (reply : List ℕ) (a : ℕ) (t : Bool)
+    → t ≡ elements (words n (drop 0 (take (at + size * a + size - (at + size * a)) (drop (at + size * a) reply)))) → t ≡ recordElementsAt at size n reply a
+unfolding recordElementsAt recordWordsAt
+record-tested at size n reply a t f =
+    let k : at + size * a + size - (at + size * a) ≡ size = omega arith in
+    f ∙ ap (λ (i : ℕ). elements (words n (take i (drop (at + size * a) reply)))) k
 
 pub length-recordWordsAt : (at size n : ℕ) (reply : List ℕ) (a : ℕ) → length (recordWordsAt at size n reply a) ≡ n
 unfolding recordWordsAt
 length-recordWordsAt at size n reply a = length-words n _
 
-pub values-done : (s : Sizes) (m : ℕ) (question reply : Bytes) (wide : ℕ) (ps answers : List ℕ) → wide ≡ width s
-    → ps ≡ words m (drop (pointsAt s) question) → answers ≡ words (wide * m) (drop (answersAt s) reply)
-    → rowsOf (valuesAt (s .μ) (s .ν) (s .w) wide ps answers) (length ps) ≡ checkValues (questionAt s m question) (readReply (questionAt s m question) reply)
-values-done s m question reply wide ps answers e f g =
-    let z : List ℕ = words m (drop (pointsAt s) question) in
-    ap (λ (n : ℕ). rowsOf (valuesAt (s .μ) (s .ν) (s .w) wide ps answers) n) (ap length f ∙ length-words m (drop (pointsAt s) question))
-    ∙ ap₂ (λ (n : ℕ) (y : List ℕ). rowsOf (valuesAt (s .μ) (s .ν) (s .w) n y answers) m) e f
-    ∙ ap (λ (x : List ℕ). rowsOf (valuesAt (s .μ) (s .ν) (s .w) (width s) z x) m) (g ∙ ap (λ (n : ℕ). words (n * m) (drop (answersAt s) reply)) e)
+pub values-done : (s : Sizes) (m : ℕ) (question reply : Bytes) (wide from : ℕ) (ps : List ℕ) → wide ≡ width s → from ≡ answersAt s → ps ≡ words m (drop (pointsAt s) question)
+    → rowsOf (valuesAt (s .μ) (s .ν) (s .w) wide ps (words (wide * length ps) (drop from reply))) (length ps) ≡ checkValues (questionAt s m question) (readReply (questionAt s m question) reply)
+values-done s m question reply wide from ps e f g =
+    ap₂ (λ (n k : ℕ). rowsOf (valuesAt (s .μ) (s .ν) (s .w) n ps (words (n * length ps) (drop k reply))) (length ps)) e f
+    ∙ ap₂ (λ (y : List ℕ) (n : ℕ). rowsOf (valuesAt (s .μ) (s .ν) (s .w) (width s) y (words (width s * n) (drop (answersAt s) reply))) n) g (ap length g ∙ length-words m (drop (pointsAt s) question))
     ∙ values-are (questionAt s m question) reply

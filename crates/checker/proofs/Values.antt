@@ -4,12 +4,14 @@ use mathlib.Core.List.{List, [], _∷_, _++_, map, append-nil}
 use Prim.Native.Nat.{ℕ, _+_, _-_, _*_, _<_}
 use native.Mathlib.Numerals.{add-one}
 use lib.ListN.{length, getD, take, drop, set, length-map}
-use lib.Seq.{drop-length}
+use lib.Seq.{drop-length, drop-drop}
+use Rattle.lists.specs.Bytes.{words}
 use Rattle.lists.specs.Pieces.{piece, pieces, pieces-snoc, length-pieces}
 use Rattle.algebra.specs.Columns.{powN}
 use Rattle.algebra.specs.Numbers.{evalN}
 use Rattle.checker.specs.Words.{pointValues, valuesAt}
 use Rattle.checker.proofs.Rows.{front-step}
+use Rattle.checker.proofs.Flat.{words-piece}
 use Rattle.checker.proofs.Batching.{part-is}
 
 map-snoc : (f : List ℕ → ℕ) (xs : List (List ℕ)) (x : List ℕ) → map f (xs ++ (x ∷ [])) ≡ map f xs ++ (f x ∷ [])
@@ -46,9 +48,17 @@ pub length-valuesAt : (μ ν w width : ℕ) (points answers : List ℕ) (p : ℕ
 unfolding valuesAt
 length-valuesAt μ ν w width points answers p = length-pointValues ν (powN (getD points p 0) μ) (piece width p answers) w
 
-pub values-is : (μ ν w width : ℕ) (points answers : List ℕ) (p base n : ℕ) (r : List ℕ) → n ≡ w → base ≡ powN (getD points p 0) μ
-    → r ≡ pointValues ν base (take (width * p + width - width * p) (drop (width * p) answers)) n → r ≡ valuesAt μ ν w width points answers p
+-- the answer of a point, read from the bytes of all answers into room for one
+pub answer-read : (width count at p : ℕ) (reply d r : List ℕ) → p < count → length d ≡ width
+    → r ≡ words (length d) (drop (at + 4 * width * p) reply) ++ drop (length d) d → r ≡ piece width p (words (width * count) (drop at reply))
+answer-read width count at p reply d r l e f =
+    f
+    ∙ front-all (words (length d) (drop (at + 4 * width * p) reply)) d (length d) refl
+    ∙ ap₂ words e (sym (drop-drop (4 * width * p) at reply))
+    ∙ sym (words-piece width count p (drop at reply) l)
+
+pub values-is : (μ ν w width : ℕ) (points answers : List ℕ) (p base n : ℕ) (answer r : List ℕ) → n ≡ w → base ≡ powN (getD points p 0) μ
+    → answer ≡ piece width p answers → r ≡ pointValues ν base answer n → r ≡ valuesAt μ ν w width points answers p
 unfolding valuesAt
-values-is μ ν w width points answers p base n r e f g =
-    g ∙ ap₂ (λ (b k : ℕ). pointValues ν b (take (width * p + width - width * p) (drop (width * p) answers)) k) f e
-    ∙ ap (λ (t : List ℕ). pointValues ν (powN (getD points p 0) μ) t w) (part-is width p answers)
+values-is μ ν w width points answers p base n answer r e f h g =
+    g ∙ ap₂ (λ (b k : ℕ). pointValues ν b answer k) f e ∙ ap (λ (t : List ℕ). pointValues ν (powN (getD points p 0) μ) t w) h

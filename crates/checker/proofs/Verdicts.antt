@@ -19,11 +19,11 @@ use Rattle.scheme.specs.Question.{Question}
 use Rattle.scheme.specs.Reply.{Reply, readReply, answersAt, recordsAt, recordLength, nodesAt, replyLength}
 use Rattle.scheme.specs.Check.{replyElements, replyRoot, batchingAt, evaluationAt, replyTests}
 use Rattle.scheme.proofs.Accepted.{leaves-high}
-use Rattle.checker.specs.Words.{rowsOf, recordWordsAt, rootAt, batchedRow, evaluatedLeaf, batchingWords, answerWords, leafValuesAt}
+use Rattle.checker.specs.Words.{recordWordsAt, recordElementsAt, rootAt, batchedRow, evaluatedLeaf, batchingWords, answerWords}
 use Rattle.checker.specs.Posed.{posed, Posed, Read, laterTests}
-use Rattle.checker.proofs.Rows.{length-rows, read-front}
+use Rattle.checker.proofs.Rows.{read-front}
 use Rattle.checker.proofs.Bounds.{width-high, answers-fit}
-use Rattle.checker.proofs.ReplyTests.{elements-are, batching-is, evaluation-is, root-is, length-recordWordsAt}
+use Rattle.checker.proofs.ReplyTests.{elements-are, batching-is, evaluation-is, root-is}
 
 -- leaf indices are small
 pub small : (h : ℕ) (indices : List ℕ) → h ≤ 12 → Below (2 ^ h) indices → Below 65536 indices
@@ -139,81 +139,81 @@ module _ (s : Sizes) (root challenges points indices reply : List ℕ) (p : Pose
 
   -- ---- the tests
 
-  module _ (batching answers values : List ℕ) (d : Read u reply batching answers values) where
+  module _ (batching answers : List ℕ) (d : Read u reply batching answers) where
     length-batching : length batching ≡ width s * s .η
     length-batching = ap length (d .batching-read) ∙ length-words (width s * s .η) reply
 
     length-answers : length answers ≡ width s * length points
     length-answers = ap length (d .answers-read) ∙ length-words (width s * length points) (drop (answersAt s) reply)
 
-    length-values : length values ≡ recordValues s * s .ℓ
-    length-values =
-        ap length (d .values-read) ∙ length-rows (recordValues s) (leafValuesAt u reply) (length-recordWordsAt (recordsAt s (length points)) (recordLength s) (recordValues s) reply) (s .ℓ)
+    module _ (at size : ℕ) (e : at ≡ recordsAt s (length points)) (f : size ≡ recordLength s) where
+      pub elements-tested : (n : ℕ) (t : Bool) → n ≡ recordValues s → t ≡ every (elements batching ∷ elements answers ∷ each (length indices) (recordElementsAt at size n reply) ∷ []) → t ≡ replyElements u r
+      elements-tested n t g h =
+          h
+          ∙ ap₂ (λ (x y : List ℕ). every (elements x ∷ elements y ∷ each (length indices) (recordElementsAt at size n reply) ∷ [])) (d .batching-read) (d .answers-read)
+          ∙ ap (λ (z : Bool). every (elements (batchingWords u reply) ∷ elements (answerWords u reply) ∷ z ∷ []))
+          (ap₂ (λ (i j : ℕ). each (length indices) (recordElementsAt i j n reply)) e f
+          ∙ ap₂ (λ (i j : ℕ). each i (recordElementsAt (recordsAt s (length points)) (recordLength s) j reply)) (p .opened) g)
+          ∙ elements-are u reply
 
-    pub elements-tested : (t : Bool) → t ≡ every (elements batching ∷ elements answers ∷ elements values ∷ []) → t ≡ replyElements u r
-    elements-tested t e =
-        e
-        ∙ ap₂ (λ (x y : List ℕ). every (elements x ∷ elements y ∷ elements values ∷ [])) (d .batching-read) (d .answers-read)
-        ∙ ap (λ (z : List ℕ). every (elements (batchingWords u reply) ∷ elements (answerWords u reply) ∷ elements z ∷ [])) (d .values-read)
-        ∙ elements-are u reply
+      pub root-tested : (t : Bool) (x : Bytes) → x ≡ rootAt (s .h) at size indices reply → t ≡ same x root → t ≡ same (replyRoot u r) root
+      root-tested t x g h = h ∙ ap (λ (y : Bytes). same y root) (g ∙ ap₂ (λ (i j : ℕ). rootAt (s .h) i j indices reply) e f ∙ root-is u reply (p .opened) (d .whole))
 
-    pub root-tested : (t : Bool) (x : Bytes) (at size : ℕ) → at ≡ recordsAt s (length points) → size ≡ recordLength s → x ≡ rootAt (s .h) at size indices reply → t ≡ same x root
-        → t ≡ same (replyRoot u r) root
-    root-tested t x at size e f g h =
-        h ∙ ap (λ (y : Bytes). same y root) (g ∙ ap₂ (λ (i j : ℕ). rootAt (s .h) i j indices reply) e f ∙ root-is u reply (p .opened) (d .whole))
+      pub batching-tested : (t : Bool) (wide : ℕ) → wide ≡ width s
+          → t ≡ each (length challenges) (batchedRow wide (s .μ) challenges batching indices (recordWordsAt at size (s .μ + length challenges) reply)) → t ≡ batchingOk
+      batching-tested t wide g h =
+          h
+          ∙ ap₂ (λ (w : ℕ) (x : List ℕ). each (length challenges) (batchedRow w (s .μ) challenges x indices (recordWordsAt at size (s .μ + length challenges) reply))) g (d .batching-read)
+          ∙ ap₂ (λ (i j : ℕ). each (length challenges) (batchedRow (width s) (s .μ) challenges (batchingWords u reply) indices (recordWordsAt i j (s .μ + length challenges) reply))) e f
+          ∙ ap (λ (n : ℕ). each (length challenges) (batchedRow (width s) (s .μ) challenges (batchingWords u reply) indices (recordWordsAt (recordsAt s (length points)) (recordLength s) (s .μ + n) reply))) (p .repetitions)
+          ∙ batching-is u reply (p .repetitions) (p .opened)
 
-    pub batching-tested : (t : Bool) (wide : ℕ) → wide ≡ width s → t ≡ each (length challenges) (batchedRow wide (s .μ) challenges batching indices values) → t ≡ batchingOk
-    batching-tested t wide e f =
-        f
-        ∙ ap (λ (w : ℕ). each (length challenges) (batchedRow w (s .μ) challenges batching indices values)) e
-        ∙ ap₂ (λ (x y : List ℕ). each (length challenges) (batchedRow (width s) (s .μ) challenges x indices y)) (d .batching-read) (d .values-read)
-        ∙ batching-is u reply (p .repetitions) (p .opened)
+      pub evaluation-tested : (t : Bool) (first wide : ℕ) → first ≡ leaves s → wide ≡ width s
+          → t ≡ each (length indices) (evaluatedLeaf first wide points answers indices (recordWordsAt at size (s .μ) reply)) → t ≡ evaluationOk
+      evaluation-tested t first wide g h i =
+          i
+          ∙ ap₂ (λ (j k : ℕ). each (length indices) (evaluatedLeaf j k points answers indices (recordWordsAt at size (s .μ) reply))) g h
+          ∙ ap (λ (x : List ℕ). each (length indices) (evaluatedLeaf (leaves s) (width s) points x indices (recordWordsAt at size (s .μ) reply))) (d .answers-read)
+          ∙ ap₂ (λ (j k : ℕ). each (length indices) (evaluatedLeaf (leaves s) (width s) points (answerWords u reply) indices (recordWordsAt j k (s .μ) reply))) e f
+          ∙ evaluation-is u reply refl (p .opened)
 
-    pub evaluation-tested : (t : Bool) (first wide n : ℕ) → first ≡ leaves s → wide ≡ width s → n ≡ recordValues s
-        → t ≡ each (length indices) (evaluatedLeaf first wide (s .μ) n points answers indices values) → t ≡ evaluationOk
-    evaluation-tested t first wide n e f g h =
-        h
-        ∙ ap₂ (λ (i j : ℕ). each (length indices) (evaluatedLeaf i j (s .μ) n points answers indices values)) e f
-        ∙ ap (λ (k : ℕ). each (length indices) (evaluatedLeaf (leaves s) (width s) (s .μ) k points answers indices values)) g
-        ∙ ap₂ (λ (x y : List ℕ). each (length indices) (evaluatedLeaf (leaves s) (width s) (s .μ) (recordValues s) points x indices y)) (d .answers-read) (d .values-read)
-        ∙ evaluation-is u reply refl (p .opened)
+      pub elements-asks : (n : ℕ) → n ≡ recordValues s → (at + size * length indices ≤ length reply) × (4 * n ≤ size)
+      elements-asks n g = (records-fit (d .whole) at size e f, omega (arith, f, g))
 
-    pub batching-asks : (wide : ℕ) → wide ≡ width s
-        → (wide ≤ 320) × (length indices ≤ 64) × Below 65536 indices × (wide * length challenges ≤ length batching) × ((s .μ + length challenges) * length indices ≤ length values)
-        × (s .μ ≤ 64) × (length challenges ≤ 8)
-    batching-asks wide e = (
-      omega (arith, e, width-high s (p .sizes-good)),
-      omega (arith, p .opened, p .sizes-good .ℓ-high),
-      indices-small,
-      le-of-eq (ap₂ _*_ e (p .repetitions) ∙ sym length-batching),
-      le-of-eq (ap₂ (λ (i j : ℕ). (s .μ + i) * j) (p .repetitions) (p .opened) ∙ sym length-values),
-      p .sizes-good .μ-high,
-      omega (arith, p .repetitions, p .sizes-good .η-high),
-    )
+      pub batching-asks : (wide : ℕ) → wide ≡ width s
+          → (wide ≤ 320) × Below 65536 indices × (wide * length challenges ≤ length batching) × (s .μ ≤ 64) × (length challenges ≤ 4)
+          × (4 * (s .μ + length challenges) ≤ size) × (at + size * length indices ≤ length reply)
+      batching-asks wide g = (
+        omega (arith, g, width-high s (p .sizes-good)),
+        indices-small,
+        le-of-eq (ap₂ _*_ g (p .repetitions) ∙ sym length-batching),
+        p .sizes-good .μ-high,
+        omega (arith, p .repetitions, p .sizes-good .η-high),
+        omega (arith, f, p .repetitions),
+        records-fit (d .whole) at size e f,
+      )
 
-    pub evaluation-asks : (first wide n : ℕ) → first ≡ leaves s → wide ≡ width s → n ≡ recordValues s
-        → (first + wide < q) × (wide ≤ 320) × Below 65536 indices × (s .μ ≤ n) × (wide * length points ≤ length answers) × (n * length indices ≤ length values)
-        × (s .μ ≤ 64) × (length points ≤ 8)
-    evaluation-asks first wide n e f g = (
-      omega (arith, e, f, leaves-high s (p .sizes-good), width-high s (p .sizes-good)),
-      omega (arith, f, width-high s (p .sizes-good)),
-      indices-small,
-      omega (arith, g),
-      le-of-eq (ap (λ (k : ℕ). k * length points) f ∙ sym length-answers),
-      le-of-eq (ap₂ _*_ g (p .opened) ∙ sym length-values),
-      p .sizes-good .μ-high,
-      p .few-points,
-    )
+      pub evaluation-asks : (first wide : ℕ) → first ≡ leaves s → wide ≡ width s
+          → (first + wide < q) × (wide ≤ 320) × Below 65536 indices × (wide * length points ≤ length answers) × (s .μ ≤ 64) × (length points ≤ 8)
+          × (4 * s .μ ≤ size) × (at + size * length indices ≤ length reply)
+      evaluation-asks first wide g h = (
+        omega (arith, g, h, leaves-high s (p .sizes-good), width-high s (p .sizes-good)),
+        omega (arith, h, width-high s (p .sizes-good)),
+        indices-small,
+        le-of-eq (ap (λ (k : ℕ). k * length points) h ∙ sym length-answers),
+        p .sizes-good .μ-high,
+        p .few-points,
+        omega (arith, f),
+        records-fit (d .whole) at size e f,
+      )
 
   -- ---- what was read
 
-  pub was-read : (wide from at size n : ℕ) (b₀ a₀ v₀ b a v : List ℕ) → length reply ≡ replyLength u
-      → wide ≡ width s → from ≡ answersAt s → at ≡ recordsAt s (length points) → size ≡ recordLength s → n ≡ recordValues s
+  pub was-read : (wide from : ℕ) (b₀ a₀ b a : List ℕ) → length reply ≡ replyLength u → wide ≡ width s → from ≡ answersAt s
       → b ≡ words (wide * length challenges) (drop 0 reply) ++ drop (wide * length challenges) b₀
       → a ≡ words (wide * length points) (drop from reply) ++ drop (wide * length points) a₀
-      → v ≡ rowsOf (recordWordsAt at size n reply) (length indices) ++ drop (n * length indices) v₀
-      → Read u reply (take (wide * length challenges - 0) (drop 0 b)) (take (wide * length points - 0) (drop 0 a)) (take (n * length indices - 0) (drop 0 v))
-  was-read wide from at size n b₀ a₀ v₀ b a v l ew ef ea es en eb ey ev = record {
+      → Read u reply (take (wide * length challenges - 0) (drop 0 b)) (take (wide * length points - 0) (drop 0 a))
+  was-read wide from b₀ a₀ b a l ew ef eb ey = record {
     whole = l;
     batching-read =
         read-front (wide * length challenges) (words (wide * length challenges) (drop 0 reply)) b₀ b (length-words _ _) eb
@@ -221,8 +221,4 @@ module _ (s : Sizes) (root challenges points indices reply : List ℕ) (p : Pose
     answers-read =
         read-front (wide * length points) (words (wide * length points) (drop from reply)) a₀ a (length-words _ _) ey
         ∙ ap₂ (λ (k i : ℕ). words (k * length points) (drop i reply)) ew ef;
-    values-read =
-        read-front (n * length indices) (rowsOf (recordWordsAt at size n reply) (length indices)) v₀ v (length-rows n (recordWordsAt at size n reply) (length-recordWordsAt at size n reply) (length indices)) ev
-        ∙ ap₂ (λ (i j : ℕ). rowsOf (recordWordsAt i j n reply) (length indices)) ea es
-        ∙ ap₂ (λ (k i : ℕ). rowsOf (recordWordsAt (recordsAt s (length points)) (recordLength s) k reply) i) en (p .opened);
   }

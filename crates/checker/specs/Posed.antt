@@ -15,7 +15,7 @@ use Rattle.scheme.specs.Reply.{Reply, readReply, replyLength}
 use Rattle.scheme.specs.Commit.{after}
 use Rattle.scheme.specs.Check.{replyElements, replyRoot, batchingAt, evaluationAt, replyTests, checkValues}
 use Rattle.scheme.proofs.Accepted.{Good}
-use Rattle.checker.specs.Words.{batchingWords, answerWords, leafWords}
+use Rattle.checker.specs.Words.{batchingWords, answerWords}
 
 abbrev pub posed : Sizes → Bytes → List ℕ → List ℕ → List ℕ → Question
 posed s root challenges points indices = record { sizes = s; m = length points; root = root; challenges = challenges; evaluationPoints = points; indices = indices }
@@ -29,12 +29,11 @@ pub record Posed (s : Sizes) (challenges points indices : List ℕ) : Type 0 whe
   pub rising : Rising indices
   pub below : Below (leaves s) indices
 
--- the lists hold the words of a reply of the right length
-pub record Read (u : Question) (reply : Bytes) (batching answers values : List ℕ) : Type 0 where
+-- the lists hold the answers of a reply of the right length
+pub record Read (u : Question) (reply : Bytes) (batching answers : List ℕ) : Type 0 where
   pub whole : length reply ≡ replyLength u
   pub batching-read : batching ≡ batchingWords u reply
   pub answers-read : answers ≡ answerWords u reply
-  pub values-read : values ≡ leafWords u reply
 
 -- the question that b holds for sizes s and m points
 abbrev pub questionAt : Sizes → ℕ → Bytes → Question

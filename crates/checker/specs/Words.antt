@@ -1,4 +1,4 @@
--- The check on words: the reply's words and leaf values stand in flat lists, record after record.
+-- The check on words: the reply's answers stand in flat lists, one after the other.
 use mathlib.Core.Bool.{Bool}
 use mathlib.Core.List.{List, [], _∷_, map, flatten}
 use Prim.Native.Nat.{ℕ, _+_, _*_, _%_}
@@ -16,7 +16,7 @@ use Rattle.algebra.specs.Prime.{q}
 use Rattle.algebra.specs.Columns.{powN}
 use Rattle.algebra.specs.Dot.{dotN}
 use Rattle.algebra.specs.Numbers.{evalN, interpN}
-use Rattle.scheme.specs.Sizes.{width, recordValues, leafPoint}
+use Rattle.scheme.specs.Sizes.{elements, width, recordValues, leafPoint}
 use Rattle.scheme.specs.Question.{Question}
 use Rattle.scheme.specs.Reply.{answersAt, recordsAt, recordLength}
 
@@ -38,20 +38,22 @@ batchOf μ challenges k x = evalN (getD x (μ + k) 0 ∷ take μ x) (getD challe
 unfoldable pub batchBy : ℕ → List ℕ → List ℕ → ℕ → List ℕ → ℕ
 batchBy μ challenges scales k x = (getD x (μ + k) 0 + getD challenges k 0 * dotN (piece μ k scales) (take μ x)) % q
 
--- batching answer k agrees with opened leaf a, where the powers of the leaf's point are a row of a table, too
-unfoldable pub dottedAt : ℕ → ℕ → List ℕ → List ℕ → List ℕ → List ℕ → List ℕ → ℕ → ℕ → Bool
-dottedAt width μ challenges batching powers scales values k a =
-    eqb (dotN (piece width a powers) (piece width k batching)) (batchBy μ challenges scales k (piece (μ + length challenges) a values))
+-- batching answer k agrees with the values x of a leaf, where the powers of the leaf's point are a row, too
+unfoldable pub dottedAt : ℕ → List ℕ → List ℕ → List ℕ → List ℕ → List ℕ → ℕ → Bool
+dottedAt μ challenges batching powers scales x k = eqb (dotN powers (piece (length powers) k batching)) (batchBy μ challenges scales k x)
 
-unfoldable pub dottedRow : ℕ → ℕ → List ℕ → List ℕ → List ℕ → List ℕ → List ℕ → ℕ → ℕ → Bool
-dottedRow width μ challenges batching powers scales values l k = each l (dottedAt width μ challenges batching powers scales values k)
+-- at opened leaf a, whose values are `values a`, with the answer's value at the leaf's point
+unfoldable pub valuedAt : ℕ → ℕ → List ℕ → List ℕ → List ℕ → List ℕ → (ℕ → List ℕ) → ℕ → ℕ → Bool
+valuedAt width μ challenges batching scales indices values a k = eqb (evalN (piece width k batching) (leafPoint (getD indices a 0))) (batchBy μ challenges scales k (values a))
 
--- with the answer's value at the leaf's point
-unfoldable pub batchedAt : ℕ → ℕ → List ℕ → List ℕ → List ℕ → List ℕ → ℕ → ℕ → Bool
-batchedAt width μ challenges batching indices values k a =
-    eqb (evalN (piece width k batching) (leafPoint (getD indices a 0))) (batchOf μ challenges k (piece (μ + length challenges) a values))
+unfoldable pub valuedLeaf : ℕ → ℕ → List ℕ → List ℕ → List ℕ → List ℕ → (ℕ → List ℕ) → ℕ → Bool
+valuedLeaf width μ challenges batching scales indices values a = each (length challenges) (valuedAt width μ challenges batching scales indices values a)
 
-unfoldable pub batchedRow : ℕ → ℕ → List ℕ → List ℕ → List ℕ → List ℕ → ℕ → Bool
+-- with the values batched
+unfoldable pub batchedAt : ℕ → ℕ → List ℕ → List ℕ → List ℕ → (ℕ → List ℕ) → ℕ → ℕ → Bool
+batchedAt width μ challenges batching indices values k a = eqb (evalN (piece width k batching) (leafPoint (getD indices a 0))) (batchOf μ challenges k (values a))
+
+unfoldable pub batchedRow : ℕ → ℕ → List ℕ → List ℕ → List ℕ → (ℕ → List ℕ) → ℕ → Bool
 batchedRow width μ challenges batching indices values k = each (length indices) (batchedAt width μ challenges batching indices values k)
 
 -- ---- 10, evaluation answers
@@ -68,14 +70,12 @@ scaledAt first width scales answers x rows p = eqb (evalN (interpN (upFrom first
 unfoldable pub evaluatedAt : ℕ → ℕ → List ℕ → List ℕ → ℕ → List ℕ → ℕ → Bool
 evaluatedAt first width points answers x rows p = eqb (evalN (interpN (upFrom first width) (piece width p answers)) x) (evalN rows (getD points p 0))
 
--- the first m answers agree with opened leaf a, whose values are n, the row values first
-unfoldable pub scaledLeaf : ℕ → ℕ → ℕ → ℕ → ℕ → List ℕ → List ℕ → List ℕ → List ℕ → ℕ → Bool
-scaledLeaf first width μ n m scales answers indices values a =
-    each m (scaledAt first width scales answers (leafPoint (getD indices a 0)) (take μ (piece n a values)))
+-- the first m answers agree with opened leaf a, whose row values are `rows a`
+unfoldable pub scaledLeaf : ℕ → ℕ → ℕ → List ℕ → List ℕ → List ℕ → (ℕ → List ℕ) → ℕ → Bool
+scaledLeaf first width m scales answers indices rows a = each m (scaledAt first width scales answers (leafPoint (getD indices a 0)) (rows a))
 
-unfoldable pub evaluatedLeaf : ℕ → ℕ → ℕ → ℕ → List ℕ → List ℕ → List ℕ → List ℕ → ℕ → Bool
-evaluatedLeaf first width μ n points answers indices values a =
-    each (length points) (evaluatedAt first width points answers (leafPoint (getD indices a 0)) (take μ (piece n a values)))
+unfoldable pub evaluatedLeaf : ℕ → ℕ → List ℕ → List ℕ → List ℕ → (ℕ → List ℕ) → ℕ → Bool
+evaluatedLeaf first width points answers indices rows a = each (length points) (evaluatedAt first width points answers (leafPoint (getD indices a 0)) (rows a))
 
 -- ---- values
 
@@ -93,9 +93,12 @@ valuesAt μ ν w width points answers p = pointValues ν (powN (getD points p 0)
 abbrev pub recordOf : ℕ → ℕ → Bytes → ℕ → Bytes
 recordOf at size reply a = take size (drop (at + size * a) reply)
 
--- its n values
+-- its first n values, and whether they are elements
 unfoldable pub recordWordsAt : ℕ → ℕ → ℕ → Bytes → ℕ → List ℕ
 recordWordsAt at size n reply a = words n (recordOf at size reply a)
+
+unfoldable pub recordElementsAt : ℕ → ℕ → ℕ → Bytes → ℕ → Bool
+recordElementsAt at size n reply a = elements (recordWordsAt at size n reply a)
 
 -- the digest of opened leaf a
 unfoldable pub leafDigestAt : ℕ → ℕ → List ℕ → Bytes → ℕ → Bytes
@@ -114,8 +117,12 @@ batchingWords u reply = words (width (u .sizes) * u .sizes .η) reply
 abbrev pub answerWords : Question → Bytes → List ℕ
 answerWords u reply = words (width (u .sizes) * u .m) (drop (answersAt (u .sizes)) reply)
 
+-- the values of opened leaf a, the row values among them, and whether its values are elements
 abbrev pub leafValuesAt : Question → Bytes → ℕ → List ℕ
-leafValuesAt u reply = recordWordsAt (recordsAt (u .sizes) (u .m)) (recordLength (u .sizes)) (recordValues (u .sizes)) reply
+leafValuesAt u = recordWordsAt (recordsAt (u .sizes) (u .m)) (recordLength (u .sizes)) (recordValues (u .sizes))
 
-abbrev pub leafWords : Question → Bytes → List ℕ
-leafWords u reply = rowsOf (leafValuesAt u reply) (u .sizes .ℓ)
+abbrev pub rowValuesAt : Question → Bytes → ℕ → List ℕ
+rowValuesAt u = recordWordsAt (recordsAt (u .sizes) (u .m)) (recordLength (u .sizes)) (u .sizes .μ)
+
+abbrev pub leafElementsAt : Question → Bytes → ℕ → Bool
+leafElementsAt u = recordElementsAt (recordsAt (u .sizes) (u .m)) (recordLength (u .sizes)) (recordValues (u .sizes))

@@ -1,9 +1,10 @@
 // The check of a reply.
 ghost use mathlib.Core.Path.{_≡_};
-ghost use mathlib.Core.List.{[], _∷_, _++_, map};
+ghost use mathlib.Core.List.{[], _∷_, _++_};
 ghost use Prim.Native.Nat.{_+_, _-_, _*_, _<_, _≤_};
 ghost use lib.ListN.{length, drop};
 ghost use Rattle.lists.specs.All.{Below};
+ghost use Rattle.lists.specs.Bytes.{words};
 ghost use Rattle.lists.specs.Tests.{verdictOf, every, each};
 ghost use Rattle.tree.specs.Sets.{missing};
 ghost use Rattle.tree.specs.Clauses.{IndexSet};
@@ -15,7 +16,7 @@ ghost use Rattle.scheme.proofs.Accepted.{Good};
 ghost use Rattle.commitment.specs.Shape.{sizesIn};
 ghost use Rattle.checker.specs.Posed.{posed, Posed, Read, questionAt, Formed, laterTests, checkingReply};
 ghost use Rattle.algebra.specs.Prime.{q};
-ghost use Rattle.checker.specs.Words.{rowsOf, recordWordsAt, leafDigestAt, rootAt, powersAt, dottedAt, dottedRow, batchedRow, weighedAt, scaledAt, scaledLeaf, evaluatedLeaf, pointValues, valuesAt};
+ghost use Rattle.checker.specs.Words.{rowsOf, recordWordsAt, recordElementsAt, leafDigestAt, rootAt, powersAt, dottedAt, valuedLeaf, batchedRow, weighedAt, scaledAt, scaledLeaf, evaluatedLeaf, pointValues, valuesAt};
 use commitment::Questioned;
 use commitment::Shape;
 use field::Element;
@@ -79,23 +80,43 @@ fn reply_length(s: Shape, m: usize, indices: &[usize]) -> usize
 
 // ---- the reply's words
 
-// The values of each leaf record: the record is handed on as the part of the reply that holds it.
-fn read_records(at: usize, size: usize, n: usize, count: usize, reply: &[u8], out: &mut [u32])
-    requires { ⌜ (at + size * count ≤ length (now reply)) × (4 * n ≤ size) × (n * count ≤ length (now out)) ⌝ }
-    ensures { λ _. ⌜ now (out .exit) ≡ rowsOf (recordWordsAt at size n (now (reply .entry))) count ++ drop (n * count) (now (out .entry)) ⌝ }
+// The first values of opened leaf a, as many as there is room for: its record is handed on as the part of the reply that holds it.
+fn read_record(at: usize, size: usize, a: usize, reply: &[u8], values: &mut [u32])
+    requires { ⌜ (at + size * a + size ≤ length (now reply)) × (4 * length (now values) ≤ size) ⌝ }
+    ensures { λ _. ⌜ now (values .exit) ≡ recordWordsAt at size (length (now (values .entry))) (now (reply .entry)) a ⌝ }
+{
+    let from = at + size * a;
+    let to = from + size;
+    commitment::read_words(&reply[from..to], 0, values.len(), values);
+}
+
+// Is each of the n values of each leaf record an element?
+fn record_elements(at: usize, size: usize, n: usize, count: usize, reply: &[u8]) -> bool
+    requires { ⌜ (at + size * count ≤ length (now reply)) × (4 * n ≤ size) ⌝ }
+    ensures { λ r. ⌜ r ≡ each count (recordElementsAt at size n (now (reply .entry))) ⌝ }
 {
     for a in 0..count {
         let from = at + size * a;
         let to = from + size;
-        let first = n * a;
-        let last = first + n;
-        commitment::read_words(&reply[from..to], 0, n, &mut out[first..last]);
+        if !commitment::elements_in(&reply[from..to], 0, n) {
+            return false;
+        }
     }
+    true
 }
 
-// Is each word of the reply an element?
-fn elements_read(batching: &[u32], answers: &[u32], values: &[u32]) -> bool
-    ensures { λ r. ⌜ r ≡ every (elements (now (batching .entry)) ∷ elements (now (answers .entry)) ∷ elements (now (values .entry)) ∷ []) ⌝ }
+// Is each word of the reply an element? The records begin at `at`.
+fn elements_read(
+    batching: &[u32],
+    answers: &[u32],
+    at: usize,
+    size: usize,
+    n: usize,
+    count: usize,
+    reply: &[u8],
+) -> bool
+    requires { ⌜ (at + size * count ≤ length (now reply)) × (4 * n ≤ size) ⌝ }
+    ensures { λ r. ⌜ r ≡ every (elements (now (batching .entry)) ∷ elements (now (answers .entry)) ∷ each count (recordElementsAt at size n (now (reply .entry))) ∷ []) ⌝ }
 {
     if !commitment::elements_ok(batching) {
         return false;
@@ -103,7 +124,7 @@ fn elements_read(batching: &[u32], answers: &[u32], values: &[u32]) -> bool
     if !commitment::elements_ok(answers) {
         return false;
     }
-    commitment::elements_ok(values)
+    record_elements(at, size, n, count, reply)
 }
 
 // ---- the root
@@ -141,18 +162,6 @@ fn reply_root(h: usize, at: usize, size: usize, indices: &[usize], reply: &[u8])
 
 // ---- batching answers
 
-// The points of the opened leaves.
-fn leaf_points(indices: &[usize], out: &mut [u32])
-    requires { ⌜ Below 65536 (now indices) × (length (now indices) ≤ length (now out)) ⌝ }
-    ensures { λ _. ⌜ now (out .exit) ≡ map leafPoint (now (indices .entry)) ++ drop (length (now (indices .entry))) (now (out .entry)) ⌝ }
-{
-    for a in 0..indices.len() {
-        let i = indices[a];
-        let x = leaf_point(LeafIndex(i as u32));
-        out[a] = x.0;
-    }
-}
-
 // The first n powers of each element, one row each.
 fn fill_powers(n: usize, xs: &[u32], table: &mut [u32])
     requires { ⌜ n * length (now xs) ≤ length (now table) ⌝ }
@@ -165,11 +174,9 @@ fn fill_powers(n: usize, xs: &[u32], table: &mut [u32])
     }
 }
 
-// Does batching answer k agree with the values of opened leaf a? `powers` has a row for each leaf's point, `scales` one for each challenge.
+// Does batching answer k agree with the values of an opened leaf? `powers` are those of the leaf's point, `scales` has a row of powers for each challenge.
 fn batching_agrees(
     k: usize,
-    a: usize,
-    width: usize,
     mu: usize,
     challenges: &[u32],
     batching: &[u32],
@@ -177,52 +184,45 @@ fn batching_agrees(
     scales: &[u32],
     values: &[u32],
 ) -> bool
-    requires { ⌜ (k < length (now challenges)) × (width ≤ 65536) × (mu ≤ 65536) × (width * k + width ≤ length (now batching)) × (width * a + width ≤ length (now powers)) × (mu * k + mu ≤ length (now scales)) × ((mu + length (now challenges)) * a + (mu + length (now challenges)) ≤ length (now values)) ⌝ }
-    ensures { λ r. ⌜ r ≡ dottedAt width mu (now (challenges .entry)) (now (batching .entry)) (now (powers .entry)) (now (scales .entry)) (now (values .entry)) k a ⌝ }
+    requires { ⌜ (k < length (now challenges)) × (length (now powers) ≤ 65536) × (mu ≤ 65536) × (length (now powers) * k + length (now powers) ≤ length (now batching)) × (mu * k + mu ≤ length (now scales)) × (mu + length (now challenges) ≤ length (now values)) ⌝ }
+    ensures { λ r. ⌜ r ≡ dottedAt mu (now (challenges .entry)) (now (batching .entry)) (now (powers .entry)) (now (scales .entry)) (now (values .entry)) k ⌝ }
 {
-    let answer = width * k;
-    let answer_end = answer + width;
-    let row = width * a;
-    let row_end = row + width;
-    let left = field::dot(&powers[row..row_end], &batching[answer..answer_end]);
+    let answer = powers.len() * k;
+    let answer_end = answer + powers.len();
+    let left = field::dot(powers, &batching[answer..answer_end]);
     let scale = mu * k;
     let scale_end = scale + mu;
-    let first = (mu + challenges.len()) * a;
-    let masks = first + mu;
-    let rows = field::dot(&scales[scale..scale_end], &values[first..masks]);
+    let rows = field::dot(&scales[scale..scale_end], &values[0..mu]);
     let challenge = Element(challenges[k]);
-    let right = field::multiply_add(Element(values[masks + k]), challenge, rows);
+    let right = field::multiply_add(Element(values[mu + k]), challenge, rows);
     left.0 == right.0
 }
 
-// Does each batching answer agree with each of the l opened leaves? Both walks are left at the first pair that does not.
+// Does each batching answer agree with each opened leaf? Both walks are left at the first pair that does not.
+// The leaf records begin at `at`; `powers` is room for those of one leaf's point, `values` for one leaf's values.
 fn batching_walk(
-    l: usize,
-    width: usize,
     mu: usize,
     challenges: &[u32],
     batching: &[u32],
-    powers: &[u32],
     scales: &[u32],
-    values: &[u32],
+    indices: &[usize],
+    at: usize,
+    size: usize,
+    reply: &[u8],
+    powers: &mut [u32],
+    values: &mut [u32],
 ) -> bool
-    requires { ⌜ (width ≤ 65536) × (mu ≤ 65536) × (width * length (now challenges) ≤ length (now batching)) × (width * l ≤ length (now powers)) × (mu * length (now challenges) ≤ length (now scales)) × ((mu + length (now challenges)) * l ≤ length (now values)) ⌝ }
-    ensures { λ r. ⌜ r ≡ each (length (now (challenges .entry))) (dottedRow width mu (now (challenges .entry)) (now (batching .entry)) (now (powers .entry)) (now (scales .entry)) (now (values .entry)) l) ⌝ }
+    requires { ⌜ (length (now powers) ≤ 65536) × (mu ≤ 65536) × Below 65536 (now indices) × (length (now powers) * length (now challenges) ≤ length (now batching)) × (mu * length (now challenges) ≤ length (now scales)) × (mu + length (now challenges) ≤ length (now values)) × (4 * length (now values) ≤ size) × (at + size * length (now indices) ≤ length (now reply)) ⌝ }
+    ensures { λ r. ⌜ r ≡ each (length (now (indices .entry))) (valuedLeaf (length (now (powers .entry))) mu (now (challenges .entry)) (now (batching .entry)) (now (scales .entry)) (now (indices .entry)) (recordWordsAt at size (length (now (values .entry))) (now (reply .entry)))) ⌝ }
 {
     let mut ok = true;
-    'walk: for k in 0..challenges.len() {
-        for a in 0..l {
-            if !batching_agrees(
-                k,
-                a,
-                width,
-                mu,
-                challenges,
-                batching,
-                powers,
-                scales,
-                values,
-            ) {
+    'walk: for a in 0..indices.len() {
+        let leaf = indices[a];
+        let x = leaf_point(LeafIndex(leaf as u32));
+        field::powers(x, powers);
+        read_record(at, size, a, reply, values);
+        for k in 0..challenges.len() {
+            if !batching_agrees(k, mu, challenges, batching, powers, scales, values) {
                 ok = false;
                 break 'walk;
             }
@@ -231,41 +231,52 @@ fn batching_walk(
     ok
 }
 
-// Room for the points of 64 leaves.
-fn blank_leaf_points() -> [u32; 64] {
-    [0u32; 64]
-}
-
-// Room for 320 powers of each of them.
-fn blank_powers() -> [u32; 20480] {
-    [0u32; 20480]
-}
-
 // Room for 64 powers of each of 8 challenges or points.
 fn blank_scales() -> [u32; 512] {
     [0u32; 512]
 }
 
-// Does each batching answer agree with each opened leaf?
+// Room for 320 powers or weights, or an answer.
+fn blank_row() -> [u32; 320] {
+    [0u32; 320]
+}
+
+// Room for the values of a leaf.
+fn blank_leaf() -> [u32; 68] {
+    [0u32; 68]
+}
+
+// Does each batching answer agree with each opened leaf? The leaf records begin at `at`.
 fn batching_ok(
     width: usize,
     mu: usize,
     challenges: &[u32],
     batching: &[u32],
     indices: &[usize],
-    values: &[u32],
+    at: usize,
+    size: usize,
+    reply: &[u8],
 ) -> bool
-    requires { ⌜ (width ≤ 320) × (length (now indices) ≤ 64) × Below 65536 (now indices) × (width * length (now challenges) ≤ length (now batching)) × ((mu + length (now challenges)) * length (now indices) ≤ length (now values)) × (mu ≤ 64) × (length (now challenges) ≤ 8) ⌝ }
-    ensures { λ r. ⌜ r ≡ each (length (now (challenges .entry))) (batchedRow width mu (now (challenges .entry)) (now (batching .entry)) (now (indices .entry)) (now (values .entry))) ⌝ }
+    requires { ⌜ (width ≤ 320) × Below 65536 (now indices) × (width * length (now challenges) ≤ length (now batching)) × (mu ≤ 64) × (length (now challenges) ≤ 4) × (4 * (mu + length (now challenges)) ≤ size) × (at + size * length (now indices) ≤ length (now reply)) ⌝ }
+    ensures { λ r. ⌜ r ≡ each (length (now (challenges .entry))) (batchedRow width mu (now (challenges .entry)) (now (batching .entry)) (now (indices .entry)) (recordWordsAt at size (mu + length (now (challenges .entry))) (now (reply .entry)))) ⌝ }
 {
-    let l = indices.len();
-    let mut points = blank_leaf_points();
-    leaf_points(indices, &mut points);
-    let mut powers = blank_powers();
-    fill_powers(width, &points[0..l], &mut powers);
+    let n = mu + challenges.len();
     let mut scales = blank_scales();
     fill_powers(mu, challenges, &mut scales);
-    batching_walk(l, width, mu, challenges, batching, &powers, &scales, values)
+    let mut powers = blank_row();
+    let mut values = blank_leaf();
+    batching_walk(
+        mu,
+        challenges,
+        batching,
+        &scales,
+        indices,
+        at,
+        size,
+        reply,
+        &mut powers[0..width],
+        &mut values[0..n],
+    )
 }
 
 // ---- evaluation answers
@@ -291,11 +302,6 @@ fn weighed_ok(m: usize, weights: &[u32], scales: &[u32], answers: &[u32], rows: 
     true
 }
 
-// Room for 320 weights.
-fn blank_weights() -> [u32; 320] {
-    [0u32; 320]
-}
-
 // Do the polynomials through the first m answers, with values at first, first + 1, .., agree at x with the row values of one leaf?
 fn leaf_ok(
     m: usize,
@@ -309,65 +315,68 @@ fn leaf_ok(
     requires { ⌜ (first .0 + width ≤ q) × (x .0 < q) × (width ≤ 320) × (length (now rows) ≤ 65536) × (width * m ≤ length (now answers)) × (length (now rows) * m ≤ length (now scales)) ⌝ }
     ensures { λ r. ⌜ r ≡ each m (scaledAt (first .0) width (now (scales .entry)) (now (answers .entry)) (x .0) (now (rows .entry))) ⌝ }
 {
-    let mut weights = blank_weights();
+    let mut weights = blank_row();
     field::basis(first, x, &mut weights[0..width]);
     weighed_ok(m, &weights[0..width], scales, answers, rows)
 }
 
-// Do the first m answers agree with each opened leaf? Each leaf has n values, the mu row values first; leaves is the first value point.
+// Do the first m answers agree with each opened leaf? `leaves` is the first value point; the leaf records begin at `at`, and `rows` is room for one leaf's row values.
 fn evaluation_walk(
     m: usize,
     leaves: usize,
     width: usize,
-    mu: usize,
-    n: usize,
     scales: &[u32],
     answers: &[u32],
     indices: &[usize],
-    values: &[u32],
+    at: usize,
+    size: usize,
+    reply: &[u8],
+    rows: &mut [u32],
 ) -> bool
-    requires { ⌜ (leaves + width < q) × (width ≤ 320) × Below 65536 (now indices) × (mu ≤ n) × (width * m ≤ length (now answers)) × (n * length (now indices) ≤ length (now values)) × (mu ≤ 65536) × (mu * m ≤ length (now scales)) ⌝ }
-    ensures { λ r. ⌜ r ≡ each (length (now (indices .entry))) (scaledLeaf leaves width mu n m (now (scales .entry)) (now (answers .entry)) (now (indices .entry)) (now (values .entry))) ⌝ }
+    requires { ⌜ (leaves + width < q) × (width ≤ 320) × Below 65536 (now indices) × (width * m ≤ length (now answers)) × (length (now rows) ≤ 65536) × (length (now rows) * m ≤ length (now scales)) × (4 * length (now rows) ≤ size) × (at + size * length (now indices) ≤ length (now reply)) ⌝ }
+    ensures { λ r. ⌜ r ≡ each (length (now (indices .entry))) (scaledLeaf leaves width m (now (scales .entry)) (now (answers .entry)) (now (indices .entry)) (recordWordsAt at size (length (now (rows .entry))) (now (reply .entry)))) ⌝ }
 {
     let first = Element(leaves as u32);
     for a in 0..indices.len() {
-        let i = indices[a];
-        let x = leaf_point(LeafIndex(i as u32));
-        let from = n * a;
-        let to = from + mu;
-        if !leaf_ok(m, first, x, width, scales, answers, &values[from..to]) {
+        let opened = indices[a];
+        let x = leaf_point(LeafIndex(opened as u32));
+        read_record(at, size, a, reply, rows);
+        if !leaf_ok(m, first, x, width, scales, answers, rows) {
             return false;
         }
     }
     true
 }
 
-// Does each answer agree with each opened leaf?
+// Does each answer agree with each opened leaf? The leaf records begin at `at`.
 fn evaluation_ok(
     leaves: usize,
     width: usize,
     mu: usize,
-    n: usize,
     points: &[u32],
     answers: &[u32],
     indices: &[usize],
-    values: &[u32],
+    at: usize,
+    size: usize,
+    reply: &[u8],
 ) -> bool
-    requires { ⌜ (leaves + width < q) × (width ≤ 320) × Below 65536 (now indices) × (mu ≤ n) × (width * length (now points) ≤ length (now answers)) × (n * length (now indices) ≤ length (now values)) × (mu ≤ 64) × (length (now points) ≤ 8) ⌝ }
-    ensures { λ r. ⌜ r ≡ each (length (now (indices .entry))) (evaluatedLeaf leaves width mu n (now (points .entry)) (now (answers .entry)) (now (indices .entry)) (now (values .entry))) ⌝ }
+    requires { ⌜ (leaves + width < q) × (width ≤ 320) × Below 65536 (now indices) × (width * length (now points) ≤ length (now answers)) × (mu ≤ 64) × (length (now points) ≤ 8) × (4 * mu ≤ size) × (at + size * length (now indices) ≤ length (now reply)) ⌝ }
+    ensures { λ r. ⌜ r ≡ each (length (now (indices .entry))) (evaluatedLeaf leaves width (now (points .entry)) (now (answers .entry)) (now (indices .entry)) (recordWordsAt at size mu (now (reply .entry)))) ⌝ }
 {
     let mut scales = blank_scales();
     fill_powers(mu, points, &mut scales);
+    let mut rows = blank_leaf();
     evaluation_walk(
         points.len(),
         leaves,
         width,
-        mu,
-        n,
         &scales,
         answers,
         indices,
-        values,
+        at,
+        size,
+        reply,
+        &mut rows[0..mu],
     )
 }
 
@@ -386,26 +395,27 @@ fn point_values(nu: usize, base: Element, answer: &[u32], out: &mut [u32])
     }
 }
 
-// The values of the polynomials, point by point.
+// The values of the polynomials, point by point; the answers begin at byte `at` of the reply. `answer` is room for one.
 fn all_values(
     mu: usize,
     nu: usize,
     w: usize,
-    width: usize,
+    at: usize,
     points: &[u32],
-    answers: &[u32],
+    reply: &[u8],
+    answer: &mut [u32],
     values: &mut [u32],
 )
-    requires { ⌜ (nu * w ≤ width) × (length (now values) ≡ w * length (now points)) × (width * length (now points) ≤ length (now answers)) ⌝ }
-    ensures { λ _. ⌜ now (values .exit) ≡ rowsOf (valuesAt mu nu w width (now (points .entry)) (now (answers .entry))) (length (now (points .entry))) ⌝ }
+    requires { ⌜ (nu * w ≤ length (now answer)) × (length (now values) ≡ w * length (now points)) × (at + 4 * length (now answer) * length (now points) ≤ length (now reply)) ⌝ }
+    ensures { λ _. ⌜ now (values .exit) ≡ rowsOf (valuesAt mu nu w (length (now (answer .entry))) (now (points .entry)) (words (length (now (answer .entry)) * length (now (points .entry))) (drop at (now (reply .entry))))) (length (now (points .entry))) ⌝ }
 {
+    let size = 4 * answer.len();
     for p in 0..points.len() {
-        let from = width * p;
-        let to = from + width;
         let first = w * p;
         let last = first + w;
         let base = field::power(Element(points[p]), mu);
-        point_values(nu, base, &answers[from..to], &mut values[first..last]);
+        commitment::read_words(reply, at + size * p, answer.len(), answer);
+        point_values(nu, base, answer, &mut values[first..last]);
     }
 }
 
@@ -425,18 +435,17 @@ fn fill_values(question: &[u8], s: Shape, m: usize, reply: &[u8], values: &mut [
     ensures { λ _. ⌜ now (values .exit) ≡ checkValues (questionAt (sizesIn s) m (now (question .entry))) (readReply (questionAt (sizesIn s) m (now (question .entry))) (now (reply .entry))) ⌝ }
 {
     let width = width_of(s);
-    let n = width * m;
     let mut points = blank_points();
     commitment::read_words(question, 46 + 4 * s.eta as usize, m, &mut points);
-    let mut answers = blank_answers();
-    commitment::read_words(reply, answers_at(s), n, &mut answers);
+    let mut answer = blank_row();
     all_values(
         s.mu as usize,
         s.nu as usize,
         s.w as usize,
-        width,
+        answers_at(s),
         &points[0..m],
-        &answers[0..n],
+        reply,
+        &mut answer[0..width],
         values,
     );
 }
@@ -453,27 +462,27 @@ fn words_verdict(
     reply: &[u8],
     batching: &[u32],
     answers: &[u32],
-    values: &[u32],
 ) -> u32
-    requires { ⌜ Posed (sizesIn s) (now challenges) (now points) (now indices) × Read (posed (sizesIn s) (now root) (now challenges) (now points) (now indices)) (now reply) (now batching) (now answers) (now values) ⌝ }
+    requires { ⌜ Posed (sizesIn s) (now challenges) (now points) (now indices) × Read (posed (sizesIn s) (now root) (now challenges) (now points) (now indices)) (now reply) (now batching) (now answers) ⌝ }
     ensures { λ r. ⌜ r ≡ verdictOf (laterTests (posed (sizesIn s) (now (root .entry)) (now (challenges .entry)) (now (points .entry)) (now (indices .entry))) (now (reply .entry))) ⌝ }
 {
-    if !elements_read(batching, answers, values) {
+    let at = records_at(s, points.len());
+    let size = record_length(s);
+    let n = record_values(s);
+    if !elements_read(batching, answers, at, size, n, indices.len(), reply) {
         return 3;
     }
-    let at = records_at(s, points.len());
-    let found = reply_root(s.h as usize, at, record_length(s), indices, reply);
+    let found = reply_root(s.h as usize, at, size, indices, reply);
     if !commitment::same_bytes(&found, root) {
         return 8;
     }
     let width = width_of(s);
     let mu = s.mu as usize;
-    if !batching_ok(width, mu, challenges, batching, indices, values) {
+    if !batching_ok(width, mu, challenges, batching, indices, at, size, reply) {
         return 9;
     }
-    let n = record_values(s);
     let leaves = commitment::leaf_count(s.h);
-    if !evaluation_ok(leaves, width, mu, n, points, answers, indices, values) {
+    if !evaluation_ok(leaves, width, mu, points, answers, indices, at, size, reply) {
         return 10;
     }
     0
@@ -482,11 +491,6 @@ fn words_verdict(
 // Room for 4 batching answers, 320 words each.
 fn blank_batching() -> [u32; 1280] {
     [0u32; 1280]
-}
-
-// Room for the values of 64 leaves, 68 each.
-fn blank_leaf_values() -> [u32; 4352] {
-    [0u32; 4352]
 }
 
 // The reply's tests: 7, 3, 8, 9, 10.
@@ -512,17 +516,6 @@ fn reply_verdict(
     let a = width * m;
     let mut answers = blank_answers();
     commitment::read_words(reply, answers_at(s), a, &mut answers);
-    let n = record_values(s);
-    let v = n * indices.len();
-    let mut values = blank_leaf_values();
-    read_records(
-        records_at(s, m),
-        record_length(s),
-        n,
-        indices.len(),
-        reply,
-        &mut values,
-    );
     words_verdict(
         s,
         challenges,
@@ -532,7 +525,6 @@ fn reply_verdict(
         reply,
         &batching[0..b],
         &answers[0..a],
-        &values[0..v],
     )
 }
 

@@ -10,12 +10,6 @@ mul-answer c = search needs
 add-answer-end : tie.Need-add-answer-end
 add-answer-end c = search needs
 
-mul-row : tie.Need-mul-row
-mul-row c = search needs
-
-add-row-end : tie.Need-add-row-end
-add-row-end c = search needs
-
 mul-dot : tie.Need-mul-dot
 mul-dot c = search needs
 
@@ -27,6 +21,15 @@ part-dot-start c = search needs
 
 part-dot-end : tie.Need-part-dot-end
 part-dot-end c = search needs
+
+dot-requires : tie.Need-dot-requires
+dot-requires c κs = search needs
+
+mul-scale : tie.Need-mul-scale
+mul-scale c = search needs
+
+add-scale-end : tie.Need-add-scale-end
+add-scale-end c = search needs
 
 mul-dot-2 : tie.Need-mul-dot-2
 mul-dot-2 c = search needs
@@ -40,27 +43,6 @@ part-dot-start-2 c = search needs
 part-dot-end-2 : tie.Need-part-dot-end-2
 part-dot-end-2 c = search needs
 
-dot-requires : tie.Need-dot-requires
-dot-requires c κs = search needs
-
-mul-scale : tie.Need-mul-scale
-mul-scale c = search needs
-
-add-scale-end : tie.Need-add-scale-end
-add-scale-end c = search needs
-
-add-first : tie.Need-add-first
-add-first c = search needs
-
-mul-first : tie.Need-mul-first
-mul-first c = search needs
-
-add-masks : tie.Need-add-masks
-add-masks c = search needs
-
-mul-dot-3 : tie.Need-mul-dot-3
-mul-dot-3 c = search needs
-
 sub-dot-3 : tie.Need-sub-dot-3
 sub-dot-3 c = search needs
 
@@ -70,44 +52,32 @@ part-dot-start-3 c = search needs
 part-dot-end-3 : tie.Need-part-dot-end-3
 part-dot-end-3 c = search needs
 
-mul-dot-4 : tie.Need-mul-dot-4
-mul-dot-4 c = search needs
-
-sub-dot-4 : tie.Need-sub-dot-4
-sub-dot-4 c = search needs
-
-part-dot-start-4 : tie.Need-part-dot-start-4
-part-dot-start-4 c = search needs
-
-part-dot-end-4 : tie.Need-part-dot-end-4
-part-dot-end-4 c = search needs
-
 dot-requires-2 : tie.Need-dot-requires-2
 dot-requires-2 c κs = search needs
 
-mul-t27 : tie.Need-mul-t27
-mul-t27 c = search needs
+mul-t16 : tie.Need-mul-t16
+mul-t16 c = search needs
 
-shared-slice-read-t39 : tie.Need-shared-slice-read-t39
-shared-slice-read-t39 c = search needs
+shared-slice-read-t29 : tie.Need-shared-slice-read-t29
+shared-slice-read-t29 c = search needs
 
-add-t24 : tie.Need-add-t24
-add-t24 c = search needs
+add-t25 : tie.Need-add-t25
+add-t25 c = search needs
 
-mul-t29 : tie.Need-mul-t29
-mul-t29 c = search needs
+mul-t18 : tie.Need-mul-t18
+mul-t18 c = search needs
 
-shared-slice-read-t39-2 : tie.Need-shared-slice-read-t39-2
-shared-slice-read-t39-2 c = search needs
+shared-slice-read-t29-2 : tie.Need-shared-slice-read-t29-2
+shared-slice-read-t29-2 c = search needs
 
 multiply-add-requires : tie.Need-multiply-add-requires
 multiply-add-requires c κs = search needs
 
 returns : tie.Need-returns
 returns c =
-    let s = c .before .before .before .before .before .before .before .before .before .before .before .before .before .before .before .before .args in
-    agrees (s .width) (s .mu) (s .challenges .now) (s .batching .now) (s .powers .now) (s .scales .now) (s .values .now) (s .k) (s .a)
-    (c .before .before .before .before .before .before .before .before .dot .result .0) (c .before .before .before .before .before .dot2 .result .0) (c .before .before .multiply-add .result .0) (search needs) (c .before .before .before .before .before .before .before .before .dot .ensures) (c .before .before .before .before .before .dot2 .ensures) (c .before .before .multiply-add .ensures)
+    let s = c .before .before .before .before .before .before .before .before .before .before .before .before .before .before .before .args in
+    agrees (s .mu) (s .challenges .now) (s .batching .now) (s .powers .now) (s .scales .now) (s .values .now) (s .k)
+    (c .before .before .before .before .before .before .before .before .dot .result .0) (c .before .before .before .before .before .dot2 .result .0) (c .before .before .multiply-add .result .0) (c .before .before .before .before .before .before .before .before .dot .ensures) (c .before .before .before .before .before .dot2 .ensures) (c .before .before .multiply-add .ensures)
 
 pub batching-agrees-spec : {M : Type 1} → statement M
 batching-agrees-spec =
@@ -115,35 +85,25 @@ batching-agrees-spec =
     (tie.spec
     mul-answer
     add-answer-end
-    mul-row
-    add-row-end
     mul-dot
     sub-dot
     part-dot-start
     part-dot-end
+    dot-requires
+    mul-scale
+    add-scale-end
     mul-dot-2
     sub-dot-2
     part-dot-start-2
     part-dot-end-2
-    dot-requires
-    mul-scale
-    add-scale-end
-    add-first
-    mul-first
-    add-masks
-    mul-dot-3
     sub-dot-3
     part-dot-start-3
     part-dot-end-3
-    mul-dot-4
-    sub-dot-4
-    part-dot-start-4
-    part-dot-end-4
     dot-requires-2
-    mul-t27
-    shared-slice-read-t39
-    add-t24
-    mul-t29
-    shared-slice-read-t39-2
+    mul-t16
+    shared-slice-read-t29
+    add-t25
+    mul-t18
+    shared-slice-read-t29-2
     multiply-add-requires
     returns)

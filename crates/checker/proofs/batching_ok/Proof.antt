@@ -1,112 +1,100 @@
 -- `checker::batching_ok` meets its contract.
-use mathlib.Core.Path.{_≡_, _∙_, ap, sym, subst}
-use mathlib.Core.List.{List, map}
-use Prim.Native.Nat.{ℕ, _-_, _*_, _≤_}
+use mathlib.Core.Path.{_≡_, _∙_, ap₂, sym, subst}
+use Prim.Native.Nat.{ℕ, _+_, _-_, _*_, _≤_}
 use native.Mathlib.Nat.{mul-le-mul}
-use lib.ListN.{length, take, drop, length-map}
-use Rattle.scheme.specs.Sizes.{leafPoint}
-use Rattle.checker.proofs.Rows.{read-front}
+use lib.ListN.{length, take, drop}
+use Rattle.lists.specs.Tests.{each}
+use Rattle.checker.specs.Words.{recordWordsAt, valuedLeaf}
+use Rattle.checker.proofs.Evaluation.{front-length}
 use Rattle.checker.proofs.Batching.{batched-is}
+use Rattle.checker.proofs.ReplyTests.{length-recordWordsAt}
 use borrow.Author.Needs.{needs}
 use native.Mathlib.Omega.{arith}
 use Rattle.checker.proofs.batching_ok.Statement.{statement}
 use Rattle.checker.proofs.batching_ok.Tie as tie
 
-blank-leaf-points-requires : tie.Need-blank-leaf-points-requires
-blank-leaf-points-requires c κs = search needs
+add-n : tie.Need-add-n
+add-n c = search needs
 
-slice-aggregate-leaf-points : tie.Need-slice-aggregate-leaf-points
-slice-aggregate-leaf-points c = search needs
-
-leaf-points-requires : tie.Need-leaf-points-requires
-leaf-points-requires c κs = search needs
-
-blank-powers-requires : tie.Need-blank-powers-requires
-blank-powers-requires c κs = search needs
-
-sub-fill-powers : tie.Need-sub-fill-powers
-sub-fill-powers c = search needs
-
-part-fill-powers-start : tie.Need-part-fill-powers-start
-part-fill-powers-start c = search needs
-
-part-fill-powers-end : tie.Need-part-fill-powers-end
-part-fill-powers-end c = search needs
+blank-scales-requires : tie.Need-blank-scales-requires
+blank-scales-requires c κs = search needs
 
 slice-aggregate-fill-powers : tie.Need-slice-aggregate-fill-powers
 slice-aggregate-fill-powers c = search needs
 
 fill-powers-requires : tie.Need-fill-powers-requires
 fill-powers-requires c κs =
-    let s = c .before .before .before .before .before .before .before .before .before .before .before .before .args in
-    let l : ℕ = length (s .indices .now) in
-    let x : List ℕ = take (l - 0) (drop 0 (c .before .before .before .before .before .leaf-points .last .1 .0)) in
-    let e : x ≡ map leafPoint (s .indices .now) = read-front l (map leafPoint (s .indices .now)) (c .before .before .before .before .before .before .before .blank-leaf-points .result) (c .before .before .before .before .before .leaf-points .last .1 .0) (length-map (s .indices .now) leafPoint) (c .before .before .before .before .before .leaf-points .ensures) in
-    let n : length x ≡ l = ap length e ∙ length-map (s .indices .now) leafPoint in
-    let h : s .width * l ≤ 320 * 64 = mul-le-mul {n₂ = 320} {m₂ = 64} (omega arith) (omega arith) in
-    let b : length (c .before .before .before .blank-powers .result) ≡ 20480 = search needs in
-    subst (λ (i : ℕ). s .width * i ≤ length (c .before .before .before .blank-powers .result)) (sym n) (omega arith)
-
-blank-scales-requires : tie.Need-blank-scales-requires
-blank-scales-requires c κs = search needs
-
-slice-aggregate-fill-powers-2 : tie.Need-slice-aggregate-fill-powers-2
-slice-aggregate-fill-powers-2 c = search needs
-
-fill-powers-requires-2 : tie.Need-fill-powers-requires-2
-fill-powers-requires-2 c κs =
-    let s = c .before .before .before .before .before .before .before .before .before .before .before .before .before .before .before .before .args in
+    let s = c .before .before .before .before .before .before .args in
     let b : length (c .before .blank-scales .result) ≡ 512 = search needs in
-    let k : s .mu * length (s .challenges .now) ≤ 64 * 8 = mul-le-mul {n₂ = 64} {m₂ = 8} (omega arith) (omega arith) in
+    let k : s .mu * length (s .challenges .now) ≤ 64 * 4 = mul-le-mul {n₂ = 64} {m₂ = 4} (omega arith) (omega arith) in
     search needs
+
+blank-row-requires : tie.Need-blank-row-requires
+blank-row-requires c κs = search needs
+
+blank-leaf-requires : tie.Need-blank-leaf-requires
+blank-leaf-requires c κs = search needs
 
 slice-aggregate-batching-walk : tie.Need-slice-aggregate-batching-walk
 slice-aggregate-batching-walk c = search needs
 
-slice-aggregate-batching-walk-2 : tie.Need-slice-aggregate-batching-walk-2
-slice-aggregate-batching-walk-2 c = search needs
+sub-batching-walk : tie.Need-sub-batching-walk
+sub-batching-walk c = search needs
+
+part-powers-start : tie.Need-part-powers-start
+part-powers-start c = search needs
+
+part-powers-end : tie.Need-part-powers-end
+part-powers-end c = search needs
+
+sub-batching-walk-2 : tie.Need-sub-batching-walk-2
+sub-batching-walk-2 c = search needs
+
+part-values-start : tie.Need-part-values-start
+part-values-start c = search needs
+
+part-values-end : tie.Need-part-values-end
+part-values-end c = search needs
 
 batching-walk-requires : tie.Need-batching-walk-requires
 batching-walk-requires c κs =
-    let s = c .before .before .before .before .before .before .before .before .before .before .before .before .before .before .before .before .before .before .before .before .args in
-    let l : ℕ = length (s .indices .now) in
-    let h : s .width * l ≤ 320 * 64 = mul-le-mul {n₂ = 320} {m₂ = 64} (omega arith) (omega arith) in
-    let k : s .mu * length (s .challenges .now) ≤ 64 * 8 = mul-le-mul {n₂ = 64} {m₂ = 8} (omega arith) (omega arith) in
-    let b : length (c .before .before .before .before .before .before .before .before .before .before .before .blank-powers .result) ≡ 20480 = search needs in
-    let d : length (c .before .before .before .before .before .blank-scales .result) ≡ 512 = search needs in
-    let i : length (c .before .before .before .before .before .before .before .fill-powers .last .1 .1 .0) ≡ length (c .before .before .before .before .before .before .before .before .before .before .before .blank-powers .result) = c .before .before .before .before .before .before .before .fill-powers .kept .1 .1 .0 in
-    let j : length (c .before .before .before .fill-powers2 .last .1 .1 .0) ≡ length (c .before .before .before .before .before .blank-scales .result) = c .before .before .before .fill-powers2 .kept .1 .1 .0 in
-    (omega arith, omega arith, c .before .before .before .before .before .before .before .before .before .before .before .before .before .before .before .before .before .before .before .before .pre .3, omega arith, omega arith, c .before .before .before .before .before .before .before .before .before .before .before .before .before .before .before .before .before .before .before .before .pre .4)
+    let s = c .before .before .before .before .before .before .before .before .before .before .before .before .before .args in
+    let n : ℕ = s .mu + length (s .challenges .now) in
+    let k : s .mu * length (s .challenges .now) ≤ 64 * 4 = mul-le-mul {n₂ = 64} {m₂ = 4} (omega arith) (omega arith) in
+    let b : length (c .before .before .before .before .blank-row .result) ≡ 320 = search needs in
+    let a : length (c .before .before .before .blank-leaf .result) ≡ 68 = search needs in
+    let d : length (c .before .before .before .before .before .before .before .before .blank-scales .result) ≡ 512 = search needs in
+    let j : length (c .before .before .before .before .before .before .fill-powers .last .1 .1 .0) ≡ length (c .before .before .before .before .before .before .before .before .blank-scales .result) = c .before .before .before .before .before .before .fill-powers .kept .1 .1 .0 in
+    let e : s .width ≡ length (take (s .width - 0) (drop 0 (c .before .before .before .before .blank-row .result))) = sym (front-length (s .width) (c .before .before .before .before .blank-row .result) (omega arith)) in
+    let f : n ≡ length (take (n - 0) (drop 0 (c .before .before .before .blank-leaf .result))) = sym (front-length n (c .before .before .before .blank-leaf .result) (omega arith)) in
+    (omega arith, omega arith, c .before .before .before .before .before .before .before .before .before .before .before .before .before .pre .1, subst (λ (i : ℕ). i * length (s .challenges .now) ≤ length (s .batching .now)) e (c .before .before .before .before .before .before .before .before .before .before .before .before .before .pre .2), omega arith, omega arith, omega arith, c .before .before .before .before .before .before .before .before .before .before .before .before .before .pre .6)
 
 returns : tie.Need-returns
 returns c =
-    let s = c .before .before .before .before .before .before .before .before .before .before .before .before .before .before .before .before .before .before .before .before .before .args in
-    let l : ℕ = length (s .indices .now) in
-    let x : List ℕ = take (l - 0) (drop 0 (c .before .before .before .before .before .before .before .before .before .before .before .before .before .before .leaf-points .last .1 .0)) in
-    let e : x ≡ map leafPoint (s .indices .now) = read-front l (map leafPoint (s .indices .now)) (c .before .before .before .before .before .before .before .before .before .before .before .before .before .before .before .before .blank-leaf-points .result) (c .before .before .before .before .before .before .before .before .before .before .before .before .before .before .leaf-points .last .1 .0) (length-map (s .indices .now) leafPoint) (c .before .before .before .before .before .before .before .before .before .before .before .before .before .before .leaf-points .ensures) in
-    let n : length x ≡ l = ap length e ∙ length-map (s .indices .now) leafPoint in
-    c .batching-walk .ensures
-    ∙ batched-is (s .width) (s .mu) (s .challenges .now) (s .batching .now) (s .indices .now) (s .values .now) x
-    (drop (s .width * length x) (c .before .before .before .before .before .before .before .before .before .before .before .before .blank-powers .result)) (drop (s .mu * length (s .challenges .now)) (c .before .before .before .before .before .before .blank-scales .result)) e (c .before .before .before .before .before .before .before .before .before .before .before .before .before .before .before .before .before .before .before .before .before .pre .3) (c .before .before .before .before .before .before .before .before .before .before .before .before .before .before .before .before .before .before .before .before .before .pre .4)
-    (c .before .before .before .before .before .before .before .before .fill-powers .last .1 .1 .0) (c .before .before .before .before .fill-powers2 .last .1 .1 .0) (c .before .before .before .before .before .before .before .before .fill-powers .ensures) (c .before .before .before .before .fill-powers2 .ensures)
+    let s = c .before .before .before .before .before .before .before .before .before .before .before .before .before .before .before .before .args in
+    let n : ℕ = s .mu + length (s .challenges .now) in
+    let b : length (c .before .before .before .before .before .before .before .blank-row .result) ≡ 320 = search needs in
+    let a : length (c .before .before .before .before .before .before .blank-leaf .result) ≡ 68 = search needs in
+    c .before .before .batching-walk .ensures
+    ∙ ap₂ (λ (i j : ℕ). each (length (s .indices .now)) (valuedLeaf i (s .mu) (s .challenges .now) (s .batching .now) (c .before .before .before .before .before .before .before .before .before .fill-powers .last .1 .1 .0) (s .indices .now) (recordWordsAt (s .at) (s .size) j (s .reply .now)))) (front-length (s .width) (c .before .before .before .before .before .before .before .blank-row .result) (omega arith)) (front-length n (c .before .before .before .before .before .before .blank-leaf .result) (omega arith))
+    ∙ batched-is (s .width) (s .mu) (s .challenges .now) (s .batching .now) (s .indices .now) (drop (s .mu * length (s .challenges .now)) (c .before .before .before .before .before .before .before .before .before .before .before .blank-scales .result)) (recordWordsAt (s .at) (s .size) n (s .reply .now)) (length-recordWordsAt (s .at) (s .size) n (s .reply .now)) (c .before .before .before .before .before .before .before .before .before .fill-powers .last .1 .1 .0) (c .before .before .before .before .before .before .before .before .before .fill-powers .ensures)
 
 pub batching-ok-spec : {M : Type 1} → statement M
 batching-ok-spec =
     tie.close
     (tie.spec
-    blank-leaf-points-requires
-    slice-aggregate-leaf-points
-    leaf-points-requires
-    blank-powers-requires
-    sub-fill-powers
-    part-fill-powers-start
-    part-fill-powers-end
+    add-n
+    blank-scales-requires
     slice-aggregate-fill-powers
     fill-powers-requires
-    blank-scales-requires
-    slice-aggregate-fill-powers-2
-    fill-powers-requires-2
+    blank-row-requires
+    blank-leaf-requires
     slice-aggregate-batching-walk
-    slice-aggregate-batching-walk-2
+    sub-batching-walk
+    part-powers-start
+    part-powers-end
+    sub-batching-walk-2
+    part-values-start
+    part-values-end
     batching-walk-requires
     returns)

@@ -1,101 +1,165 @@
 -- `checker::batching_walk` meets its contract: the pairs walked so far agree, and one that does not ends both walks.
-use mathlib.Core.Path.{_≡_, refl, sym, _∙_}
+use mathlib.Core.Path.{_≡_, refl, sym, _∙_, ap, ap₂, subst}
 use mathlib.Core.Bool.{true}
-use Prim.Native.Nat.{ℕ, _+_, _-_, _≤_, _<_}
+use mathlib.Core.List.{List}
+use Prim.Native.Nat.{ℕ, _-_, _*_, _≤_, _<_}
 use lib.ListN.{length}
 use borrow.Author.Tests.{not-true, not-false}
+use Rattle.lists.specs.All.{all-at}
 use Rattle.lists.specs.Tests.{each, each-next}
-use Rattle.checker.specs.Words.{dottedAt, dottedRow}
+use Rattle.checker.specs.Words.{recordWordsAt, valuedAt, valuedLeaf}
 use Rattle.checker.proofs.Rows.{row-fits}
-use Rattle.checker.proofs.Batching.{row-none, all-none, row-done, dotted-fails}
+use Rattle.checker.proofs.Batching.{leaf-none, all-none, leaf-done, dotted-is, valued-fails}
 use borrow.Author.Needs.{needs}
 use native.Mathlib.Omega.{arith}
 use Rattle.checker.proofs.batching_walk.Statement.{statement}
 use Rattle.checker.proofs.batching_walk.Tie as tie
 
 abbrev Inv-loop : tie.InvT-loop
-Inv-loop l width mu challenges batching powers scales values ok₀ k a₀ k-end ok a =
-    (k < length challenges) × (k-end ≡ length challenges) × (a ≤ l) × (ok ≡ true) × (each k (dottedRow width mu challenges batching powers scales values l) ≡ true) × (each a (dottedAt width mu challenges batching powers scales values k) ≡ true)
+Inv-loop mu challenges batching scales indices at size reply powers values ok₀ a leaf k₀ a-end k-end ok k =
+    (k ≤ length challenges) × (k-end ≡ length challenges) × (ok ≡ true) × (each k (valuedAt (length powers) mu challenges batching scales indices (recordWordsAt at size (length values) reply) a) ≡ true)
 
 abbrev μ-loop : tie.MeasureT-loop
-μ-loop l width mu challenges batching powers scales values ok₀ k a₀ k-end ok a = l - a
+μ-loop mu challenges batching scales indices at size reply powers values ok₀ a leaf k₀ a-end k-end ok k = k-end - k
 
 abbrev Inv-walk : tie.InvT-walk
-Inv-walk l width mu challenges batching powers scales values ok₀ k₀ k-end ok k = (k ≤ length challenges) × (k-end ≡ length challenges) × (ok ≡ true) × (each k (dottedRow width mu challenges batching powers scales values l) ≡ true)
+Inv-walk mu challenges batching scales indices at size reply powers₀ values₀ ok₀ a₀ a-end powers values ok a =
+    (a ≤ length indices) × (a-end ≡ length indices) × (length powers ≡ length powers₀) × (length values ≡ length values₀) × (ok ≡ true) × (each a (valuedLeaf (length powers₀) mu challenges batching scales indices (recordWordsAt at size (length values₀) reply)) ≡ true)
 
 abbrev μ-walk : tie.MeasureT-walk
-μ-walk l width mu challenges batching powers scales values ok₀ k₀ k-end ok k = k-end - k
+μ-walk mu challenges batching scales indices at size reply powers₀ values₀ ok₀ a₀ a-end powers values ok a = a-end - a
 
 walk-holds : tie.Need-walk-holds Inv-loop μ-loop Inv-walk μ-walk
 walk-holds c =
-    let s = c .before .before .before .before .before .args in
-    (search needs, search needs, refl, all-none (s .width) (s .mu) (s .challenges .now) (s .batching .now) (s .powers .now) (s .scales .now) (s .values .now) (s .l))
+    let s = c .before .before .before .before .before .before .before .args in
+    (search needs, search needs, refl, refl, refl, all-none (length (s .powers .now)) (s .mu) (s .challenges .now) (s .batching .now) (s .scales .now) (s .indices .now) (recordWordsAt (s .at) (s .size) (length (s .values .now)) (s .reply .now)))
+
+mul-leaf : tie.Need-mul-leaf Inv-loop μ-loop Inv-walk μ-walk
+mul-leaf c = search needs
+
+shared-slice-read-leaf : tie.Need-shared-slice-read-leaf Inv-loop μ-loop Inv-walk μ-walk
+shared-slice-read-leaf c = search needs
+
+cast-t21 : tie.Need-cast-t21 Inv-loop μ-loop Inv-walk μ-walk
+cast-t21 c =
+    let h = all-at (λ (x : ℕ). x < 65536) 0 (c .before .before .before .before .before .before .before .before .before .before .args .indices .now) (c .before .before .before .before .before .before .before .before .before .before .pre .2) (c .before .before .walk .a) (omega arith) in search needs
+
+leaf-point-requires : tie.Need-leaf-point-requires Inv-loop μ-loop Inv-walk μ-walk
+leaf-point-requires c κs = search needs
+
+powers-requires : tie.Need-powers-requires Inv-loop μ-loop Inv-walk μ-walk
+powers-requires c κs = search needs
+
+read-record-requires : tie.Need-read-record-requires Inv-loop μ-loop Inv-walk μ-walk
+read-record-requires c κs =
+    let s = c .before .before .before .before .before .before .before .before .before .before .before .before .before .before .before .before .args in
+    let h = row-fits (s .size) (c .before .before .before .before .before .before .before .before .walk .a) (length (s .indices .now)) (omega arith) in
+    (omega arith, omega (arith, c .before .before .before .before .before .before .before .before .walk .inv .3))
 
 loop-holds : tie.Need-loop-holds Inv-loop μ-loop Inv-walk μ-walk
 loop-holds c =
-    let s = c .before .before .before .before .before .before .before .args in
-    let v = c .before .walk .inv in
-    (search needs, search needs, search needs, v .2, v .3, row-none (s .width) (s .mu) (s .challenges .now) (s .batching .now) (s .powers .now) (s .scales .now) (s .values .now) (c .before .walk .k))
+    let s = c .before .before .before .before .before .before .before .before .before .before .before .before .before .before .before .before .before .before .before .args in
+    let v = c .before .before .before .before .before .before .before .before .before .before .before .walk .inv in
+    (search needs, search needs, v .4, leaf-none (length (c .before .before .before .before .before .before .powers .last .1 .0)) (s .mu) (s .challenges .now) (s .batching .now) (s .scales .now) (s .indices .now) (recordWordsAt (s .at) (s .size) (length (c .before .before .read-record .last .1 .1 .1 .1 .0)) (s .reply .now)) (c .before .before .before .before .before .before .before .before .before .before .before .walk .a))
 
 batching-agrees-requires : tie.Need-batching-agrees-requires Inv-loop μ-loop Inv-walk μ-walk
 batching-agrees-requires c κs =
-    let s = c .before .before .before .before .before .before .before .before .before .args in
-    let n : ℕ = s .mu + length (s .challenges .now) in
-    let h = row-fits (s .width) (c .before .before .before .walk .k) (length (s .challenges .now)) (omega arith) in
-    let i = row-fits (s .width) (c .before .loop .a) (s .l) (omega arith) in
-    let j = row-fits n (c .before .loop .a) (s .l) (omega arith) in
-    let k = row-fits (s .mu) (c .before .before .before .walk .k) (length (s .challenges .now)) (omega arith) in
-    (omega arith, omega arith, omega arith, omega arith, omega arith, omega arith, omega arith)
+    let s = c .before .before .before .before .before .before .before .before .before .before .before .before .before .before .before .before .before .before .before .before .before .before .before .args in
+    let v = c .before .before .before .before .before .before .before .before .before .before .before .before .before .before .before .walk .inv in
+    let r : ℕ = length (c .before .before .before .before .before .before .before .before .before .before .powers .last .1 .0) in
+    let e : r ≡ length (s .powers .now) = c .before .before .before .before .before .before .before .before .before .before .powers .kept .1 .0 ∙ v .2 in
+    let g : length (c .before .before .before .before .before .before .read-record .last .1 .1 .1 .1 .0) ≡ length (s .values .now) = c .before .before .before .before .before .before .read-record .kept .1 .1 .1 .1 .0 ∙ v .3 in
+    let f : r * length (s .challenges .now) ≤ length (s .batching .now) = subst (λ (i : ℕ). i * length (s .challenges .now) ≤ length (s .batching .now)) (sym e) (c .before .before .before .before .before .before .before .before .before .before .before .before .before .before .before .before .before .before .before .before .before .before .before .pre .3) in
+    let h = row-fits r (c .before .before .before .loop .k) (length (s .challenges .now)) (omega arith) in
+    let k = row-fits (s .mu) (c .before .before .before .loop .k) (length (s .challenges .now)) (omega arith) in
+    (omega arith, omega arith, omega arith, omega arith, omega arith, omega arith)
 
-add-a : tie.Need-add-a Inv-loop μ-loop Inv-walk μ-walk
-add-a c = search needs
+add-k : tie.Need-add-k Inv-loop μ-loop Inv-walk μ-walk
+add-k c = search needs
 
 loop-less : tie.Need-loop-less Inv-loop μ-loop Inv-walk μ-walk
 loop-less c = search needs
 
 loop-again : tie.Need-loop-again Inv-loop μ-loop Inv-walk μ-walk
 loop-again c =
-    let s = c .before .before .before .before .before .before .before .before .before .before .before .args in
-    let v = c .before .before .before .loop .inv in
-    let p = c .before .batching-agrees in (
+    let s = c .before .before .before .before .before .before .before .before .before .before .before .before .before .before .before .before .before .before .before .before .before .before .before .before .before .args in
+    let v = c .before .before .before .before .before .loop .inv in
+    let p = c .before .batching-agrees in
+    let r : ℕ = length (c .before .before .before .before .before .before .before .before .before .before .before .before .powers .last .1 .0) in
+    let x : List ℕ = c .before .before .before .before .before .before .before .before .read-record .last .1 .1 .1 .1 .0 in
+    let values : ℕ → List ℕ = recordWordsAt (s .at) (s .size) (length x) (s .reply .now) in
+    let e : r ≡ length (s .powers .now) = c .before .before .before .before .before .before .before .before .before .before .before .before .powers .kept .1 .0 ∙ c .before .before .before .before .before .before .before .before .before .before .before .before .before .before .before .before .before .walk .inv .2 in
+    let g : x ≡ values (c .before .before .before .before .before .before .before .before .before .before .before .before .before .before .before .before .before .walk .a) = c .before .before .before .before .before .before .before .before .read-record .ensures ∙ ap (λ (n : ℕ). recordWordsAt (s .at) (s .size) n (s .reply .now) (c .before .before .before .before .before .before .before .before .before .before .before .before .before .before .before .before .before .walk .a)) (sym (c .before .before .before .before .before .before .before .before .read-record .kept .1 .1 .1 .1 .0)) in
+    let f : r * length (s .challenges .now) ≤ length (s .batching .now) = subst (λ (i : ℕ). i * length (s .challenges .now) ≤ length (s .batching .now)) (sym e) (c .before .before .before .before .before .before .before .before .before .before .before .before .before .before .before .before .before .before .before .before .before .before .before .before .before .pre .3) in
+    let h = row-fits r (c .before .before .before .before .before .loop .k) (length (s .challenges .now)) (omega arith) in (
       search needs,
       search needs,
-      search needs,
-      v .3,
-      v .4,
-      each-next (dottedAt (s .width) (s .mu) (s .challenges .now) (s .batching .now) (s .powers .now) (s .scales .now) (s .values .now) (c .before .before .before .before .before .walk .k)) (c .before .before .before .loop .a) (v .5) (sym (p .ensures) ∙ not-false (p .result) (c .if1 .left)),
+      v .2,
+      each-next (valuedAt r (s .mu) (s .challenges .now) (s .batching .now) (s .scales .now) (s .indices .now) values (c .before .before .before .before .before .before .before .before .before .before .before .before .before .before .before .before .before .walk .a)) (c .before .before .before .before .before .loop .k) (v .3)
+          (sym (dotted-is r (s .mu) (s .challenges .now) (s .batching .now) (s .scales .now) (s .indices .now) values (c .before .before .before .before .before .before .before .before .before .before .before .before .powers .last .1 .0) x (c .before .before .before .before .before .loop .k) (c .before .before .before .before .before .before .before .before .before .before .before .before .before .before .before .before .before .walk .a) (length (c .before .before .before .before .before .before .before .before .before .before .before .before .before .before .before .before .before .walk .powers)) (c .before .before .before .before .before .before .before .before .before .before .before .before .before .before .leaf-point .result .0) (omega arith) (sym (c .before .before .before .before .before .before .before .before .before .before .before .before .powers .kept .1 .0)) (c .before .before .before .before .before .before .before .before .before .before .before .before .before .before .leaf-point .ensures) (c .before .before .before .before .before .before .before .before .before .before .before .before .powers .ensures) g) ∙ sym (p .ensures) ∙ not-false (p .result) (c .if1 .left)),
     )
 
-add-k : tie.Need-add-k Inv-loop μ-loop Inv-walk μ-walk
-add-k c = search needs
+add-a : tie.Need-add-a Inv-loop μ-loop Inv-walk μ-walk
+add-a c = search needs
 
 walk-less : tie.Need-walk-less Inv-loop μ-loop Inv-walk μ-walk
 walk-less c = search needs
 
 walk-again : tie.Need-walk-again Inv-loop μ-loop Inv-walk μ-walk
 walk-again c =
-    let s = c .before .before .before .before .before .before .before .before .before .args in
-    let v = c .before .loop .inv in (
+    let s = c .before .before .before .before .before .before .before .before .before .before .before .before .before .before .before .before .before .before .before .before .before .args in
+    let v = c .before .before .before .before .before .before .before .before .before .before .before .before .before .walk .inv in
+    let u = c .before .loop .inv in
+    let r : ℕ = length (c .before .before .before .before .before .before .before .before .powers .last .1 .0) in
+    let n : ℕ = length (c .before .before .before .before .read-record .last .1 .1 .1 .1 .0) in
+    let e : r ≡ length (s .powers .now) = c .before .before .before .before .before .before .before .before .powers .kept .1 .0 ∙ v .2 in
+    let f : n ≡ length (s .values .now) = c .before .before .before .before .read-record .kept .1 .1 .1 .1 .0 ∙ v .3 in (
       search needs,
       search needs,
-      v .3,
-      each-next (dottedRow (s .width) (s .mu) (s .challenges .now) (s .batching .now) (s .powers .now) (s .scales .now) (s .values .now) (s .l)) (c .before .before .before .walk .k) (v .4)
-          (row-done (s .width) (s .mu) (s .challenges .now) (s .batching .now) (s .powers .now) (s .scales .now) (s .values .now) (s .l) (c .before .before .before .walk .k) (c .before .loop .a) (omega arith) (v .5)),
+      e,
+      f,
+      u .2,
+      each-next (valuedLeaf (length (s .powers .now)) (s .mu) (s .challenges .now) (s .batching .now) (s .scales .now) (s .indices .now) (recordWordsAt (s .at) (s .size) (length (s .values .now)) (s .reply .now))) (c .before .before .before .before .before .before .before .before .before .before .before .before .before .walk .a) (v .5)
+          (ap₂ (λ (i j : ℕ). valuedLeaf i (s .mu) (s .challenges .now) (s .batching .now) (s .scales .now) (s .indices .now) (recordWordsAt (s .at) (s .size) j (s .reply .now)) (c .before .before .before .before .before .before .before .before .before .before .before .before .before .walk .a)) (sym e) (sym f)
+          ∙ leaf-done r (s .mu) (s .challenges .now) (s .batching .now) (s .scales .now) (s .indices .now) (recordWordsAt (s .at) (s .size) n (s .reply .now)) (c .before .before .before .before .before .before .before .before .before .before .before .before .before .walk .a) (c .before .loop .k) (omega arith) (u .3)),
     )
+
+same-length : tie.Need-same-length Inv-loop μ-loop Inv-walk μ-walk
+same-length c = c .before .walk .inv .2
+
+same-length-2 : tie.Need-same-length-2 Inv-loop μ-loop Inv-walk μ-walk
+same-length-2 c = c .before .walk .inv .3
 
 returns : tie.Need-returns Inv-loop μ-loop Inv-walk μ-walk
 returns c =
-    let s = c .before .before .before .before .before .before .before .args in
+    let s = c .before .before .before .before .before .before .before .before .before .args in
     let v = c .before .walk .inv in
-    let h : c .before .walk .k ≡ length (s .challenges .now) = omega arith in
-    v .2 ∙ sym (rw h at (v .3))
+    let h : c .before .walk .a ≡ length (s .indices .now) = omega arith in
+    v .4 ∙ sym (rw h at (v .5))
+
+same-length-3 : tie.Need-same-length-3 Inv-loop μ-loop Inv-walk μ-walk
+same-length-3 c =
+    c .before .before .before .before .before .before .before .before .before .before .before .before .powers .kept .1 .0 ∙ c .before .before .before .before .before .before .before .before .before .before .before .before .before .before .before .before .before .walk .inv .2
+
+same-length-4 : tie.Need-same-length-4 Inv-loop μ-loop Inv-walk μ-walk
+same-length-4 c =
+    c .before .before .before .before .before .before .before .before .read-record .kept .1 .1 .1 .1 .0 ∙ c .before .before .before .before .before .before .before .before .before .before .before .before .before .before .before .before .before .walk .inv .3
 
 returns-2 : tie.Need-returns-2 Inv-loop μ-loop Inv-walk μ-walk
 returns-2 c =
-    let s = c .before .before .before .before .before .before .before .before .before .before .before .args in
+    let s = c .before .before .before .before .before .before .before .before .before .before .before .before .before .before .before .before .before .before .before .before .before .before .before .before .before .args in
     let p = c .before .batching-agrees in
-    sym (dotted-fails (s .width) (s .mu) (s .challenges .now) (s .batching .now) (s .powers .now) (s .scales .now) (s .values .now) (s .l) (length (s .challenges .now)) (c .before .before .before .before .before .walk .k) (c .before .before .before .loop .a)
-    (omega arith) (omega arith) (sym (p .ensures) ∙ not-true (p .result) (c .if1 .taken)))
+    let r : ℕ = length (c .before .before .before .before .before .before .before .before .before .before .before .before .powers .last .1 .0) in
+    let x : List ℕ = c .before .before .before .before .before .before .before .before .read-record .last .1 .1 .1 .1 .0 in
+    let values : ℕ → List ℕ = recordWordsAt (s .at) (s .size) (length x) (s .reply .now) in
+    let e : r ≡ length (s .powers .now) = c .before .before .before .before .before .before .before .before .before .before .before .before .powers .kept .1 .0 ∙ c .before .before .before .before .before .before .before .before .before .before .before .before .before .before .before .before .before .walk .inv .2 in
+    let d : length x ≡ length (s .values .now) = c .before .before .before .before .before .before .before .before .read-record .kept .1 .1 .1 .1 .0 ∙ c .before .before .before .before .before .before .before .before .before .before .before .before .before .before .before .before .before .walk .inv .3 in
+    let g : x ≡ values (c .before .before .before .before .before .before .before .before .before .before .before .before .before .before .before .before .before .walk .a) = c .before .before .before .before .before .before .before .before .read-record .ensures ∙ ap (λ (n : ℕ). recordWordsAt (s .at) (s .size) n (s .reply .now) (c .before .before .before .before .before .before .before .before .before .before .before .before .before .before .before .before .before .walk .a)) (sym (c .before .before .before .before .before .before .before .before .read-record .kept .1 .1 .1 .1 .0)) in
+    let f : r * length (s .challenges .now) ≤ length (s .batching .now) = subst (λ (i : ℕ). i * length (s .challenges .now) ≤ length (s .batching .now)) (sym e) (c .before .before .before .before .before .before .before .before .before .before .before .before .before .before .before .before .before .before .before .before .before .before .before .before .before .pre .3) in
+    let h = row-fits r (c .before .before .before .before .before .loop .k) (length (s .challenges .now)) (omega arith) in
+    sym (ap₂ (λ (i j : ℕ). each (length (s .indices .now)) (valuedLeaf i (s .mu) (s .challenges .now) (s .batching .now) (s .scales .now) (s .indices .now) (recordWordsAt (s .at) (s .size) j (s .reply .now)))) (sym e) (sym d)
+    ∙ valued-fails r (s .mu) (s .challenges .now) (s .batching .now) (s .scales .now) (s .indices .now) values (length (s .indices .now)) (c .before .before .before .before .before .before .before .before .before .before .before .before .before .before .before .before .before .walk .a) (c .before .before .before .before .before .loop .k) (omega arith) (omega arith)
+    (sym (dotted-is r (s .mu) (s .challenges .now) (s .batching .now) (s .scales .now) (s .indices .now) values (c .before .before .before .before .before .before .before .before .before .before .before .before .powers .last .1 .0) x (c .before .before .before .before .before .loop .k) (c .before .before .before .before .before .before .before .before .before .before .before .before .before .before .before .before .before .walk .a) (length (c .before .before .before .before .before .before .before .before .before .before .before .before .before .before .before .before .before .walk .powers)) (c .before .before .before .before .before .before .before .before .before .before .before .before .before .before .leaf-point .result .0) (omega arith) (sym (c .before .before .before .before .before .before .before .before .before .before .before .before .powers .kept .1 .0)) (c .before .before .before .before .before .before .before .before .before .before .before .before .before .before .leaf-point .ensures) (c .before .before .before .before .before .before .before .before .before .before .before .before .powers .ensures) g) ∙ sym (p .ensures) ∙ not-true (p .result) (c .if1 .taken)))
 
 pub batching-walk-spec : {M : Type 1} → statement M
 batching-walk-spec =
@@ -106,13 +170,23 @@ batching-walk-spec =
     Inv-walk
     μ-walk
     walk-holds
+    mul-leaf
+    shared-slice-read-leaf
+    cast-t21
+    leaf-point-requires
+    powers-requires
+    read-record-requires
     loop-holds
     batching-agrees-requires
-    add-a
+    add-k
     loop-less
     loop-again
-    add-k
+    add-a
     walk-less
     walk-again
+    same-length
+    same-length-2
     returns
+    same-length-3
+    same-length-4
     returns-2)

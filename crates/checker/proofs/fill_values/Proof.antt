@@ -1,13 +1,14 @@
 -- `checker::fill_values` meets its contract.
-use mathlib.Core.Path.{_≡_, sym, _∙_, ap, subst}
+use mathlib.Core.Path.{_≡_, sym, _∙_, ap, ap₂}
 use mathlib.Core.List.{List}
-use Prim.Native.Nat.{ℕ, _+_, _-_, _*_, _≤_}
-use native.Mathlib.Nat.{mul-comm, le-of-eq}
+use Prim.Native.Nat.{ℕ, _+_, _-_, _*_}
+use native.Mathlib.Nat.{mul-comm}
 use lib.ListN.{length, take, drop}
 use Rattle.lists.specs.Bytes.{words, length-words}
 use Rattle.commitment.specs.Shape.{sizesIn}
 use Rattle.checker.proofs.Rows.{read-front}
-use Rattle.checker.proofs.Bounds.{evaluation-high, answers-fit}
+use Rattle.checker.proofs.Bounds.{width-high, answers-fit}
+use Rattle.checker.proofs.Evaluation.{front-length}
 use Rattle.checker.proofs.ReplyTests.{values-done}
 use borrow.Author.Needs.{needs}
 use native.Mathlib.Omega.{arith}
@@ -16,12 +17,6 @@ use Rattle.checker.proofs.fill_values.Tie as tie
 
 width-of-requires : tie.Need-width-of-requires
 width-of-requires c κs = search needs
-
-mul-n : tie.Need-mul-n
-mul-n c =
-    let s = c .before .before .before .before .args in
-    let h : c .width-of .result * s .m ≤ 2560 = subst (λ (k : ℕ). k * s .m ≤ 2560) (sym (c .width-of .ensures)) (evaluation-high (sizesIn (s .s)) (c .before .before .before .before .pre .0) (s .m) (c .before .before .before .before .pre .1)) in
-    search needs
 
 blank-points-requires : tie.Need-blank-points-requires
 blank-points-requires c κs = search needs
@@ -41,20 +36,8 @@ slice-aggregate-read-words c = search needs
 read-words-requires : tie.Need-read-words-requires
 read-words-requires c κs = search needs
 
-blank-answers-requires : tie.Need-blank-answers-requires
-blank-answers-requires c κs = search needs
-
-answers-at-requires : tie.Need-answers-at-requires
-answers-at-requires c κs = search needs
-
-slice-aggregate-read-words-2 : tie.Need-slice-aggregate-read-words-2
-slice-aggregate-read-words-2 c = search needs
-
-read-words-requires-2 : tie.Need-read-words-requires-2
-read-words-requires-2 c κs =
-    let s = c .before .before .before .before .before .before .before .before .before .before .before .before .args in
-    let h : c .before .before .before .before .before .before .before .before .width-of .result * s .m ≤ 2560 = subst (λ (k : ℕ). k * s .m ≤ 2560) (sym (c .before .before .before .before .before .before .before .before .width-of .ensures)) (evaluation-high (sizesIn (s .s)) (c .before .before .before .before .before .before .before .before .before .before .before .before .pre .0) (s .m) (c .before .before .before .before .before .before .before .before .before .before .before .before .pre .1)) in
-    (answers-fit (sizesIn (s .s)) (s .m) (c .before .before .before .before .before .before .before .before .width-of .result) (c .before .answers-at .result) (length (s .reply .now)) (c .before .before .before .before .before .before .before .before .width-of .ensures) (c .before .answers-at .ensures) (c .before .before .before .before .before .before .before .before .before .before .before .before .pre .3), search needs)
+blank-row-requires : tie.Need-blank-row-requires
+blank-row-requires c κs = search needs
 
 cast-all-values : tie.Need-cast-all-values
 cast-all-values c = search needs
@@ -64,6 +47,9 @@ cast-all-values-2 c = search needs
 
 cast-all-values-3 : tie.Need-cast-all-values-3
 cast-all-values-3 c = search needs
+
+answers-at-requires : tie.Need-answers-at-requires
+answers-at-requires c κs = search needs
 
 sub-all-values : tie.Need-sub-all-values
 sub-all-values c = search needs
@@ -77,70 +63,65 @@ part-all-values-end c = search needs
 sub-all-values-2 : tie.Need-sub-all-values-2
 sub-all-values-2 c = search needs
 
-part-all-values-start-2 : tie.Need-part-all-values-start-2
-part-all-values-start-2 c = search needs
+part-answer-start : tie.Need-part-answer-start
+part-answer-start c = search needs
 
-part-all-values-end-2 : tie.Need-part-all-values-end-2
-part-all-values-end-2 c =
-    let s = c .before .before .before .before .before .before .before .before .before .before .before .before .before .before .before .before .before .before .before .before .args in
-    let h : c .before .before .before .before .before .before .before .before .before .before .before .before .before .before .before .before .width-of .result * s .m ≤ 2560 = subst (λ (k : ℕ). k * s .m ≤ 2560) (sym (c .before .before .before .before .before .before .before .before .before .before .before .before .before .before .before .before .width-of .ensures)) (evaluation-high (sizesIn (s .s)) (c .before .before .before .before .before .before .before .before .before .before .before .before .before .before .before .before .before .before .before .before .pre .0) (s .m) (c .before .before .before .before .before .before .before .before .before .before .before .before .before .before .before .before .before .before .before .before .pre .1)) in
-    let b : length (c .before .before .before .before .before .before .before .before .before .before .blank-answers .result) ≡ 2560 = search needs in
-    let l : length (c .before .before .before .before .before .before .before .read-words2 .last .1 .1 .1 .0) ≡ length (c .before .before .before .before .before .before .before .before .before .before .blank-answers .result) = c .before .before .before .before .before .before .before .read-words2 .kept .1 .1 .1 .0 in
-    search needs
+part-answer-end : tie.Need-part-answer-end
+part-answer-end c = search needs
 
 all-values-requires : tie.Need-all-values-requires
 all-values-requires c κs =
-    let s = c .before .before .before .before .before .before .before .before .before .before .before .before .before .before .before .before .before .before .before .before .before .before .args in
+    let s = c .before .before .before .before .before .before .before .before .before .before .before .before .before .before .before .before .before .before .args in
     let m : ℕ = s .m in
-    let n : ℕ = c .before .before .before .before .before .before .before .before .before .before .before .before .before .before .before .before .before .before .width-of .result * m in
-    let ps : List ℕ = words m (drop (46 + 4 * s .s .eta) (s .question .now)) in
-    let as′ : List ℕ = words n (drop (c .before .before .before .before .before .before .before .before .before .before .before .answers-at .result) (s .reply .now)) in
-    let p : length (take (m - 0) (drop 0 (c .before .before .before .before .before .before .before .before .before .before .before .before .before .before .read-words .last .1 .1 .1 .0))) ≡ m =
-    ap length (read-front m ps (c .before .before .before .before .before .before .before .before .before .before .before .before .before .before .before .before .before .blank-points .result) (c .before .before .before .before .before .before .before .before .before .before .before .before .before .before .read-words .last .1 .1 .1 .0) (length-words m _) (c .before .before .before .before .before .before .before .before .before .before .before .before .before .before .read-words .ensures)) ∙ length-words m _ in
-    let a : length (take (n - 0) (drop 0 (c .before .before .before .before .before .before .before .before .before .read-words2 .last .1 .1 .1 .0))) ≡ n =
-    ap length (read-front n as′ (c .before .before .before .before .before .before .before .before .before .before .before .before .blank-answers .result) (c .before .before .before .before .before .before .before .before .before .read-words2 .last .1 .1 .1 .0) (length-words n _) (c .before .before .before .before .before .before .before .before .before .read-words2 .ensures)) ∙ length-words n _ in
-    (omega (arith, c .before .before .before .before .before .before .before .before .before .before .before .before .before .before .before .before .before .before .width-of .ensures, mul-comm (s .s .nu) (s .s .w)), c .before .before .before .before .before .before .before .before .before .before .before .before .before .before .before .before .before .before .before .before .before .before .pre .4 ∙ ap (λ (k : ℕ). s .s .w * k) (sym p), le-of-eq (ap (λ (k : ℕ). c .before .before .before .before .before .before .before .before .before .before .before .before .before .before .before .before .before .before .width-of .result * k) p ∙ sym a))
+    let n : ℕ = c .before .before .before .before .before .before .before .before .before .before .before .before .before .before .width-of .result in
+    let from : ℕ = c .before .before .before .before .answers-at .result in
+    let b : List ℕ = c .before .before .before .before .before .before .before .before .blank-row .result in
+    let x : List ℕ = take (m - 0) (drop 0 (c .before .before .before .before .before .before .before .before .before .before .read-words .last .1 .1 .1 .0)) in
+    let l : length b ≡ 320 = search needs in
+    let a : length (take (n - 0) (drop 0 b)) ≡ n = front-length n b (omega (arith, c .before .before .before .before .before .before .before .before .before .before .before .before .before .before .width-of .ensures, width-high (sizesIn (s .s)) (c .before .before .before .before .before .before .before .before .before .before .before .before .before .before .before .before .before .before .pre .0))) in
+    let p : length x ≡ m =
+    ap length (read-front m (words m (drop (46 + 4 * s .s .eta) (s .question .now))) (c .before .before .before .before .before .before .before .before .before .before .before .before .before .blank-points .result) (c .before .before .before .before .before .before .before .before .before .before .read-words .last .1 .1 .1 .0) (length-words m _) (c .before .before .before .before .before .before .before .before .before .before .read-words .ensures)) ∙ length-words m _ in
+    let e : from + 4 * length (take (n - 0) (drop 0 b)) * length x ≡ from + 4 * n * m = ap₂ (λ (i j : ℕ). from + 4 * i * j) a p in
+    let f = answers-fit (sizesIn (s .s)) m n from (length (s .reply .now)) (c .before .before .before .before .before .before .before .before .before .before .before .before .before .before .width-of .ensures) (c .before .before .before .before .answers-at .ensures) (c .before .before .before .before .before .before .before .before .before .before .before .before .before .before .before .before .before .before .pre .3) in
+    (omega (arith, a, c .before .before .before .before .before .before .before .before .before .before .before .before .before .before .width-of .ensures, mul-comm (s .s .nu) (s .s .w)), c .before .before .before .before .before .before .before .before .before .before .before .before .before .before .before .before .before .before .pre .4 ∙ ap (λ (k : ℕ). s .s .w * k) (sym p), omega (arith, e, f))
 
 same-length : tie.Need-same-length
 same-length c = search needs
 
 returns : tie.Need-returns
 returns c =
-    let s = c .before .before .before .before .before .before .before .before .before .before .before .before .before .before .before .before .before .before .before .before .before .before .before .before .before .args in
+    let s = c .before .before .before .before .before .before .before .before .before .before .before .before .before .before .before .before .before .before .before .before .before .before .args in
     let m : ℕ = s .m in
-    let n : ℕ = c .before .before .before .before .before .before .before .before .before .before .before .before .before .before .before .before .before .before .before .before .before .width-of .result * m in
-    let ps : List ℕ = words m (drop (46 + 4 * s .s .eta) (s .question .now)) in
-    let as′ : List ℕ = words n (drop (c .before .before .before .before .before .before .before .before .before .before .before .before .before .before .answers-at .result) (s .reply .now)) in
-    c .before .before .all-values .ensures
-    ∙ values-done (sizesIn (s .s)) m (s .question .now) (s .reply .now) (c .before .before .before .before .before .before .before .before .before .before .before .before .before .before .before .before .before .before .before .before .before .width-of .result) (take (m - 0) (drop 0 (c .before .before .before .before .before .before .before .before .before .before .before .before .before .before .before .before .before .read-words .last .1 .1 .1 .0))) (take (n - 0) (drop 0 (c .before .before .before .before .before .before .before .before .before .before .before .before .read-words2 .last .1 .1 .1 .0))) (c .before .before .before .before .before .before .before .before .before .before .before .before .before .before .before .before .before .before .before .before .before .width-of .ensures)
-    (read-front m ps (c .before .before .before .before .before .before .before .before .before .before .before .before .before .before .before .before .before .before .before .before .blank-points .result) (c .before .before .before .before .before .before .before .before .before .before .before .before .before .before .before .before .before .read-words .last .1 .1 .1 .0) (length-words m _) (c .before .before .before .before .before .before .before .before .before .before .before .before .before .before .before .before .before .read-words .ensures))
-    (read-front n as′ (c .before .before .before .before .before .before .before .before .before .before .before .before .before .before .before .blank-answers .result) (c .before .before .before .before .before .before .before .before .before .before .before .before .read-words2 .last .1 .1 .1 .0) (length-words n _) (c .before .before .before .before .before .before .before .before .before .before .before .before .read-words2 .ensures) ∙ ap (λ (k : ℕ). words n (drop k (s .reply .now))) (c .before .before .before .before .before .before .before .before .before .before .before .before .before .before .answers-at .ensures))
+    let n : ℕ = c .before .before .before .before .before .before .before .before .before .before .before .before .before .before .before .before .before .before .width-of .result in
+    let b : List ℕ = c .before .before .before .before .before .before .before .before .before .before .before .before .blank-row .result in
+    let l : length b ≡ 320 = search needs in
+    let a : length (take (n - 0) (drop 0 b)) ≡ n = front-length n b (omega (arith, c .before .before .before .before .before .before .before .before .before .before .before .before .before .before .before .before .before .before .width-of .ensures, width-high (sizesIn (s .s)) (c .before .before .before .before .before .before .before .before .before .before .before .before .before .before .before .before .before .before .before .before .before .before .pre .0))) in
+    c .before .before .before .all-values .ensures
+    ∙ values-done (sizesIn (s .s)) m (s .question .now) (s .reply .now) (length (take (n - 0) (drop 0 b))) (c .before .before .before .before .before .before .before .before .answers-at .result) (take (m - 0) (drop 0 (c .before .before .before .before .before .before .before .before .before .before .before .before .before .before .read-words .last .1 .1 .1 .0))) (a ∙ c .before .before .before .before .before .before .before .before .before .before .before .before .before .before .before .before .before .before .width-of .ensures) (c .before .before .before .before .before .before .before .before .answers-at .ensures)
+    (read-front m (words m (drop (46 + 4 * s .s .eta) (s .question .now))) (c .before .before .before .before .before .before .before .before .before .before .before .before .before .before .before .before .before .blank-points .result) (c .before .before .before .before .before .before .before .before .before .before .before .before .before .before .read-words .last .1 .1 .1 .0) (length-words m _) (c .before .before .before .before .before .before .before .before .before .before .before .before .before .before .read-words .ensures))
 
 pub fill-values-spec : {M : Type 1} → statement M
 fill-values-spec =
     tie.close
     (tie.spec
     width-of-requires
-    mul-n
     blank-points-requires
     cast-read-words
     mul-read-words
     add-read-words
     slice-aggregate-read-words
     read-words-requires
-    blank-answers-requires
-    answers-at-requires
-    slice-aggregate-read-words-2
-    read-words-requires-2
+    blank-row-requires
     cast-all-values
     cast-all-values-2
     cast-all-values-3
+    answers-at-requires
     sub-all-values
     part-all-values-start
     part-all-values-end
     sub-all-values-2
-    part-all-values-start-2
-    part-all-values-end-2
+    part-answer-start
+    part-answer-end
     all-values-requires
     same-length
     returns)

@@ -10,8 +10,8 @@ use native.Mathlib.Omega.{arith}
 use Rattle.checker.proofs.leaf_ok.Statement.{statement}
 use Rattle.checker.proofs.leaf_ok.Tie as tie
 
-blank-weights-requires : tie.Need-blank-weights-requires
-blank-weights-requires c κs = search needs
+blank-row-requires : tie.Need-blank-row-requires
+blank-row-requires c κs = search needs
 
 sub-basis : tie.Need-sub-basis
 sub-basis c = search needs
@@ -34,7 +34,7 @@ part-weighed-ok-start c = search needs
 part-weighed-ok-end : tie.Need-part-weighed-ok-end
 part-weighed-ok-end c =
     let s = c .before .before .before .before .before .before .before .before .args in
-    let b : List ℕ = c .before .before .before .before .blank-weights .result in
+    let b : List ℕ = c .before .before .before .before .blank-row .result in
     let r : List ℕ = c .before .before .basis .last .1 .1 .0 in
     let l : length b ≡ 320 = search needs in
     front-fits (s .width) b r (basis-front (s .first .0) (s .width) (s .x .0) b r (omega arith) (c .before .before .basis .ensures) .1)
@@ -42,7 +42,7 @@ part-weighed-ok-end c =
 weighed-ok-requires : tie.Need-weighed-ok-requires
 weighed-ok-requires c κs =
     let s = c .before .before .before .before .before .before .before .before .before .args in
-    let b : List ℕ = c .before .before .before .before .before .blank-weights .result in
+    let b : List ℕ = c .before .before .before .before .before .blank-row .result in
     let r : List ℕ = c .before .before .before .basis .last .1 .1 .0 in
     let l : length b ≡ 320 = search needs in
     let n : length r ≡ s .width = basis-front (s .first .0) (s .width) (s .x .0) b r (omega arith) (c .before .before .before .basis .ensures) .1 in
@@ -52,7 +52,7 @@ weighed-ok-requires c κs =
 returns : tie.Need-returns
 returns c =
     let s = c .before .before .before .before .before .before .before .before .before .before .args in
-    let b : List ℕ = c .before .before .before .before .before .before .blank-weights .result in
+    let b : List ℕ = c .before .before .before .before .before .before .blank-row .result in
     let r : List ℕ = c .before .before .before .before .basis .last .1 .1 .0 in
     let l : length b ≡ 320 = search needs in
     let h = basis-front (s .first .0) (s .width) (s .x .0) b r (omega arith) (c .before .before .before .before .basis .ensures) in
@@ -64,7 +64,7 @@ pub leaf-ok-spec : {M : Type 1} → statement M
 leaf-ok-spec =
     tie.close
     (tie.spec
-    blank-weights-requires
+    blank-row-requires
     sub-basis
     part-weights-start
     part-weights-end

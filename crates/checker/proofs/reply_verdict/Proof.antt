@@ -1,12 +1,12 @@
 -- `checker::reply_verdict` meets its contract: 7 where the length is not right, else the verdict on the reply's words.
 use mathlib.Core.Path.{_≡_, sym, _∙_, ap₂, subst}
-use Prim.Native.Nat.{ℕ, _-_, _*_, _≤_}
+use Prim.Native.Nat.{ℕ, _*_, _≤_}
 use lib.ListN.{length}
 use Rattle.scheme.specs.Reply.{replyLength}
 use Rattle.commitment.specs.Shape.{sizesIn}
 use Rattle.checker.specs.Posed.{posed}
-use Rattle.checker.proofs.Bounds.{batching-high, evaluation-high, leaf-values-high}
-use Rattle.checker.proofs.Verdicts.{say-7, say-later, index-set, records-fit, batching-fits, evaluation-fits, was-read}
+use Rattle.checker.proofs.Bounds.{batching-high, evaluation-high}
+use Rattle.checker.proofs.Verdicts.{say-7, say-later, index-set, batching-fits, evaluation-fits, was-read}
 use borrow.Author.Needs.{needs}
 use native.Mathlib.Omega.{arith}
 use Rattle.checker.proofs.reply_verdict.Statement.{statement}
@@ -68,35 +68,6 @@ read-words-requires-2 c κs =
     let b : length (c .before .before .blank-answers .result) ≡ 2560 = search needs in
     (evaluation-fits (sizesIn (s .s)) (s .root .now) (s .challenges .now) (s .points .now) (s .indices .now) (s .reply .now) (c .before .before .before .before .before .before .before .before .before .before .before .before .before .before .before .pre) whole (c .before .before .before .before .before .before .before .width-of .result) (c .before .answers-at .result) (c .before .before .before .before .before .before .before .width-of .ensures) (c .before .answers-at .ensures), omega arith)
 
-record-values-requires : tie.Need-record-values-requires
-record-values-requires c κs = search needs
-
-mul-v : tie.Need-mul-v
-mul-v c =
-    let s = c .before .before .before .before .before .before .before .before .before .before .before .before .before .before .before .before .before .before .args in
-    let h : c .record-values .result * length (s .indices .now) ≤ 4352 = subst (λ (k : ℕ). k ≤ 4352) (sym (ap₂ _*_ (c .record-values .ensures) (c .before .before .before .before .before .before .before .before .before .before .before .before .before .before .before .before .before .before .pre .opened))) (leaf-values-high (sizesIn (s .s)) (c .before .before .before .before .before .before .before .before .before .before .before .before .before .before .before .before .before .before .pre .sizes-good)) in
-    search needs
-
-blank-leaf-values-requires : tie.Need-blank-leaf-values-requires
-blank-leaf-values-requires c κs = search needs
-
-records-at-requires : tie.Need-records-at-requires
-records-at-requires c κs = search needs
-
-record-length-requires : tie.Need-record-length-requires
-record-length-requires c κs = search needs
-
-slice-aggregate-read-records : tie.Need-slice-aggregate-read-records
-slice-aggregate-read-records c = search needs
-
-read-records-requires : tie.Need-read-records-requires
-read-records-requires c κs =
-    let s = c .before .before .before .before .before .before .before .before .before .before .before .before .before .before .before .before .before .before .before .before .before .before .args in
-    let whole : length (s .reply .now) ≡ replyLength (posed (sizesIn (s .s)) (s .root .now) (s .challenges .now) (s .points .now) (s .indices .now)) = c .before .before .before .before .before .before .before .before .before .before .before .before .before .before .before .if1 .left ∙ c .before .before .before .before .before .before .before .before .before .before .before .before .before .before .before .before .reply-length .ensures in
-    let h : c .before .before .before .before .record-values .result * length (s .indices .now) ≤ 4352 = subst (λ (k : ℕ). k ≤ 4352) (sym (ap₂ _*_ (c .before .before .before .before .record-values .ensures) (c .before .before .before .before .before .before .before .before .before .before .before .before .before .before .before .before .before .before .before .before .before .before .pre .opened))) (leaf-values-high (sizesIn (s .s)) (c .before .before .before .before .before .before .before .before .before .before .before .before .before .before .before .before .before .before .before .before .before .before .pre .sizes-good)) in
-    let b : length (c .before .before .before .blank-leaf-values .result) ≡ 4352 = search needs in
-    (records-fit (sizesIn (s .s)) (s .root .now) (s .challenges .now) (s .points .now) (s .indices .now) (s .reply .now) (c .before .before .before .before .before .before .before .before .before .before .before .before .before .before .before .before .before .before .before .before .before .before .pre) whole (c .before .before .records-at .result) (c .before .record-length .result) (c .before .before .records-at .ensures) (c .before .record-length .ensures), omega (arith, c .before .record-length .ensures, c .before .before .before .before .record-values .ensures), omega arith)
-
 sub-words-verdict : tie.Need-sub-words-verdict
 sub-words-verdict c = search needs
 
@@ -105,10 +76,10 @@ part-words-verdict-start c = search needs
 
 part-words-verdict-end : tie.Need-part-words-verdict-end
 part-words-verdict-end c =
-    let s = c .before .before .before .before .before .before .before .before .before .before .before .before .before .before .before .before .before .before .before .before .before .before .before .before .before .args in
-    let h : c .before .before .before .before .before .before .before .before .before .before .before .before .before .before .before .before .before .width-of .result * length (s .challenges .now) ≤ 1280 = subst (λ (k : ℕ). k ≤ 1280) (sym (ap₂ _*_ (c .before .before .before .before .before .before .before .before .before .before .before .before .before .before .before .before .before .width-of .ensures) (c .before .before .before .before .before .before .before .before .before .before .before .before .before .before .before .before .before .before .before .before .before .before .before .before .before .pre .repetitions))) (batching-high (sizesIn (s .s)) (c .before .before .before .before .before .before .before .before .before .before .before .before .before .before .before .before .before .before .before .before .before .before .before .before .before .pre .sizes-good)) in
-    let b : length (c .before .before .before .before .before .before .before .before .before .before .before .before .before .before .before .before .blank-batching .result) ≡ 1280 = search needs in
-    let l : length (c .before .before .before .before .before .before .before .before .before .before .before .before .before .before .read-words .last .1 .1 .1 .0) ≡ length (c .before .before .before .before .before .before .before .before .before .before .before .before .before .before .before .before .blank-batching .result) = c .before .before .before .before .before .before .before .before .before .before .before .before .before .before .read-words .kept .1 .1 .1 .0 in
+    let s = c .before .before .before .before .before .before .before .before .before .before .before .before .before .before .before .before .before .before .args in
+    let h : c .before .before .before .before .before .before .before .before .before .before .width-of .result * length (s .challenges .now) ≤ 1280 = subst (λ (k : ℕ). k ≤ 1280) (sym (ap₂ _*_ (c .before .before .before .before .before .before .before .before .before .before .width-of .ensures) (c .before .before .before .before .before .before .before .before .before .before .before .before .before .before .before .before .before .before .pre .repetitions))) (batching-high (sizesIn (s .s)) (c .before .before .before .before .before .before .before .before .before .before .before .before .before .before .before .before .before .before .pre .sizes-good)) in
+    let b : length (c .before .before .before .before .before .before .before .before .before .blank-batching .result) ≡ 1280 = search needs in
+    let l : length (c .before .before .before .before .before .before .before .read-words .last .1 .1 .1 .0) ≡ length (c .before .before .before .before .before .before .before .before .before .blank-batching .result) = c .before .before .before .before .before .before .before .read-words .kept .1 .1 .1 .0 in
     search needs
 
 sub-words-verdict-2 : tie.Need-sub-words-verdict-2
@@ -119,41 +90,23 @@ part-words-verdict-start-2 c = search needs
 
 part-words-verdict-end-2 : tie.Need-part-words-verdict-end-2
 part-words-verdict-end-2 c =
-    let s = c .before .before .before .before .before .before .before .before .before .before .before .before .before .before .before .before .before .before .before .before .before .before .before .before .before .before .before .args in
-    let h : c .before .before .before .before .before .before .before .before .before .before .before .before .before .before .before .before .before .before .before .width-of .result * length (s .points .now) ≤ 2560 = subst (λ (k : ℕ). k * length (s .points .now) ≤ 2560) (sym (c .before .before .before .before .before .before .before .before .before .before .before .before .before .before .before .before .before .before .before .width-of .ensures)) (evaluation-high (sizesIn (s .s)) (c .before .before .before .before .before .before .before .before .before .before .before .before .before .before .before .before .before .before .before .before .before .before .before .before .before .before .before .pre .sizes-good) (length (s .points .now)) (c .before .before .before .before .before .before .before .before .before .before .before .before .before .before .before .before .before .before .before .before .before .before .before .before .before .before .before .pre .few-points)) in
-    let b : length (c .before .before .before .before .before .before .before .before .before .before .before .before .before .before .blank-answers .result) ≡ 2560 = search needs in
-    let l : length (c .before .before .before .before .before .before .before .before .before .before .before .read-words2 .last .1 .1 .1 .0) ≡ length (c .before .before .before .before .before .before .before .before .before .before .before .before .before .before .blank-answers .result) = c .before .before .before .before .before .before .before .before .before .before .before .read-words2 .kept .1 .1 .1 .0 in
-    search needs
-
-sub-words-verdict-3 : tie.Need-sub-words-verdict-3
-sub-words-verdict-3 c = search needs
-
-part-words-verdict-start-3 : tie.Need-part-words-verdict-start-3
-part-words-verdict-start-3 c = search needs
-
-part-words-verdict-end-3 : tie.Need-part-words-verdict-end-3
-part-words-verdict-end-3 c =
-    let s = c .before .before .before .before .before .before .before .before .before .before .before .before .before .before .before .before .before .before .before .before .before .before .before .before .before .before .before .before .before .args in
-    let h : c .before .before .before .before .before .before .before .before .before .before .before .record-values .result * length (s .indices .now) ≤ 4352 = subst (λ (k : ℕ). k ≤ 4352) (sym (ap₂ _*_ (c .before .before .before .before .before .before .before .before .before .before .before .record-values .ensures) (c .before .before .before .before .before .before .before .before .before .before .before .before .before .before .before .before .before .before .before .before .before .before .before .before .before .before .before .before .before .pre .opened))) (leaf-values-high (sizesIn (s .s)) (c .before .before .before .before .before .before .before .before .before .before .before .before .before .before .before .before .before .before .before .before .before .before .before .before .before .before .before .before .before .pre .sizes-good)) in
-    let b : length (c .before .before .before .before .before .before .before .before .before .before .blank-leaf-values .result) ≡ 4352 = search needs in
-    let l : length (c .before .before .before .before .before .before .read-records .last .1 .1 .1 .1 .1 .0) ≡ length (c .before .before .before .before .before .before .before .before .before .before .blank-leaf-values .result) = c .before .before .before .before .before .before .read-records .kept .1 .1 .1 .1 .1 .0 in
+    let s = c .before .before .before .before .before .before .before .before .before .before .before .before .before .before .before .before .before .before .before .before .args in
+    let h : c .before .before .before .before .before .before .before .before .before .before .before .before .width-of .result * length (s .points .now) ≤ 2560 = subst (λ (k : ℕ). k * length (s .points .now) ≤ 2560) (sym (c .before .before .before .before .before .before .before .before .before .before .before .before .width-of .ensures)) (evaluation-high (sizesIn (s .s)) (c .before .before .before .before .before .before .before .before .before .before .before .before .before .before .before .before .before .before .before .before .pre .sizes-good) (length (s .points .now)) (c .before .before .before .before .before .before .before .before .before .before .before .before .before .before .before .before .before .before .before .before .pre .few-points)) in
+    let b : length (c .before .before .before .before .before .before .before .blank-answers .result) ≡ 2560 = search needs in
+    let l : length (c .before .before .before .before .read-words2 .last .1 .1 .1 .0) ≡ length (c .before .before .before .before .before .before .before .blank-answers .result) = c .before .before .before .before .read-words2 .kept .1 .1 .1 .0 in
     search needs
 
 words-verdict-requires : tie.Need-words-verdict-requires
 words-verdict-requires c κs =
-    let s = c .before .before .before .before .before .before .before .before .before .before .before .before .before .before .before .before .before .before .before .before .before .before .before .before .before .before .before .before .before .before .args in
-    let whole : length (s .reply .now) ≡ replyLength (posed (sizesIn (s .s)) (s .root .now) (s .challenges .now) (s .points .now) (s .indices .now)) = c .before .before .before .before .before .before .before .before .before .before .before .before .before .before .before .before .before .before .before .before .before .before .before .if1 .left ∙ c .before .before .before .before .before .before .before .before .before .before .before .before .before .before .before .before .before .before .before .before .before .before .before .before .reply-length .ensures in (
-      c .before .before .before .before .before .before .before .before .before .before .before .before .before .before .before .before .before .before .before .before .before .before .before .before .before .before .before .before .before .before .pre,
-      was-read (sizesIn (s .s)) (s .root .now) (s .challenges .now) (s .points .now) (s .indices .now) (s .reply .now) (c .before .before .before .before .before .before .before .before .before .before .before .before .before .before .before .before .before .before .before .before .before .before .before .before .before .before .before .before .before .before .pre) (c .before .before .before .before .before .before .before .before .before .before .before .before .before .before .before .before .before .before .before .before .before .before .width-of .result) (c .before .before .before .before .before .before .before .before .before .before .before .before .before .before .before .before .answers-at .result) (c .before .before .before .before .before .before .before .before .before .before .records-at .result) (c .before .before .before .before .before .before .before .before .before .record-length .result) (c .before .before .before .before .before .before .before .before .before .before .before .before .record-values .result)
-          (c .before .before .before .before .before .before .before .before .before .before .before .before .before .before .before .before .before .before .before .before .before .blank-batching .result) (c .before .before .before .before .before .before .before .before .before .before .before .before .before .before .before .before .before .blank-answers .result) (c .before .before .before .before .before .before .before .before .before .before .before .blank-leaf-values .result) (c .before .before .before .before .before .before .before .before .before .before .before .before .before .before .before .before .before .before .before .read-words .last .1 .1 .1 .0) (c .before .before .before .before .before .before .before .before .before .before .before .before .before .before .read-words2 .last .1 .1 .1 .0) (c .before .before .before .before .before .before .before .read-records .last .1 .1 .1 .1 .1 .0) whole
-          (c .before .before .before .before .before .before .before .before .before .before .before .before .before .before .before .before .before .before .before .before .before .before .width-of .ensures) (c .before .before .before .before .before .before .before .before .before .before .before .before .before .before .before .before .answers-at .ensures) (c .before .before .before .before .before .before .before .before .before .before .records-at .ensures) (c .before .before .before .before .before .before .before .before .before .record-length .ensures) (c .before .before .before .before .before .before .before .before .before .before .before .before .record-values .ensures) (c .before .before .before .before .before .before .before .before .before .before .before .before .before .before .before .before .before .before .before .read-words .ensures) (c .before .before .before .before .before .before .before .before .before .before .before .before .before .before .read-words2 .ensures) (c .before .before .before .before .before .before .before .read-records .ensures),
-    )
+    let s = c .before .before .before .before .before .before .before .before .before .before .before .before .before .before .before .before .before .before .before .before .before .args in
+    let whole : length (s .reply .now) ≡ replyLength (posed (sizesIn (s .s)) (s .root .now) (s .challenges .now) (s .points .now) (s .indices .now)) = c .before .before .before .before .before .before .before .before .before .before .before .before .before .before .if1 .left ∙ c .before .before .before .before .before .before .before .before .before .before .before .before .before .before .before .reply-length .ensures in
+    (c .before .before .before .before .before .before .before .before .before .before .before .before .before .before .before .before .before .before .before .before .before .pre, was-read (sizesIn (s .s)) (s .root .now) (s .challenges .now) (s .points .now) (s .indices .now) (s .reply .now) (c .before .before .before .before .before .before .before .before .before .before .before .before .before .before .before .before .before .before .before .before .before .pre) (c .before .before .before .before .before .before .before .before .before .before .before .before .before .width-of .result) (c .before .before .before .before .before .before .before .answers-at .result) (c .before .before .before .before .before .before .before .before .before .before .before .before .blank-batching .result) (c .before .before .before .before .before .before .before .before .blank-answers .result) (c .before .before .before .before .before .before .before .before .before .before .read-words .last .1 .1 .1 .0) (c .before .before .before .before .before .read-words2 .last .1 .1 .1 .0) whole (c .before .before .before .before .before .before .before .before .before .before .before .before .before .width-of .ensures) (c .before .before .before .before .before .before .before .answers-at .ensures) (c .before .before .before .before .before .before .before .before .before .before .read-words .ensures) (c .before .before .before .before .before .read-words2 .ensures))
 
 returns-2 : tie.Need-returns-2
 returns-2 c =
-    let s = c .before .before .before .before .before .before .before .before .before .before .before .before .before .before .before .before .before .before .before .before .before .before .before .before .before .before .before .before .before .before .before .args in
-    let whole : length (s .reply .now) ≡ replyLength (posed (sizesIn (s .s)) (s .root .now) (s .challenges .now) (s .points .now) (s .indices .now)) = c .before .before .before .before .before .before .before .before .before .before .before .before .before .before .before .before .before .before .before .before .before .before .before .before .if1 .left ∙ c .before .before .before .before .before .before .before .before .before .before .before .before .before .before .before .before .before .before .before .before .before .before .before .before .before .reply-length .ensures in
-    c .words-verdict .ensures ∙ say-later (sizesIn (s .s)) (s .root .now) (s .challenges .now) (s .points .now) (s .indices .now) (s .reply .now) (c .before .before .before .before .before .before .before .before .before .before .before .before .before .before .before .before .before .before .before .before .before .before .before .before .before .before .before .before .before .before .before .pre) whole
+    let s = c .before .before .before .before .before .before .before .before .before .before .before .before .before .before .before .before .before .before .before .before .before .before .args in
+    let whole : length (s .reply .now) ≡ replyLength (posed (sizesIn (s .s)) (s .root .now) (s .challenges .now) (s .points .now) (s .indices .now)) = c .before .before .before .before .before .before .before .before .before .before .before .before .before .before .before .if1 .left ∙ c .before .before .before .before .before .before .before .before .before .before .before .before .before .before .before .before .reply-length .ensures in
+    c .words-verdict .ensures ∙ say-later (sizesIn (s .s)) (s .root .now) (s .challenges .now) (s .points .now) (s .indices .now) (s .reply .now) (c .before .before .before .before .before .before .before .before .before .before .before .before .before .before .before .before .before .before .before .before .before .before .pre) whole
 
 pub reply-verdict-spec : {M : Type 1} → statement M
 reply-verdict-spec =
@@ -171,21 +124,11 @@ reply-verdict-spec =
     answers-at-requires
     slice-aggregate-read-words-2
     read-words-requires-2
-    record-values-requires
-    mul-v
-    blank-leaf-values-requires
-    records-at-requires
-    record-length-requires
-    slice-aggregate-read-records
-    read-records-requires
     sub-words-verdict
     part-words-verdict-start
     part-words-verdict-end
     sub-words-verdict-2
     part-words-verdict-start-2
     part-words-verdict-end-2
-    sub-words-verdict-3
-    part-words-verdict-start-3
-    part-words-verdict-end-3
     words-verdict-requires
     returns-2)

@@ -7,7 +7,8 @@ use borrow.Author.Tests.{eq-eqb, ne-eqb}
 use Rattle.lists.specs.Tests.{each, each-next, each-stop}
 use Rattle.checker.specs.Words.{weighedAt}
 use Rattle.checker.proofs.Rows.{row-fits, part-length}
-use Rattle.checker.proofs.Evaluation.{each-none, weighed}
+use Rattle.checker.proofs.Flat.{each-none}
+use Rattle.checker.proofs.Evaluation.{weighed}
 use borrow.Author.Needs.{needs}
 use native.Mathlib.Omega.{arith}
 use Rattle.checker.proofs.weighed_ok.Statement.{statement}

@@ -3,36 +3,41 @@ use mathlib.Core.Path.{sym, _∙_}
 use borrow.Author.Tests.{not-true, not-false}
 use Rattle.commitment.specs.Shape.{sizesIn}
 use Rattle.checker.proofs.Bounds.{record-high}
-use Rattle.checker.proofs.Verdicts.{say-3, say-8, say-9, say-10, say-0, index-set, root-fits, elements-tested, root-tested, batching-tested, evaluation-tested, batching-asks, evaluation-asks}
+use Rattle.checker.proofs.Verdicts.{say-3, say-8, say-9, say-10, say-0, index-set, root-fits, elements-tested, root-tested, batching-tested, evaluation-tested, elements-asks, batching-asks, evaluation-asks}
 use borrow.Author.Needs.{needs}
 use native.Mathlib.Omega.{arith}
 use Rattle.checker.proofs.words_verdict.Statement.{statement}
 use Rattle.checker.proofs.words_verdict.Tie as tie
 
-elements-read-requires : tie.Need-elements-read-requires
-elements-read-requires c κs = search needs
-
-returns : tie.Need-returns
-returns c =
-    let s = c .before .before .before .before .before .before .before .before .before .before .args in
-    say-3 (sizesIn (s .s)) (s .root .now) (s .challenges .now) (s .points .now) (s .indices .now) (s .reply .now) (c .before .before .before .before .before .before .before .before .before .before .pre .0)
-    (sym (elements-tested (sizesIn (s .s)) (s .root .now) (s .challenges .now) (s .points .now) (s .indices .now) (s .reply .now) (c .before .before .before .before .before .before .before .before .before .before .pre .0) (s .batching .now) (s .answers .now) (s .values .now) (c .before .before .before .before .before .before .before .before .before .before .pre .1) (c .before .elements-read .result) (c .before .elements-read .ensures)) ∙ not-true (c .before .elements-read .result) (c .if1 .taken))
-
 records-at-requires : tie.Need-records-at-requires
 records-at-requires c κs = search needs
 
-cast-reply-root : tie.Need-cast-reply-root
-cast-reply-root c = search needs
-
 record-length-requires : tie.Need-record-length-requires
 record-length-requires c κs = search needs
+
+record-values-requires : tie.Need-record-values-requires
+record-values-requires c κs = c .before .before .before .before .before .before .before .before .before .pre .0 .sizes-good
+
+elements-read-requires : tie.Need-elements-read-requires
+elements-read-requires c κs =
+    let s = c .before .before .before .before .before .before .before .before .before .before .args in
+    elements-asks (sizesIn (s .s)) (s .root .now) (s .challenges .now) (s .points .now) (s .indices .now) (s .reply .now) (c .before .before .before .before .before .before .before .before .before .before .pre .0) (s .batching .now) (s .answers .now) (c .before .before .before .before .before .before .before .before .before .before .pre .1) (c .before .before .records-at .result) (c .before .record-length .result) (c .before .before .records-at .ensures) (c .before .record-length .ensures) (c .record-values .result) (c .record-values .ensures)
+
+returns : tie.Need-returns
+returns c =
+    let s = c .before .before .before .before .before .before .before .before .before .before .before .before .args in
+    say-3 (sizesIn (s .s)) (s .root .now) (s .challenges .now) (s .points .now) (s .indices .now) (s .reply .now) (c .before .before .before .before .before .before .before .before .before .before .before .before .pre .0)
+    (sym (elements-tested (sizesIn (s .s)) (s .root .now) (s .challenges .now) (s .points .now) (s .indices .now) (s .reply .now) (c .before .before .before .before .before .before .before .before .before .before .before .before .pre .0) (s .batching .now) (s .answers .now) (c .before .before .before .before .before .before .before .before .before .before .before .before .pre .1) (c .before .before .before .before .records-at .result) (c .before .before .before .record-length .result) (c .before .before .before .before .records-at .ensures) (c .before .before .before .record-length .ensures) (c .before .before .record-values .result) (c .before .elements-read .result) (c .before .before .record-values .ensures) (c .before .elements-read .ensures)) ∙ not-true (c .before .elements-read .result) (c .if1 .taken))
+
+cast-reply-root : tie.Need-cast-reply-root
+cast-reply-root c = search needs
 
 reply-root-requires : tie.Need-reply-root-requires
 reply-root-requires c κs =
     let s = c .before .before .before .before .before .before .before .before .before .before .before .before .before .args in (
       index-set (sizesIn (s .s)) (s .root .now) (s .challenges .now) (s .points .now) (s .indices .now) (s .reply .now) (c .before .before .before .before .before .before .before .before .before .before .before .before .before .pre .0),
-      omega (arith, c .record-length .ensures, record-high (sizesIn (s .s)) (c .before .before .before .before .before .before .before .before .before .before .before .before .before .pre .0 .sizes-good)),
-      root-fits (sizesIn (s .s)) (s .root .now) (s .challenges .now) (s .points .now) (s .indices .now) (s .reply .now) (c .before .before .before .before .before .before .before .before .before .before .before .before .before .pre .0) (c .before .before .before .before .before .before .before .before .before .before .before .before .before .pre .1 .whole) (c .before .before .records-at .result) (c .record-length .result) (c .before .before .records-at .ensures) (c .record-length .ensures),
+      omega (arith, c .before .before .before .before .record-length .ensures, record-high (sizesIn (s .s)) (c .before .before .before .before .before .before .before .before .before .before .before .before .before .pre .0 .sizes-good)),
+      root-fits (sizesIn (s .s)) (s .root .now) (s .challenges .now) (s .points .now) (s .indices .now) (s .reply .now) (c .before .before .before .before .before .before .before .before .before .before .before .before .before .pre .0) (c .before .before .before .before .before .before .before .before .before .before .before .before .before .pre .1 .whole) (c .before .before .before .before .before .records-at .result) (c .before .before .before .before .record-length .result) (c .before .before .before .before .before .records-at .ensures) (c .before .before .before .before .record-length .ensures),
     )
 
 slice-aggregate-same-bytes : tie.Need-slice-aggregate-same-bytes
@@ -45,8 +50,8 @@ returns-2 : tie.Need-returns-2
 returns-2 c =
     let s = c .before .before .before .before .before .before .before .before .before .before .before .before .before .before .before .before .before .args in
     say-8 (sizesIn (s .s)) (s .root .now) (s .challenges .now) (s .points .now) (s .indices .now) (s .reply .now) (c .before .before .before .before .before .before .before .before .before .before .before .before .before .before .before .before .before .pre .0)
-    (sym (elements-tested (sizesIn (s .s)) (s .root .now) (s .challenges .now) (s .points .now) (s .indices .now) (s .reply .now) (c .before .before .before .before .before .before .before .before .before .before .before .before .before .before .before .before .before .pre .0) (s .batching .now) (s .answers .now) (s .values .now) (c .before .before .before .before .before .before .before .before .before .before .before .before .before .before .before .before .before .pre .1) (c .before .before .before .before .before .before .before .before .elements-read .result) (c .before .before .before .before .before .before .before .before .elements-read .ensures)) ∙ not-false (c .before .before .before .before .before .before .before .before .elements-read .result) (c .before .before .before .before .before .before .before .if1 .left))
-    (sym (root-tested (sizesIn (s .s)) (s .root .now) (s .challenges .now) (s .points .now) (s .indices .now) (s .reply .now) (c .before .before .before .before .before .before .before .before .before .before .before .before .before .before .before .before .before .pre .0) (s .batching .now) (s .answers .now) (s .values .now) (c .before .before .before .before .before .before .before .before .before .before .before .before .before .before .before .before .before .pre .1) (c .before .same-bytes .result) (c .before .before .before .reply-root .result) (c .before .before .before .before .before .before .records-at .result) (c .before .before .before .before .record-length .result) (c .before .before .before .before .before .before .records-at .ensures) (c .before .before .before .before .record-length .ensures) (c .before .before .before .reply-root .ensures) (c .before .same-bytes .ensures)) ∙ not-true (c .before .same-bytes .result) (c .if2 .taken))
+    (sym (elements-tested (sizesIn (s .s)) (s .root .now) (s .challenges .now) (s .points .now) (s .indices .now) (s .reply .now) (c .before .before .before .before .before .before .before .before .before .before .before .before .before .before .before .before .before .pre .0) (s .batching .now) (s .answers .now) (c .before .before .before .before .before .before .before .before .before .before .before .before .before .before .before .before .before .pre .1) (c .before .before .before .before .before .before .before .before .before .records-at .result) (c .before .before .before .before .before .before .before .before .record-length .result) (c .before .before .before .before .before .before .before .before .before .records-at .ensures) (c .before .before .before .before .before .before .before .before .record-length .ensures) (c .before .before .before .before .before .before .before .record-values .result) (c .before .before .before .before .before .before .elements-read .result) (c .before .before .before .before .before .before .before .record-values .ensures) (c .before .before .before .before .before .before .elements-read .ensures)) ∙ not-false (c .before .before .before .before .before .before .elements-read .result) (c .before .before .before .before .before .if1 .left))
+    (sym (root-tested (sizesIn (s .s)) (s .root .now) (s .challenges .now) (s .points .now) (s .indices .now) (s .reply .now) (c .before .before .before .before .before .before .before .before .before .before .before .before .before .before .before .before .before .pre .0) (s .batching .now) (s .answers .now) (c .before .before .before .before .before .before .before .before .before .before .before .before .before .before .before .before .before .pre .1) (c .before .before .before .before .before .before .before .before .before .records-at .result) (c .before .before .before .before .before .before .before .before .record-length .result) (c .before .before .before .before .before .before .before .before .before .records-at .ensures) (c .before .before .before .before .before .before .before .before .record-length .ensures) (c .before .same-bytes .result) (c .before .before .before .reply-root .result) (c .before .before .before .reply-root .ensures) (c .before .same-bytes .ensures)) ∙ not-true (c .before .same-bytes .result) (c .if2 .taken))
 
 width-of-requires : tie.Need-width-of-requires
 width-of-requires c κs = search needs
@@ -57,56 +62,53 @@ cast-mu c = search needs
 batching-ok-requires : tie.Need-batching-ok-requires
 batching-ok-requires c κs =
     let s = c .before .before .before .before .before .before .before .before .before .before .before .before .before .before .before .before .before .before .before .args in
-    batching-asks (sizesIn (s .s)) (s .root .now) (s .challenges .now) (s .points .now) (s .indices .now) (s .reply .now) (c .before .before .before .before .before .before .before .before .before .before .before .before .before .before .before .before .before .before .before .pre .0) (s .batching .now) (s .answers .now) (s .values .now) (c .before .before .before .before .before .before .before .before .before .before .before .before .before .before .before .before .before .before .before .pre .1) (c .before .width-of .result) (c .before .width-of .ensures)
+    batching-asks (sizesIn (s .s)) (s .root .now) (s .challenges .now) (s .points .now) (s .indices .now) (s .reply .now) (c .before .before .before .before .before .before .before .before .before .before .before .before .before .before .before .before .before .before .before .pre .0) (s .batching .now) (s .answers .now) (c .before .before .before .before .before .before .before .before .before .before .before .before .before .before .before .before .before .before .before .pre .1) (c .before .before .before .before .before .before .before .before .before .before .before .records-at .result) (c .before .before .before .before .before .before .before .before .before .before .record-length .result) (c .before .before .before .before .before .before .before .before .before .before .before .records-at .ensures) (c .before .before .before .before .before .before .before .before .before .before .record-length .ensures) (c .before .width-of .result) (c .before .width-of .ensures)
 
 returns-3 : tie.Need-returns-3
 returns-3 c =
     let s = c .before .before .before .before .before .before .before .before .before .before .before .before .before .before .before .before .before .before .before .before .before .args in
     say-9 (sizesIn (s .s)) (s .root .now) (s .challenges .now) (s .points .now) (s .indices .now) (s .reply .now) (c .before .before .before .before .before .before .before .before .before .before .before .before .before .before .before .before .before .before .before .before .before .pre .0)
-    (sym (elements-tested (sizesIn (s .s)) (s .root .now) (s .challenges .now) (s .points .now) (s .indices .now) (s .reply .now) (c .before .before .before .before .before .before .before .before .before .before .before .before .before .before .before .before .before .before .before .before .before .pre .0) (s .batching .now) (s .answers .now) (s .values .now) (c .before .before .before .before .before .before .before .before .before .before .before .before .before .before .before .before .before .before .before .before .before .pre .1) (c .before .before .before .before .before .before .before .before .before .before .before .before .elements-read .result) (c .before .before .before .before .before .before .before .before .before .before .before .before .elements-read .ensures)) ∙ not-false (c .before .before .before .before .before .before .before .before .before .before .before .before .elements-read .result) (c .before .before .before .before .before .before .before .before .before .before .before .if1 .left))
-    (sym (root-tested (sizesIn (s .s)) (s .root .now) (s .challenges .now) (s .points .now) (s .indices .now) (s .reply .now) (c .before .before .before .before .before .before .before .before .before .before .before .before .before .before .before .before .before .before .before .before .before .pre .0) (s .batching .now) (s .answers .now) (s .values .now) (c .before .before .before .before .before .before .before .before .before .before .before .before .before .before .before .before .before .before .before .before .before .pre .1) (c .before .before .before .before .before .same-bytes .result) (c .before .before .before .before .before .before .before .reply-root .result) (c .before .before .before .before .before .before .before .before .before .before .records-at .result) (c .before .before .before .before .before .before .before .before .record-length .result) (c .before .before .before .before .before .before .before .before .before .before .records-at .ensures) (c .before .before .before .before .before .before .before .before .record-length .ensures) (c .before .before .before .before .before .before .before .reply-root .ensures) (c .before .before .before .before .before .same-bytes .ensures)) ∙ not-false (c .before .before .before .before .before .same-bytes .result) (c .before .before .before .before .if2 .left))
-    (sym (batching-tested (sizesIn (s .s)) (s .root .now) (s .challenges .now) (s .points .now) (s .indices .now) (s .reply .now) (c .before .before .before .before .before .before .before .before .before .before .before .before .before .before .before .before .before .before .before .before .before .pre .0) (s .batching .now) (s .answers .now) (s .values .now) (c .before .before .before .before .before .before .before .before .before .before .before .before .before .before .before .before .before .before .before .before .before .pre .1) (c .before .batching-ok .result) (c .before .before .before .width-of .result) (c .before .before .before .width-of .ensures) (c .before .batching-ok .ensures)) ∙ not-true (c .before .batching-ok .result) (c .if3 .taken))
-
-record-values-requires : tie.Need-record-values-requires
-record-values-requires c κs =
-    c .before .before .before .before .before .before .before .before .before .before .before .before .before .before .before .before .before .before .before .before .before .pre .0 .sizes-good
+    (sym (elements-tested (sizesIn (s .s)) (s .root .now) (s .challenges .now) (s .points .now) (s .indices .now) (s .reply .now) (c .before .before .before .before .before .before .before .before .before .before .before .before .before .before .before .before .before .before .before .before .before .pre .0) (s .batching .now) (s .answers .now) (c .before .before .before .before .before .before .before .before .before .before .before .before .before .before .before .before .before .before .before .before .before .pre .1) (c .before .before .before .before .before .before .before .before .before .before .before .before .before .records-at .result) (c .before .before .before .before .before .before .before .before .before .before .before .before .record-length .result) (c .before .before .before .before .before .before .before .before .before .before .before .before .before .records-at .ensures) (c .before .before .before .before .before .before .before .before .before .before .before .before .record-length .ensures) (c .before .before .before .before .before .before .before .before .before .before .before .record-values .result) (c .before .before .before .before .before .before .before .before .before .before .elements-read .result) (c .before .before .before .before .before .before .before .before .before .before .before .record-values .ensures) (c .before .before .before .before .before .before .before .before .before .before .elements-read .ensures)) ∙ not-false (c .before .before .before .before .before .before .before .before .before .before .elements-read .result) (c .before .before .before .before .before .before .before .before .before .if1 .left))
+    (sym (root-tested (sizesIn (s .s)) (s .root .now) (s .challenges .now) (s .points .now) (s .indices .now) (s .reply .now) (c .before .before .before .before .before .before .before .before .before .before .before .before .before .before .before .before .before .before .before .before .before .pre .0) (s .batching .now) (s .answers .now) (c .before .before .before .before .before .before .before .before .before .before .before .before .before .before .before .before .before .before .before .before .before .pre .1) (c .before .before .before .before .before .before .before .before .before .before .before .before .before .records-at .result) (c .before .before .before .before .before .before .before .before .before .before .before .before .record-length .result) (c .before .before .before .before .before .before .before .before .before .before .before .before .before .records-at .ensures) (c .before .before .before .before .before .before .before .before .before .before .before .before .record-length .ensures) (c .before .before .before .before .before .same-bytes .result) (c .before .before .before .before .before .before .before .reply-root .result) (c .before .before .before .before .before .before .before .reply-root .ensures) (c .before .before .before .before .before .same-bytes .ensures)) ∙ not-false (c .before .before .before .before .before .same-bytes .result) (c .before .before .before .before .if2 .left))
+    (sym (batching-tested (sizesIn (s .s)) (s .root .now) (s .challenges .now) (s .points .now) (s .indices .now) (s .reply .now) (c .before .before .before .before .before .before .before .before .before .before .before .before .before .before .before .before .before .before .before .before .before .pre .0) (s .batching .now) (s .answers .now) (c .before .before .before .before .before .before .before .before .before .before .before .before .before .before .before .before .before .before .before .before .before .pre .1) (c .before .before .before .before .before .before .before .before .before .before .before .before .before .records-at .result) (c .before .before .before .before .before .before .before .before .before .before .before .before .record-length .result) (c .before .before .before .before .before .before .before .before .before .before .before .before .before .records-at .ensures) (c .before .before .before .before .before .before .before .before .before .before .before .before .record-length .ensures) (c .before .batching-ok .result) (c .before .before .before .width-of .result) (c .before .before .before .width-of .ensures) (c .before .batching-ok .ensures)) ∙ not-true (c .before .batching-ok .result) (c .if3 .taken))
 
 leaf-count-requires : tie.Need-leaf-count-requires
 leaf-count-requires c κs =
-    c .before .before .before .before .before .before .before .before .before .before .before .before .before .before .before .before .before .before .before .before .before .before .pre .0 .sizes-good .h-high
+    c .before .before .before .before .before .before .before .before .before .before .before .before .before .before .before .before .before .before .before .before .before .pre .0 .sizes-good .h-high
 
 evaluation-ok-requires : tie.Need-evaluation-ok-requires
 evaluation-ok-requires c κs =
-    let s = c .before .before .before .before .before .before .before .before .before .before .before .before .before .before .before .before .before .before .before .before .before .before .before .args in
-    evaluation-asks (sizesIn (s .s)) (s .root .now) (s .challenges .now) (s .points .now) (s .indices .now) (s .reply .now) (c .before .before .before .before .before .before .before .before .before .before .before .before .before .before .before .before .before .before .before .before .before .before .before .pre .0) (s .batching .now) (s .answers .now) (s .values .now) (c .before .before .before .before .before .before .before .before .before .before .before .before .before .before .before .before .before .before .before .before .before .before .before .pre .1) (c .leaf-count .result) (c .before .before .before .before .before .width-of .result) (c .before .record-values .result) (c .leaf-count .ensures) (c .before .before .before .before .before .width-of .ensures) (c .before .record-values .ensures)
+    let s = c .before .before .before .before .before .before .before .before .before .before .before .before .before .before .before .before .before .before .before .before .before .before .args in
+    evaluation-asks (sizesIn (s .s)) (s .root .now) (s .challenges .now) (s .points .now) (s .indices .now) (s .reply .now) (c .before .before .before .before .before .before .before .before .before .before .before .before .before .before .before .before .before .before .before .before .before .before .pre .0) (s .batching .now) (s .answers .now) (c .before .before .before .before .before .before .before .before .before .before .before .before .before .before .before .before .before .before .before .before .before .before .pre .1) (c .before .before .before .before .before .before .before .before .before .before .before .before .before .before .records-at .result) (c .before .before .before .before .before .before .before .before .before .before .before .before .before .record-length .result) (c .before .before .before .before .before .before .before .before .before .before .before .before .before .before .records-at .ensures) (c .before .before .before .before .before .before .before .before .before .before .before .before .before .record-length .ensures) (c .leaf-count .result) (c .before .before .before .before .width-of .result) (c .leaf-count .ensures) (c .before .before .before .before .width-of .ensures)
 
 returns-4 : tie.Need-returns-4
 returns-4 c =
-    let s = c .before .before .before .before .before .before .before .before .before .before .before .before .before .before .before .before .before .before .before .before .before .before .before .before .before .args in
-    say-10 (sizesIn (s .s)) (s .root .now) (s .challenges .now) (s .points .now) (s .indices .now) (s .reply .now) (c .before .before .before .before .before .before .before .before .before .before .before .before .before .before .before .before .before .before .before .before .before .before .before .before .before .pre .0)
-    (sym (elements-tested (sizesIn (s .s)) (s .root .now) (s .challenges .now) (s .points .now) (s .indices .now) (s .reply .now) (c .before .before .before .before .before .before .before .before .before .before .before .before .before .before .before .before .before .before .before .before .before .before .before .before .before .pre .0) (s .batching .now) (s .answers .now) (s .values .now) (c .before .before .before .before .before .before .before .before .before .before .before .before .before .before .before .before .before .before .before .before .before .before .before .before .before .pre .1) (c .before .before .before .before .before .before .before .before .before .before .before .before .before .before .before .before .elements-read .result) (c .before .before .before .before .before .before .before .before .before .before .before .before .before .before .before .before .elements-read .ensures)) ∙ not-false (c .before .before .before .before .before .before .before .before .before .before .before .before .before .before .before .before .elements-read .result) (c .before .before .before .before .before .before .before .before .before .before .before .before .before .before .before .if1 .left))
-    (sym (root-tested (sizesIn (s .s)) (s .root .now) (s .challenges .now) (s .points .now) (s .indices .now) (s .reply .now) (c .before .before .before .before .before .before .before .before .before .before .before .before .before .before .before .before .before .before .before .before .before .before .before .before .before .pre .0) (s .batching .now) (s .answers .now) (s .values .now) (c .before .before .before .before .before .before .before .before .before .before .before .before .before .before .before .before .before .before .before .before .before .before .before .before .before .pre .1) (c .before .before .before .before .before .before .before .before .before .same-bytes .result) (c .before .before .before .before .before .before .before .before .before .before .before .reply-root .result) (c .before .before .before .before .before .before .before .before .before .before .before .before .before .before .records-at .result) (c .before .before .before .before .before .before .before .before .before .before .before .before .record-length .result) (c .before .before .before .before .before .before .before .before .before .before .before .before .before .before .records-at .ensures) (c .before .before .before .before .before .before .before .before .before .before .before .before .record-length .ensures) (c .before .before .before .before .before .before .before .before .before .before .before .reply-root .ensures) (c .before .before .before .before .before .before .before .before .before .same-bytes .ensures)) ∙ not-false (c .before .before .before .before .before .before .before .before .before .same-bytes .result) (c .before .before .before .before .before .before .before .before .if2 .left))
-    (sym (batching-tested (sizesIn (s .s)) (s .root .now) (s .challenges .now) (s .points .now) (s .indices .now) (s .reply .now) (c .before .before .before .before .before .before .before .before .before .before .before .before .before .before .before .before .before .before .before .before .before .before .before .before .before .pre .0) (s .batching .now) (s .answers .now) (s .values .now) (c .before .before .before .before .before .before .before .before .before .before .before .before .before .before .before .before .before .before .before .before .before .before .before .before .before .pre .1) (c .before .before .before .before .before .batching-ok .result) (c .before .before .before .before .before .before .before .width-of .result) (c .before .before .before .before .before .before .before .width-of .ensures) (c .before .before .before .before .before .batching-ok .ensures)) ∙ not-false (c .before .before .before .before .before .batching-ok .result) (c .before .before .before .before .if3 .left))
-    (sym (evaluation-tested (sizesIn (s .s)) (s .root .now) (s .challenges .now) (s .points .now) (s .indices .now) (s .reply .now) (c .before .before .before .before .before .before .before .before .before .before .before .before .before .before .before .before .before .before .before .before .before .before .before .before .before .pre .0) (s .batching .now) (s .answers .now) (s .values .now) (c .before .before .before .before .before .before .before .before .before .before .before .before .before .before .before .before .before .before .before .before .before .before .before .before .before .pre .1) (c .before .evaluation-ok .result) (c .before .before .leaf-count .result) (c .before .before .before .before .before .before .before .width-of .result) (c .before .before .before .record-values .result) (c .before .before .leaf-count .ensures) (c .before .before .before .before .before .before .before .width-of .ensures) (c .before .before .before .record-values .ensures) (c .before .evaluation-ok .ensures)) ∙ not-true (c .before .evaluation-ok .result) (c .if4 .taken))
+    let s = c .before .before .before .before .before .before .before .before .before .before .before .before .before .before .before .before .before .before .before .before .before .before .before .before .args in
+    say-10 (sizesIn (s .s)) (s .root .now) (s .challenges .now) (s .points .now) (s .indices .now) (s .reply .now) (c .before .before .before .before .before .before .before .before .before .before .before .before .before .before .before .before .before .before .before .before .before .before .before .before .pre .0)
+    (sym (elements-tested (sizesIn (s .s)) (s .root .now) (s .challenges .now) (s .points .now) (s .indices .now) (s .reply .now) (c .before .before .before .before .before .before .before .before .before .before .before .before .before .before .before .before .before .before .before .before .before .before .before .before .pre .0) (s .batching .now) (s .answers .now) (c .before .before .before .before .before .before .before .before .before .before .before .before .before .before .before .before .before .before .before .before .before .before .before .before .pre .1) (c .before .before .before .before .before .before .before .before .before .before .before .before .before .before .before .before .records-at .result) (c .before .before .before .before .before .before .before .before .before .before .before .before .before .before .before .record-length .result) (c .before .before .before .before .before .before .before .before .before .before .before .before .before .before .before .before .records-at .ensures) (c .before .before .before .before .before .before .before .before .before .before .before .before .before .before .before .record-length .ensures) (c .before .before .before .before .before .before .before .before .before .before .before .before .before .before .record-values .result) (c .before .before .before .before .before .before .before .before .before .before .before .before .before .elements-read .result) (c .before .before .before .before .before .before .before .before .before .before .before .before .before .before .record-values .ensures) (c .before .before .before .before .before .before .before .before .before .before .before .before .before .elements-read .ensures)) ∙ not-false (c .before .before .before .before .before .before .before .before .before .before .before .before .before .elements-read .result) (c .before .before .before .before .before .before .before .before .before .before .before .before .if1 .left))
+    (sym (root-tested (sizesIn (s .s)) (s .root .now) (s .challenges .now) (s .points .now) (s .indices .now) (s .reply .now) (c .before .before .before .before .before .before .before .before .before .before .before .before .before .before .before .before .before .before .before .before .before .before .before .before .pre .0) (s .batching .now) (s .answers .now) (c .before .before .before .before .before .before .before .before .before .before .before .before .before .before .before .before .before .before .before .before .before .before .before .before .pre .1) (c .before .before .before .before .before .before .before .before .before .before .before .before .before .before .before .before .records-at .result) (c .before .before .before .before .before .before .before .before .before .before .before .before .before .before .before .record-length .result) (c .before .before .before .before .before .before .before .before .before .before .before .before .before .before .before .before .records-at .ensures) (c .before .before .before .before .before .before .before .before .before .before .before .before .before .before .before .record-length .ensures) (c .before .before .before .before .before .before .before .before .same-bytes .result) (c .before .before .before .before .before .before .before .before .before .before .reply-root .result) (c .before .before .before .before .before .before .before .before .before .before .reply-root .ensures) (c .before .before .before .before .before .before .before .before .same-bytes .ensures)) ∙ not-false (c .before .before .before .before .before .before .before .before .same-bytes .result) (c .before .before .before .before .before .before .before .if2 .left))
+    (sym (batching-tested (sizesIn (s .s)) (s .root .now) (s .challenges .now) (s .points .now) (s .indices .now) (s .reply .now) (c .before .before .before .before .before .before .before .before .before .before .before .before .before .before .before .before .before .before .before .before .before .before .before .before .pre .0) (s .batching .now) (s .answers .now) (c .before .before .before .before .before .before .before .before .before .before .before .before .before .before .before .before .before .before .before .before .before .before .before .before .pre .1) (c .before .before .before .before .before .before .before .before .before .before .before .before .before .before .before .before .records-at .result) (c .before .before .before .before .before .before .before .before .before .before .before .before .before .before .before .record-length .result) (c .before .before .before .before .before .before .before .before .before .before .before .before .before .before .before .before .records-at .ensures) (c .before .before .before .before .before .before .before .before .before .before .before .before .before .before .before .record-length .ensures) (c .before .before .before .before .batching-ok .result) (c .before .before .before .before .before .before .width-of .result) (c .before .before .before .before .before .before .width-of .ensures) (c .before .before .before .before .batching-ok .ensures)) ∙ not-false (c .before .before .before .before .batching-ok .result) (c .before .before .before .if3 .left))
+    (sym (evaluation-tested (sizesIn (s .s)) (s .root .now) (s .challenges .now) (s .points .now) (s .indices .now) (s .reply .now) (c .before .before .before .before .before .before .before .before .before .before .before .before .before .before .before .before .before .before .before .before .before .before .before .before .pre .0) (s .batching .now) (s .answers .now) (c .before .before .before .before .before .before .before .before .before .before .before .before .before .before .before .before .before .before .before .before .before .before .before .before .pre .1) (c .before .before .before .before .before .before .before .before .before .before .before .before .before .before .before .before .records-at .result) (c .before .before .before .before .before .before .before .before .before .before .before .before .before .before .before .record-length .result) (c .before .before .before .before .before .before .before .before .before .before .before .before .before .before .before .before .records-at .ensures) (c .before .before .before .before .before .before .before .before .before .before .before .before .before .before .before .record-length .ensures) (c .before .evaluation-ok .result) (c .before .before .leaf-count .result) (c .before .before .before .before .before .before .width-of .result) (c .before .before .leaf-count .ensures) (c .before .before .before .before .before .before .width-of .ensures) (c .before .evaluation-ok .ensures)) ∙ not-true (c .before .evaluation-ok .result) (c .if4 .taken))
 
 returns-5 : tie.Need-returns-5
 returns-5 c =
-    let s = c .before .before .before .before .before .before .before .before .before .before .before .before .before .before .before .before .before .before .before .before .before .before .before .before .before .args in
-    say-0 (sizesIn (s .s)) (s .root .now) (s .challenges .now) (s .points .now) (s .indices .now) (s .reply .now) (c .before .before .before .before .before .before .before .before .before .before .before .before .before .before .before .before .before .before .before .before .before .before .before .before .before .pre .0)
-    (sym (elements-tested (sizesIn (s .s)) (s .root .now) (s .challenges .now) (s .points .now) (s .indices .now) (s .reply .now) (c .before .before .before .before .before .before .before .before .before .before .before .before .before .before .before .before .before .before .before .before .before .before .before .before .before .pre .0) (s .batching .now) (s .answers .now) (s .values .now) (c .before .before .before .before .before .before .before .before .before .before .before .before .before .before .before .before .before .before .before .before .before .before .before .before .before .pre .1) (c .before .before .before .before .before .before .before .before .before .before .before .before .before .before .before .before .elements-read .result) (c .before .before .before .before .before .before .before .before .before .before .before .before .before .before .before .before .elements-read .ensures)) ∙ not-false (c .before .before .before .before .before .before .before .before .before .before .before .before .before .before .before .before .elements-read .result) (c .before .before .before .before .before .before .before .before .before .before .before .before .before .before .before .if1 .left))
-    (sym (root-tested (sizesIn (s .s)) (s .root .now) (s .challenges .now) (s .points .now) (s .indices .now) (s .reply .now) (c .before .before .before .before .before .before .before .before .before .before .before .before .before .before .before .before .before .before .before .before .before .before .before .before .before .pre .0) (s .batching .now) (s .answers .now) (s .values .now) (c .before .before .before .before .before .before .before .before .before .before .before .before .before .before .before .before .before .before .before .before .before .before .before .before .before .pre .1) (c .before .before .before .before .before .before .before .before .before .same-bytes .result) (c .before .before .before .before .before .before .before .before .before .before .before .reply-root .result) (c .before .before .before .before .before .before .before .before .before .before .before .before .before .before .records-at .result) (c .before .before .before .before .before .before .before .before .before .before .before .before .record-length .result) (c .before .before .before .before .before .before .before .before .before .before .before .before .before .before .records-at .ensures) (c .before .before .before .before .before .before .before .before .before .before .before .before .record-length .ensures) (c .before .before .before .before .before .before .before .before .before .before .before .reply-root .ensures) (c .before .before .before .before .before .before .before .before .before .same-bytes .ensures)) ∙ not-false (c .before .before .before .before .before .before .before .before .before .same-bytes .result) (c .before .before .before .before .before .before .before .before .if2 .left))
-    (sym (batching-tested (sizesIn (s .s)) (s .root .now) (s .challenges .now) (s .points .now) (s .indices .now) (s .reply .now) (c .before .before .before .before .before .before .before .before .before .before .before .before .before .before .before .before .before .before .before .before .before .before .before .before .before .pre .0) (s .batching .now) (s .answers .now) (s .values .now) (c .before .before .before .before .before .before .before .before .before .before .before .before .before .before .before .before .before .before .before .before .before .before .before .before .before .pre .1) (c .before .before .before .before .before .batching-ok .result) (c .before .before .before .before .before .before .before .width-of .result) (c .before .before .before .before .before .before .before .width-of .ensures) (c .before .before .before .before .before .batching-ok .ensures)) ∙ not-false (c .before .before .before .before .before .batching-ok .result) (c .before .before .before .before .if3 .left))
-    (sym (evaluation-tested (sizesIn (s .s)) (s .root .now) (s .challenges .now) (s .points .now) (s .indices .now) (s .reply .now) (c .before .before .before .before .before .before .before .before .before .before .before .before .before .before .before .before .before .before .before .before .before .before .before .before .before .pre .0) (s .batching .now) (s .answers .now) (s .values .now) (c .before .before .before .before .before .before .before .before .before .before .before .before .before .before .before .before .before .before .before .before .before .before .before .before .before .pre .1) (c .before .evaluation-ok .result) (c .before .before .leaf-count .result) (c .before .before .before .before .before .before .before .width-of .result) (c .before .before .before .record-values .result) (c .before .before .leaf-count .ensures) (c .before .before .before .before .before .before .before .width-of .ensures) (c .before .before .before .record-values .ensures) (c .before .evaluation-ok .ensures)) ∙ not-false (c .before .evaluation-ok .result) (c .if4 .left))
+    let s = c .before .before .before .before .before .before .before .before .before .before .before .before .before .before .before .before .before .before .before .before .before .before .before .before .args in
+    say-0 (sizesIn (s .s)) (s .root .now) (s .challenges .now) (s .points .now) (s .indices .now) (s .reply .now) (c .before .before .before .before .before .before .before .before .before .before .before .before .before .before .before .before .before .before .before .before .before .before .before .before .pre .0)
+    (sym (elements-tested (sizesIn (s .s)) (s .root .now) (s .challenges .now) (s .points .now) (s .indices .now) (s .reply .now) (c .before .before .before .before .before .before .before .before .before .before .before .before .before .before .before .before .before .before .before .before .before .before .before .before .pre .0) (s .batching .now) (s .answers .now) (c .before .before .before .before .before .before .before .before .before .before .before .before .before .before .before .before .before .before .before .before .before .before .before .before .pre .1) (c .before .before .before .before .before .before .before .before .before .before .before .before .before .before .before .before .records-at .result) (c .before .before .before .before .before .before .before .before .before .before .before .before .before .before .before .record-length .result) (c .before .before .before .before .before .before .before .before .before .before .before .before .before .before .before .before .records-at .ensures) (c .before .before .before .before .before .before .before .before .before .before .before .before .before .before .before .record-length .ensures) (c .before .before .before .before .before .before .before .before .before .before .before .before .before .before .record-values .result) (c .before .before .before .before .before .before .before .before .before .before .before .before .before .elements-read .result) (c .before .before .before .before .before .before .before .before .before .before .before .before .before .before .record-values .ensures) (c .before .before .before .before .before .before .before .before .before .before .before .before .before .elements-read .ensures)) ∙ not-false (c .before .before .before .before .before .before .before .before .before .before .before .before .before .elements-read .result) (c .before .before .before .before .before .before .before .before .before .before .before .before .if1 .left))
+    (sym (root-tested (sizesIn (s .s)) (s .root .now) (s .challenges .now) (s .points .now) (s .indices .now) (s .reply .now) (c .before .before .before .before .before .before .before .before .before .before .before .before .before .before .before .before .before .before .before .before .before .before .before .before .pre .0) (s .batching .now) (s .answers .now) (c .before .before .before .before .before .before .before .before .before .before .before .before .before .before .before .before .before .before .before .before .before .before .before .before .pre .1) (c .before .before .before .before .before .before .before .before .before .before .before .before .before .before .before .before .records-at .result) (c .before .before .before .before .before .before .before .before .before .before .before .before .before .before .before .record-length .result) (c .before .before .before .before .before .before .before .before .before .before .before .before .before .before .before .before .records-at .ensures) (c .before .before .before .before .before .before .before .before .before .before .before .before .before .before .before .record-length .ensures) (c .before .before .before .before .before .before .before .before .same-bytes .result) (c .before .before .before .before .before .before .before .before .before .before .reply-root .result) (c .before .before .before .before .before .before .before .before .before .before .reply-root .ensures) (c .before .before .before .before .before .before .before .before .same-bytes .ensures)) ∙ not-false (c .before .before .before .before .before .before .before .before .same-bytes .result) (c .before .before .before .before .before .before .before .if2 .left))
+    (sym (batching-tested (sizesIn (s .s)) (s .root .now) (s .challenges .now) (s .points .now) (s .indices .now) (s .reply .now) (c .before .before .before .before .before .before .before .before .before .before .before .before .before .before .before .before .before .before .before .before .before .before .before .before .pre .0) (s .batching .now) (s .answers .now) (c .before .before .before .before .before .before .before .before .before .before .before .before .before .before .before .before .before .before .before .before .before .before .before .before .pre .1) (c .before .before .before .before .before .before .before .before .before .before .before .before .before .before .before .before .records-at .result) (c .before .before .before .before .before .before .before .before .before .before .before .before .before .before .before .record-length .result) (c .before .before .before .before .before .before .before .before .before .before .before .before .before .before .before .before .records-at .ensures) (c .before .before .before .before .before .before .before .before .before .before .before .before .before .before .before .record-length .ensures) (c .before .before .before .before .batching-ok .result) (c .before .before .before .before .before .before .width-of .result) (c .before .before .before .before .before .before .width-of .ensures) (c .before .before .before .before .batching-ok .ensures)) ∙ not-false (c .before .before .before .before .batching-ok .result) (c .before .before .before .if3 .left))
+    (sym (evaluation-tested (sizesIn (s .s)) (s .root .now) (s .challenges .now) (s .points .now) (s .indices .now) (s .reply .now) (c .before .before .before .before .before .before .before .before .before .before .before .before .before .before .before .before .before .before .before .before .before .before .before .before .pre .0) (s .batching .now) (s .answers .now) (c .before .before .before .before .before .before .before .before .before .before .before .before .before .before .before .before .before .before .before .before .before .before .before .before .pre .1) (c .before .before .before .before .before .before .before .before .before .before .before .before .before .before .before .before .records-at .result) (c .before .before .before .before .before .before .before .before .before .before .before .before .before .before .before .record-length .result) (c .before .before .before .before .before .before .before .before .before .before .before .before .before .before .before .before .records-at .ensures) (c .before .before .before .before .before .before .before .before .before .before .before .before .before .before .before .record-length .ensures) (c .before .evaluation-ok .result) (c .before .before .leaf-count .result) (c .before .before .before .before .before .before .width-of .result) (c .before .before .leaf-count .ensures) (c .before .before .before .before .before .before .width-of .ensures) (c .before .evaluation-ok .ensures)) ∙ not-false (c .before .evaluation-ok .result) (c .if4 .left))
 
 pub words-verdict-spec : {M : Type 1} → statement M
 words-verdict-spec =
     tie.close
     (tie.spec
+    records-at-requires
+    record-length-requires
+    record-values-requires
     elements-read-requires
     returns
-    records-at-requires
     cast-reply-root
-    record-length-requires
     reply-root-requires
     slice-aggregate-same-bytes
     same-bytes-requires
@@ -115,7 +117,6 @@ words-verdict-spec =
     cast-mu
     batching-ok-requires
     returns-3
-    record-values-requires
     leaf-count-requires
     evaluation-ok-requires
     returns-4
