@@ -9,7 +9,7 @@ use lib.Dec.{lit<}
 use lib.ListN.{length, getD, length-map, replicate, length-replicate, List·getD-map}
 use Rattle.lists.specs.All.{Distinct}
 use Rattle.algebra.specs.Prime.{q}
-use Rattle.algebra.specs.Field.{K, of, of-mul, of-zero, of-one, _⊕_, _⊗_, _⊝_, ⊖, 𝟎, 𝟏, dv, ring, dif-path, ⊗-assoc, ⊗-comm, ⊗-one}
+use Rattle.algebra.specs.Field.{K, of, of-mul, of-one, zero-val, _⊕_, _⊗_, _⊝_, ⊖, 𝟎, 𝟏, dv, ring, dif-path, ⊗-assoc, ⊗-comm, ⊗-one}
 use Rattle.algebra.specs.Poly.{eval, prod}
 use Rattle.algebra.specs.Interp.{dot, dot-comm, interp, bases, length-bases, eval-interp}
 use Rattle.algebra.specs.Lagrange.{sign, elementsFrom, downTo, weight, Weights, lsum, lagrange, weights, elementsFrom-distinct, from-zero}
@@ -180,9 +180,6 @@ ofs-points : (a n : ℕ) → ofs (upFrom a n) ≡ elementsFrom a n
 unfolding upFrom elementsFrom
 ofs-points a zero = refl
 ofs-points a (suc n) = ap (λ (t : List K). of a ∷ t) (ofs-points (suc a) n)
-
-zero-val : 𝟎 .val ≡ 0
-zero-val = ap (λ (a : K). a .val) (sym of-zero) ∙ val-of-below 0 (omega arith)
 
 basis-at : (a x n c : ℕ) → c < n → n ≤ 320 → a + n ≤ q
     → getD (map (λ (b : List K). eval b (of x)) (bases (ofs (upFrom a n)))) c 𝟎

@@ -5,7 +5,7 @@ use Prim.Native.Nat.{ℕ, _+_, _<_}
 use native.Mathlib.Omega.{arith}
 use lib.ListN.{length, getD, length-map, List·getD-map}
 use Rattle.lists.specs.All.{Distinct}
-use Rattle.algebra.specs.Field.{K, of, of-zero, _⊕_, _⊗_, 𝟎}
+use Rattle.algebra.specs.Field.{K, of, of-zero, zero-val, _⊕_, _⊗_, 𝟎}
 use Rattle.algebra.specs.Poly.{eval, scale, coeff-add, coeff-scale}
 use Rattle.algebra.specs.Interp.{interp}
 use Rattle.algebra.specs.Rows.{batch, eval-batch, length-batch, answer-honest}
@@ -36,9 +36,6 @@ ofs-column : (ps : List (List ℕ)) (i : ℕ) → column (map ofs ps) i ≡ ofs 
 unfolding column columnN
 ofs-column [] i = refl
 ofs-column (p ∷ ps) i = ap₂ (λ (c : K) (t : List K). c ∷ t) (ap (λ (d : K). getD (ofs p) i d) (sym of-zero) ∙ List·getD-map of p i 0) (ofs-column ps i)
-
-zero-val : 𝟎 .val ≡ 0
-zero-val = ap (λ (a : K). a .val) (sym of-zero) ∙ val-of-below 0 (omega arith)
 
 -- what a program computes for coefficient i
 pub batchN-at : (z : ℕ) (ps : List (List ℕ)) (i : ℕ) → getD (batchN z ps) i 0 ≡ evalN (columnN ps i) z

@@ -220,6 +220,6 @@ inv-unique a b e = sym (⊗-one b) ∙ ap (λ (t : K). b ⊗ t) (sym (inv-right 
     regroup : (b a c : K) → b ⊗ (a ⊗ c) ≡ (a ⊗ b) ⊗ c
     regroup a b c = rw (← dv a, ← dv b, ← dv c) (simp ring (dif-path _ _ _ _ (omega arith)))
 
-zero-val : 𝟎 .val ≡ 0
+pub zero-val : 𝟎 .val ≡ 0
 unfolding 𝟎 of
 zero-val = refl

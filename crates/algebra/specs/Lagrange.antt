@@ -10,7 +10,7 @@ use lib.ListN.{length, length-append}
 use Rattle.algebra.specs.Prime.{q}
 use Rattle.lists.specs.All.{All, Distinct}
 use Rattle.algebra.specs.Field.{K, of, of-inj, of-add, _⊕_, _⊗_, _⊝_, ⊖, 𝟎, 𝟏, dv, ring, dif-path, ⊕-zero, ⊗-assoc, ⊗-one, ⊗-zero}
-use Rattle.algebra.specs.Poly.{eval, addV, scale, eval-add, eval-scale, length-addV-left, length-scale, unique, vanish, length-vanish, eval-vanish, prod, prod-zero}
+use Rattle.algebra.specs.Poly.{eval, addV, scale, eval-add, eval-scale, length-addV-left, length-scale, unique, vanish, length-vanish, eval-vanish, prod, prod-zero, self-factor}
 use Rattle.algebra.specs.Interp.{interp, interp-values, length-interp, values-all}
 
 -- ---- factorials as elements
@@ -192,13 +192,10 @@ lsum-zero pre (x ∷ post) (w ∷ ws) (y ∷ ys) z h = ap₂ _⊕_ (rw h (none (
 
 lsum-own : (pre post ws ys : List K) (x w y : K) → (prod pre x ⊗ prod post x) ⊗ w ≡ 𝟏 → lsum pre (x ∷ post) (w ∷ ws) (y ∷ ys) x ≡ y
 unfolding lsum prod
-lsum-own pre post ws ys x w y h = ap₂ _⊕_ (group y w (prod pre x ⊗ prod post x) ∙ rw h (⊗-one y)) (lsum-zero (x ∷ pre) post ws ys x (self x (prod pre x))) ∙ ⊕-zero y
+lsum-own pre post ws ys x w y h = ap₂ _⊕_ (group y w (prod pre x ⊗ prod post x) ∙ rw h (⊗-one y)) (lsum-zero (x ∷ pre) post ws ys x (self-factor x (prod pre x))) ∙ ⊕-zero y
   where
     group : (a b c : K) → a ⊗ b ⊗ c ≡ a ⊗ (c ⊗ b)
     group a b c = rw (← dv a, ← dv b, ← dv c) (simp ring (dif-path _ _ _ _ (omega arith)))
-
-    self : (a b : K) → (a ⊝ a) ⊗ b ≡ 𝟎
-    self a b = rw (← dv a, ← dv b) (simp ring (dif-path _ _ _ _ (omega arith)))
 
 lsum-others : (pre post ws ys : List K) (x w y : K) (zs : List K) → All (λ (z : K). prod post z ≡ 𝟎) zs
     → map (λ (z : K). lsum pre (x ∷ post) (w ∷ ws) (y ∷ ys) z) zs ≡ map (λ (z : K). lsum (x ∷ pre) post ws ys z) zs

@@ -211,7 +211,7 @@ unfolding prod
 prod-zero-more a bs [] h = tt
 prod-zero-more a bs (x ∷ xs) h = (rw (h .0) (⊗-zero _), prod-zero-more a bs xs (h .1))
 
-self-factor : (a u : K) → (a ⊝ a) ⊗ u ≡ 𝟎
+pub self-factor : (a u : K) → (a ⊝ a) ⊗ u ≡ 𝟎
 self-factor a u = rw (← dv a, ← dv u) (simp ring (dif-path _ _ _ _ (omega arith)))
 
 pub prod-zero : (xs : List K) → All (λ (x : K). prod xs x ≡ 𝟎) xs

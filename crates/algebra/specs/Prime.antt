@@ -12,7 +12,8 @@ use lib.Dec.{T, ltb, ltb→lt, lit<}
 abbrev pub q : ℕ
 q = 4294967291
 
-both : Bool → Bool → Bool
+-- both tests hold, computed
+unfoldable pub both : Bool → Bool → Bool
 both true b = b
 both false b = false
 
@@ -25,12 +26,12 @@ trial-ok : T (trial 65535)
 unfolding trial both
 trial-ok = tt
 
-both-left : (a b : Bool) → T (both a b) → T a
+pub both-left : (a b : Bool) → T (both a b) → T a
 unfolding both
 both-left true b t = tt
 both-left false b t = absurd t
 
-both-right : (a b : Bool) → T (both a b) → T b
+pub both-right : (a b : Bool) → T (both a b) → T b
 unfolding both
 both-right true b t = t
 both-right false b t = absurd t

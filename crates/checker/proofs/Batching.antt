@@ -6,25 +6,19 @@ use Prim.Native.Nat.{ℕ, _+_, _-_, _*_, _%_, _≤_, _<_}
 use native.Mathlib.Nat.{sub-zero}
 use native.Mathlib.Omega.{arith}
 use lib.Dec.{eqb}
-use lib.ListN.{length, getD, take, drop, length-drop}
+use lib.ListN.{length, getD, take, drop}
 use lib.Seq.{length-take-le}
 use Rattle.lists.specs.Pieces.{piece}
 use Rattle.lists.specs.Tabulate.{tabulate, length-from}
-use Rattle.lists.specs.Tests.{each, each-stop}
+use Rattle.lists.specs.Tests.{each, each-stop, each-ext, each-swap}
 use Rattle.algebra.specs.Prime.{q}
 use Rattle.algebra.specs.Columns.{powN}
 use Rattle.algebra.specs.Dot.{dotN, dot-powersN}
 use Rattle.algebra.specs.Numbers.{evalN}
 use Rattle.scheme.specs.Sizes.{leafPoint}
 use Rattle.checker.specs.Words.{rowsOf, powersAt, batchOf, batchBy, dottedAt, valuedAt, valuedLeaf, batchedAt, batchedRow}
-use Rattle.checker.proofs.Rows.{each-ext, row-at}
-use Rattle.checker.proofs.Flat.{each-swap}
-
-pub part-is : (k a : ℕ) (x : List ℕ) → take (k * a + k - k * a) (drop (k * a) x) ≡ piece k a x
-part-is k a x = let e : k * a + k - k * a ≡ k = omega arith in ap (λ (n : ℕ). take n (drop (k * a) x)) e
-
-pub length-piece : (k a : ℕ) (x : List ℕ) → k * a + k ≤ length x → length (piece k a x) ≡ k
-length-piece k a x h = length-take-le k (drop (k * a) x) (omega (arith, length-drop (k * a) x))
+use Rattle.checker.proofs.Rows.{row-at}
+use Rattle.lists.specs.Parts.{part-is, length-piece}
 
 pub length-powersAt : (n : ℕ) (xs : List ℕ) (a : ℕ) → length (powersAt n xs a) ≡ n
 unfolding powersAt

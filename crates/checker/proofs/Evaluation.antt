@@ -7,18 +7,18 @@ use native.Mathlib.Nat.{sub-zero}
 use native.Mathlib.Omega.{arith}
 use lib.Dec.{eqb}
 use lib.ListN.{length, getD, take, drop, length-append}
-use lib.Seq.{take-at, length-take-le}
+use lib.Seq.{take-at}
 use borrow.Rule.Slice.PartMut.{putMid}
 use Rattle.lists.specs.Pieces.{piece}
 use Rattle.lists.specs.Range.{upFrom, length-upFrom}
-use Rattle.lists.specs.Tests.{each}
+use Rattle.lists.specs.Tests.{each, each-ext}
 use Rattle.algebra.specs.Dot.{dotN}
 use Rattle.algebra.specs.Basis.{basisN, dot-basisN, length-basisN}
 use Rattle.algebra.specs.Numbers.{evalN, interpN}
 use Rattle.scheme.specs.Sizes.{leafPoint}
 use Rattle.checker.specs.Words.{rowsOf, powersAt, weighedAt, scaledAt, scaledLeaf, evaluatedAt, evaluatedLeaf}
-use Rattle.checker.proofs.Rows.{each-ext}
-use Rattle.checker.proofs.Batching.{part-is, dot-row}
+use Rattle.checker.proofs.Batching.{dot-row}
+use Rattle.lists.specs.Parts.{front-length, part-is}
 
 -- the code's two sides at one point
 pub weighed : (weights scales answers rows : List ℕ) (p left right : ℕ)
@@ -64,9 +64,6 @@ scaled-is leaves width μ points scales answers indices rest rows long e =
     (ap₂ (λ (i : ℕ) (t : List ℕ). dotN (piece i p t) (rows a)) (long a) e ∙ dot-row μ points (length points) p rest (rows a) k (long a))))
 
 -- a front of n elements that was lent, as it comes back
-pub front-length : (n : ℕ) (b : List ℕ) → n ≤ length b → length (take (n - 0) (drop 0 b)) ≡ n
-front-length n b h = ap (λ (k : ℕ). length (take k b)) (sub-zero n) ∙ length-take-le n b h
-
 pub front-fits : (n : ℕ) (b r : List ℕ) → length r ≡ n → n ≤ length (putMid 0 (n - 0) b r)
 front-fits n b r e = omega (arith, length-append r (drop (n - 0) (drop 0 b)))
 

@@ -1,45 +1,19 @@
 -- Tests and words over rows that stand one after the other.
 use mathlib.Core.Path.{_≡_, refl, sym, ap, ap₂, _∙_}
-use mathlib.Core.Bool.{Bool, true, false, _&&_, false≢true}
+use mathlib.Core.Bool.{Bool, true, false, _&&_}
 use mathlib.Core.List.{List, [], _∷_, _++_, append-nil}
 use Prim.Native.Nat.{ℕ, zero, suc, _+_, _*_, _<_}
 use native.Mathlib.Nat.{zero-add, suc-add, mul-zero}
 use native.Mathlib.Numerals.{add-one}
 use native.Mathlib.Omega.{arith}
-use lib.ListN.{length, getD, take, drop}
+use lib.ListN.{length, take, drop}
 use lib.Seq.{drop-drop, take-at}
-use Rattle.lists.specs.All.{all-at}
 use Rattle.lists.specs.Bytes.{Bytes, fromBytes, words, length-words}
 use Rattle.lists.specs.Pieces.{pieces, piece}
-use Rattle.lists.specs.Tests.{all, every, each, all-true, all-places, each-true, true-each}
+use Rattle.lists.specs.Tests.{all, every, each}
 use Rattle.checker.specs.Words.{rowsOf}
 use Rattle.checker.proofs.Rows.{rows-none, rows-next, row-at}
-use Rattle.lists.specs.Choice.{and-assoc}
-
--- ---- tests
-
-pub iff : (a b : Bool) → (a ≡ true → b ≡ true) → (b ≡ true → a ≡ true) → a ≡ b
-iff true b f g = sym (f refl)
-iff false true f g = absurd (false≢true (g refl))
-iff false false f g = refl
-
-pub each-none : (f : ℕ → Bool) → each 0 f ≡ true
-unfolding each
-each-none f = refl
-
--- a test of a list's elements, by places
-pub all-each : {A : Type 0} (t : A → Bool) (d : A) (xs : List A) → all t xs ≡ each (length xs) (λ k. t (getD xs k d))
-all-each {A} t d xs =
-    iff (all t xs) (each (length xs) (λ k. t (getD xs k d)))
-    (λ e. true-each (length xs) (λ k. t (getD xs k d)) (λ k l. all-at (λ (x : A). t x ≡ true) d xs (all-true t xs e) k l))
-    (λ e. all-places t d xs (λ k l. each-true (length xs) (λ k. t (getD xs k d)) e k l))
-
--- pairs in either order
-pub each-swap : (m n : ℕ) (f : ℕ → ℕ → Bool) → each m (λ p. each n (λ a. f p a)) ≡ each n (λ a. each m (λ p. f p a))
-each-swap m n f =
-    iff (each m (λ p. each n (λ a. f p a))) (each n (λ a. each m (λ p. f p a)))
-    (λ e. true-each n (λ a. each m (λ p. f p a)) (λ a l. true-each m (λ p. f p a) (λ p h. each-true n (λ a. f p a) (each-true m (λ p. each n (λ a. f p a)) e p h) a l)))
-    (λ e. true-each m (λ p. each n (λ a. f p a)) (λ p h. true-each n (λ a. f p a) (λ a l. each-true m (λ p. f p a) (each-true n (λ a. each m (λ p. f p a)) e a l) p h)))
+use Rattle.lists.specs.Choice.{and-assoc, and-right}
 
 all-append : (t : ℕ → Bool) (xs ys : List ℕ) → all t (xs ++ ys) ≡ all t xs && all t ys
 unfolding all
@@ -70,11 +44,7 @@ every-second a b c e f = ap₂ (λ (t u : Bool). t && (u && (c && true))) e f
 
 pub every-last : (a b c : Bool) → a ≡ true → b ≡ true → every (a ∷ b ∷ c ∷ []) ≡ c
 unfolding every
-every-last a b c e f = ap₂ (λ (t u : Bool). t && (u && (c && true))) e f ∙ right c
-  where
-    right : (c : Bool) → c && true ≡ c
-    right true = refl
-    right false = refl
+every-last a b c e f = ap₂ (λ (t u : Bool). t && (u && (c && true))) e f ∙ and-right c
 
 -- ---- words
 

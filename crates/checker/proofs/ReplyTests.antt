@@ -15,7 +15,7 @@ use Rattle.lists.specs.Bytes.{Bytes, words, length-words}
 use Rattle.lists.specs.Maps.{map-cong}
 use Rattle.lists.specs.Pieces.{pieces, piece, length-pieces}
 use Rattle.lists.specs.Range.{upFrom, upFrom-of}
-use Rattle.lists.specs.Tests.{all, every, each}
+use Rattle.lists.specs.Tests.{all, every, each, each-ext, each-swap, all-is-each}
 use Rattle.algebra.specs.Numbers.{evalN, interpN}
 use Rattle.scheme.specs.Sizes.{Sizes, elements, leaves, width, recordValues, points, leafPoint}
 use Rattle.scheme.specs.Layers.{polynomialValues}
@@ -26,8 +26,7 @@ use Rattle.scheme.specs.Reply.{Reply, readReply, answersAt, recordsAt, recordLe
 use Rattle.scheme.specs.Check.{leafAt, recordAt, batchingOf, pointOf, answerOf, replyElements, leafStrings, replyRoot, batchingAt, evaluationAt, checkValues}
 use Rattle.scheme.proofs.Walk.{batching-at, answer-at, record-at}
 use Rattle.checker.specs.Words.{batchingWords, answerWords, leafValuesAt, rowValuesAt, leafElementsAt, rowsOf, rootAt, recordWordsAt, recordElementsAt, leafDigestAt, batchOf, batchedAt, batchedRow, evaluatedAt, evaluatedLeaf, pointValues, valuesAt}
-use Rattle.checker.proofs.Rows.{each-ext}
-use Rattle.checker.proofs.Flat.{all-each, each-swap, all-rows, rows-ext, wordsAt, words-rows, words-front, words-piece}
+use Rattle.checker.proofs.Flat.{all-rows, rows-ext, wordsAt, words-rows, words-front, words-piece}
 
 map-map : (f : Bytes → Bytes) (g : ℕ → Bytes) (xs : List ℕ) → map f (map g xs) ≡ map (λ a. f (g a)) xs
 map-map f g [] = refl
@@ -63,7 +62,7 @@ module _ (u : Question) (reply : Bytes) where
   batching-elements : all elements (r .batching) ≡ elements (batchingWords u reply)
   unfolding readReply
   batching-elements =
-      all-each elements [] (r .batching)
+      all-is-each elements [] (r .batching)
       ∙ ap (λ (n : ℕ). each n (λ k. elements (getD (r .batching) k []))) (length-map (pieces (4 * width s) (s .η) reply) (words (width s)) ∙ length-pieces (4 * width s) (s .η) reply)
       ∙ each-ext (s .η) (λ k. elements (getD (r .batching) k [])) (λ k. elements (wordsAt (width s) reply k)) (λ k l. ap elements (batching-at u reply k l))
       ∙ sym (ap elements (words-rows (width s) (s .η) reply) ∙ all-rows (λ x. ltb x q) (wordsAt (width s) reply) (s .η))
@@ -72,7 +71,7 @@ module _ (u : Question) (reply : Bytes) where
   unfolding readReply
   answer-elements =
       let y : Bytes = drop (answersAt s) reply in
-      all-each elements [] (r .answers)
+      all-is-each elements [] (r .answers)
       ∙ ap (λ (n : ℕ). each n (λ k. elements (getD (r .answers) k []))) (length-map (pieces (4 * width s) (u .m) y) (words (width s)) ∙ length-pieces (4 * width s) (u .m) y)
       ∙ each-ext (u .m) (λ k. elements (getD (r .answers) k [])) (λ k. elements (wordsAt (width s) y k))
       (λ k l. ap elements (answer-at u reply k l ∙ ap (words (width s)) (sym (drop-drop (4 * width s * k) (answersAt s) reply))))
@@ -82,7 +81,7 @@ module _ (u : Question) (reply : Bytes) where
   unfolding readReply recordElementsAt
   leaf-elements =
       let y : Bytes = drop (recordsAt s (u .m)) reply in
-      all-each (λ x. elements (recordWords s x)) [] (r .records)
+      all-is-each (λ x. elements (recordWords s x)) [] (r .records)
       ∙ ap (λ (n : ℕ). each n (λ k. elements (recordWords s (getD (r .records) k [])))) (length-pieces (recordLength s) (s .ℓ) y)
       ∙ each-ext (s .ℓ) (λ k. elements (recordWords s (getD (r .records) k []))) (leafElementsAt u reply) (λ k l. ap elements (leaf-values k l))
 

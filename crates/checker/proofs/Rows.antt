@@ -1,12 +1,11 @@
 -- Rows of one length, one after the other: a loop that writes them, and each row read again.
 use mathlib.Core.Path.{_≡_, refl, sym, ap, ap₂, _∙_}
-use mathlib.Core.Bool.{Bool, _&&_}
-use mathlib.Core.List.{List, [], _∷_, _++_, map, flatten, append-assoc, append-nil}
-use Prim.Native.Nat.{ℕ, zero, suc, _+_, _-_, _*_, _≤_, _<_}
-use native.Mathlib.Nat.{zero-add, mul-suc, mul-le-mul-left, sub-zero}
+use mathlib.Core.List.{List, [], _∷_, _++_, map, flatten, append-assoc, append-nil, map-append}
+use Prim.Native.Nat.{ℕ, suc, _+_, _-_, _*_, _≤_, _<_}
+use native.Mathlib.Nat.{zero-add}
 use native.Mathlib.Numerals.{add-one}
 use native.Mathlib.Omega.{arith}
-use lib.ListN.{length, getD, take, drop, length-map, length-take, length-drop, set}
+use lib.ListN.{length, getD, take, drop, length-map, set}
 use lib.Seq.{take-at, drop-drop, drop-append-add, drop-cons, set-at, append-snoc}
 use borrow.Rule.Slice.PartMut.{putMid, post-is}
 use Rattle.lists.specs.All.{Sized, all-each}
@@ -14,16 +13,7 @@ use Rattle.lists.specs.Range.{upFrom-snoc, upFrom, length-upFrom, at-run}
 use Rattle.lists.specs.Pieces.{piece, pieces, pieces-at, pieces-flatten, flatten-append, length-flatten}
 use Rattle.lists.specs.Tests.{each}
 use Rattle.checker.specs.Words.{rowsOf}
-
--- two tests that agree at each number below n
-pub each-ext : (n : ℕ) (f g : ℕ → Bool) → ((i : ℕ) → i < n → f i ≡ g i) → each n f ≡ each n g
-unfolding each
-each-ext zero f g h = refl
-each-ext (suc n) f g h = ap₂ _&&_ (each-ext n f g (λ i l. h i (omega arith))) (h n (omega arith))
-
-map-append : (f : ℕ → List ℕ) (xs ys : List ℕ) → map f (xs ++ ys) ≡ map f xs ++ map f ys
-map-append f [] ys = refl
-map-append f (x ∷ xs) ys = ap (λ (t : List (List ℕ)). f x ∷ t) (map-append f xs ys)
+use Rattle.lists.specs.Parts.{span-length}
 
 pub rows-none : (f : ℕ → List ℕ) → rowsOf f 0 ≡ []
 unfolding rowsOf upFrom flatten
@@ -85,23 +75,8 @@ module _ (k : ℕ) (f : ℕ → List ℕ) (sized : (i : ℕ) → length (f i) �
 pub rows-start : (k : ℕ) (f : ℕ → List ℕ) (d : List ℕ) → d ≡ rowsOf f 0 ++ drop (k * 0) d
 rows-start k f d = let e : 0 ≡ k * 0 = omega arith in ap (λ (j : ℕ). drop j d) e ∙ ap (λ (x : List ℕ). x ++ drop (k * 0) d) (sym (rows-none f))
 
--- row a of n fits
-pub row-fits : (k a n : ℕ) → a < n → k * a + k ≤ k * n
-row-fits k a n h = omega (arith, mul-suc k a, mul-le-mul-left k h)
-
--- the length of a part of k elements
-pub span-length : (a k : ℕ) (t : List ℕ) → a + k ≤ length t → length (take (a + k - a) (drop a t)) ≡ k
-span-length a k t h = simp (length-take, length-drop) (omega arith)
-
 pub part-length : (k a : ℕ) (t : List ℕ) → k * a + k ≤ length t → length (take (k * a + k - k * a) (drop (k * a) t)) ≡ k
 part-length k a t h = span-length (k * a) k t h
-
--- a front of n elements, lent
-pub front-is : (n : ℕ) (p d : List ℕ) → length p ≡ n → take (n - 0) (drop 0 (p ++ d)) ≡ p
-front-is n p d e = take-at p d (n - 0) (e ∙ sym (sub-zero n))
-
-pub read-front : (n : ℕ) (p b r : List ℕ) → length p ≡ n → r ≡ p ++ drop n b → take (n - 0) (drop 0 r) ≡ p
-read-front n p b r e f = ap (λ (t : List ℕ). take (n - 0) (drop 0 t)) f ∙ front-is n p (drop n b) e
 
 -- where p stands in front of d, one element more is written behind it
 pub front-step : (p d : List ℕ) (i v : ℕ) → length p ≡ i → i < length d → set (p ++ drop i d) i v ≡ (p ++ (v ∷ [])) ++ drop (i + 1) d

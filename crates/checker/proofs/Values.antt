@@ -1,6 +1,6 @@
 -- The values of the polynomials: at one point, and at all.
 use mathlib.Core.Path.{_≡_, refl, sym, ap, ap₂, _∙_}
-use mathlib.Core.List.{List, [], _∷_, _++_, map, append-nil}
+use mathlib.Core.List.{List, [], _∷_, _++_, map, append-nil, map-append}
 use Prim.Native.Nat.{ℕ, _+_, _-_, _*_, _<_}
 use native.Mathlib.Numerals.{add-one}
 use lib.ListN.{length, getD, take, drop, set, length-map}
@@ -12,11 +12,7 @@ use Rattle.algebra.specs.Numbers.{evalN}
 use Rattle.checker.specs.Words.{pointValues, valuesAt}
 use Rattle.checker.proofs.Rows.{front-step}
 use Rattle.checker.proofs.Flat.{words-piece}
-use Rattle.checker.proofs.Batching.{part-is}
-
-map-snoc : (f : List ℕ → ℕ) (xs : List (List ℕ)) (x : List ℕ) → map f (xs ++ (x ∷ [])) ≡ map f xs ++ (f x ∷ [])
-map-snoc f [] x = refl
-map-snoc f (y ∷ xs) x = ap (λ (t : List ℕ). f y ∷ t) (map-snoc f xs x)
+use Rattle.lists.specs.Parts.{part-is}
 
 pub length-pointValues : (ν base : ℕ) (answer : List ℕ) (n : ℕ) → length (pointValues ν base answer n) ≡ n
 unfolding pointValues
@@ -27,7 +23,7 @@ unfolding pointValues
 point-next ν base answer i =
     ap (λ (k : ℕ). map (λ vs. evalN vs base) (pieces ν k answer)) (add-one i)
     ∙ ap (map (λ vs. evalN vs base)) (pieces-snoc ν i answer)
-    ∙ map-snoc (λ vs. evalN vs base) (pieces ν i answer) (piece ν i answer)
+    ∙ map-append (λ vs. evalN vs base) (pieces ν i answer) (piece ν i answer ∷ [])
 
 pub point-start : (ν base : ℕ) (answer d : List ℕ) → d ≡ pointValues ν base answer 0 ++ drop 0 d
 unfolding pointValues pieces

@@ -10,14 +10,10 @@ use native.Mathlib.Omega.{arith}
 use lib.Dec.{leb, ltb, eqb, leb·zero}
 use lib.ListN.{length, getD, take}
 use lib.Seq.{take-length, length-take-le}
-use Rattle.lists.specs.Choice.{and-assoc, tested}
+use Rattle.lists.specs.Choice.{and-assoc, tested, and-right}
 use Rattle.lists.specs.Rising.{rising}
 use Rattle.lists.specs.Tests.{all, same, same-true}
 use Rattle.commitment.proofs.Snoc.{snoc, take-next}
-
-pub and-right : (b : Bool) → b && true ≡ b
-and-right true = refl
-and-right false = refl
 
 and-swap : (a b c d : Bool) → (a && b) && (c && d) ≡ (a && c) && (b && d)
 and-swap true true c d = refl

@@ -8,7 +8,7 @@ use native.Mathlib.Omega.{arith}
 use lib.Dec.{eqb}
 use lib.Pow.{pow-pos}
 use lib.ListN.{length}
-use Rattle.commitment.proofs.Scan.{and-right}
+use Rattle.lists.specs.Choice.{and-right}
 use Rattle.lists.specs.Tests.{every}
 use Rattle.scheme.specs.Sizes.{Sizes, columns, leaves, width, recordValues, elements}
 use Rattle.scheme.specs.Layers.{Lent}

@@ -10,7 +10,8 @@ use lib.Seq.{take-at, drop-at, drop-drop, take-all, length-take-le}
 use borrow.Rule.Slice.PartMut.{putMid}
 use Rattle.lists.specs.Range.{upFrom, length-upFrom}
 use Rattle.lists.specs.Pieces.{length-flatten}
-use Rattle.scheme.proofs.Row.{all-run, room}
+use Rattle.scheme.proofs.Row.{all-run}
+use Rattle.lists.specs.Parts.{row-fits}
 
 -- ---- two parts: ys fills the first n places, zs all others
 
@@ -80,4 +81,4 @@ module _ (f : ℕ → List ℕ) (k n : ℕ) (sized : (j : ℕ) → j < n → len
 -- the part that is next, before it is filled
 pub part-length : (k n i a e : ℕ) (now : List ℕ) → i < n → k * n ≤ length now → a ≡ k * i → e ≡ a + k → length (take (e - a) (drop a now)) ≡ k
 part-length k n i a e now h l ha he =
-    length-take-le (e - a) (drop a now) (omega (arith, length-drop a now, room k i n h)) ∙ omega arith
+    length-take-le (e - a) (drop a now) (omega (arith, length-drop a now, row-fits k i n h)) ∙ omega arith

@@ -11,7 +11,7 @@ use Rattle.lists.specs.Pieces.{piece}
 use Rattle.lists.specs.Tabulate.{tabulateFrom, tabulate, tabulate-ext, run-of, length-from}
 use Rattle.scheme.specs.Sizes.{Sizes, rows, columns, width}
 use Rattle.scheme.specs.Layers.{Lent, lentOf, entry, extended, extendedRows}
-use Rattle.scheme.proofs.Row.{room}
+use Rattle.lists.specs.Parts.{row-fits}
 use Rattle.lent.specs.Rows.{CanExtend, strided}
 use Rattle.lent.proofs.Parts.{filledParts, front-length, rest-length, two-parts}
 
@@ -37,7 +37,7 @@ module _ (s : Sizes) (l : Lent) (can : CanExtend s (l .coefficients) (l .tails))
   t = l .tails
 
   tail-room : (j : ℕ) → j < rows s → s .ℓ * j + s .ℓ ≤ length t
-  tail-room j h = omega (arith, can .tails-length, room (s .ℓ) j (rows s) h)
+  tail-room j h = omega (arith, can .tails-length, row-fits (s .ℓ) j (rows s) h)
 
   -- the entries of row j are every μ-th coefficient, from coefficient j on
   entry-is : (j a : ℕ) → j < rows s → strided c j (s .μ) a ≡ entry s l j a

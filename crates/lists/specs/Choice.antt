@@ -1,5 +1,5 @@
 -- A choice by a computed test, and the two things that a test can say.
-use mathlib.Core.Path.{_≡_, refl}
+use mathlib.Core.Path.{_≡_, refl, sym}
 use mathlib.Core.Logic.{_⊎_, inl, inr}
 use mathlib.Core.Bool.{Bool, true, false, _&&_, _||_, false≢true}
 
@@ -30,3 +30,13 @@ or-cases false b e = inr e
 pub and-assoc : (a b c : Bool) → (a && b) && c ≡ a && (b && c)
 and-assoc true b c = refl
 and-assoc false b c = refl
+
+pub and-right : (b : Bool) → b && true ≡ b
+and-right true = refl
+and-right false = refl
+
+-- tests that hold together are equal
+pub iff : (a b : Bool) → (a ≡ true → b ≡ true) → (b ≡ true → a ≡ true) → a ≡ b
+iff true b f g = sym (f refl)
+iff false true f g = absurd (false≢true (g refl))
+iff false false f g = refl

@@ -4,6 +4,7 @@ pub mod Rising
 pub mod Range
 pub mod Maps
 pub mod Pieces
+pub mod Parts
 pub mod Number
 pub mod Bytes
 pub mod Tabulate

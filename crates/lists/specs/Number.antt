@@ -1,10 +1,12 @@
 -- Numbers and their digits.
 use mathlib.Core.Path.{_≡_, sym, ap, _∙_, subst}
 use mathlib.Core.List.{List, [], _∷_, _++_}
-use Prim.Native.Nat.{ℕ, suc, _+_, _*_, _^_, _<_}
-use native.Mathlib.Nat.{zero-add, add-comm, add-assoc, mul-add, mul-assoc, mul-comm, one-mul, pow-zero, pow-suc, zero-lt-suc}
+use Prim.Native.Nat.{ℕ, suc, _+_, _*_, _^_, _<_, _≤_}
+use native.Mathlib.Nat.{zero-add, add-comm, add-assoc, mul-add, mul-assoc, mul-comm, one-mul, pow-zero, pow-suc, zero-lt-suc, lt-of-not-le}
 use lib.Arith.{digits-lt}
 use lib.ListN.{length, getD}
+use mathlib.Core.Logic.{_⊎_, inl, inr}
+use native.Mathlib.Decide.{decLe}
 
 -- the number with the given digits to the base b, lowest first
 unfoldable pub number : ℕ → List ℕ → ℕ
@@ -29,3 +31,11 @@ number-lt b (d ∷ ds) h =
     subst (λ (x : ℕ). d + b * number b ds < x) (sym (pow-suc b (length ds)))
     (subst (λ (x : ℕ). x < b ^ length ds * b) (add-comm (number b ds * b) d ∙ ap (λ (x : ℕ). d + x) (mul-comm (number b ds) b))
     (digits-lt (number-lt b ds (λ i. h (suc i))) (h 0)))
+
+-- one of two numbers is not above the other
+pub order : (a b : ℕ) → (a ≤ b) ⊎ (b < a)
+order a b = go (decLe a b)
+  where
+    go : Dec (a ≤ b) → (a ≤ b) ⊎ (b < a)
+    go (yes h) = inl h
+    go (no h) = inr (lt-of-not-le h)

@@ -9,9 +9,9 @@ use native.Mathlib.Numerals.{add-one}
 use native.Mathlib.Omega.{arith}
 use lib.Dec.{leb, eqb}
 use lib.ListN.{length, getD}
-use borrow.Author.Tests.{eqb-true, eq-eqb}
-use Rattle.lists.specs.Choice.{pick, and-true, both-true, and-false}
-use Rattle.lists.specs.All.{All}
+use borrow.Author.Tests.{eqb-true, eq-eqb, leb-true}
+use Rattle.lists.specs.Choice.{pick, and-true, both-true, and-false, iff}
+use Rattle.lists.specs.All.{All, all-at}
 
 -- a test with the number that is returned when it holds
 abbrev pub Test : Type 0
@@ -165,6 +165,30 @@ each-stop zero f i l e = absurd (not-suc-le-zero l)
 each-stop (suc n) f i l e =
     ⊎-elim (λ k. ap (λ (b : Bool). b && f n) (each-stop n f i k e)) (λ k. and-false (each n f) (f n) (subst (λ (j : ℕ). f j ≡ false) (suc-inj k) e)) (le-suc-iff .0 l)
 
+pub each-none : (f : ℕ → Bool) → each 0 f ≡ true
+unfolding each
+each-none f = refl
+
+-- tests that agree at each number below n
+pub each-ext : (n : ℕ) (f g : ℕ → Bool) → ((i : ℕ) → i < n → f i ≡ g i) → each n f ≡ each n g
+unfolding each
+each-ext zero f g h = refl
+each-ext (suc n) f g h = ap₂ _&&_ (each-ext n f g (λ i l. h i (omega arith))) (h n (omega arith))
+
+-- pairs in either order
+pub each-swap : (m n : ℕ) (f : ℕ → ℕ → Bool) → each m (λ p. each n (λ a. f p a)) ≡ each n (λ a. each m (λ p. f p a))
+each-swap m n f =
+    iff (each m (λ p. each n (λ a. f p a))) (each n (λ a. each m (λ p. f p a)))
+    (λ e. true-each n (λ a. each m (λ p. f p a)) (λ a l. true-each m (λ p. f p a) (λ p h. each-true n (λ a. f p a) (each-true m (λ p. each n (λ a. f p a)) e p h) a l)))
+    (λ e. true-each m (λ p. each n (λ a. f p a)) (λ p h. true-each n (λ a. f p a) (λ a l. each-true m (λ p. f p a) (each-true n (λ a. each m (λ p. f p a)) e a l) p h)))
+
+-- a test of a list's elements, by places
+pub all-is-each : {A : Type 0} (t : A → Bool) (d : A) (xs : List A) → all t xs ≡ each (length xs) (λ k. t (getD xs k d))
+all-is-each {A} t d xs =
+    iff (all t xs) (each (length xs) (λ k. t (getD xs k d)))
+    (λ e. true-each (length xs) (λ k. t (getD xs k d)) (λ k l. all-at (λ (x : A). t x ≡ true) d xs (all-true t xs e) k l))
+    (λ e. all-places t d xs (λ k l. each-true (length xs) (λ k. t (getD xs k d)) e k l))
+
 -- ---- equal lists
 
 pub same-true : (xs ys : List ℕ) → same xs ys ≡ true → xs ≡ ys
@@ -180,3 +204,11 @@ pub same-refl : (xs : List ℕ) → same xs xs ≡ true
 unfolding same
 same-refl [] = refl
 same-refl (x ∷ xs) = both-true (eqb x x) (same xs xs) (eq-eqb x x refl) (same-refl xs)
+
+-- ---- ranges
+
+pub within-low : (low high n : ℕ) → within low high n ≡ true → low ≤ n
+within-low low high n e = leb-true low n (and-true (leb low n) (leb n high) e .0)
+
+pub within-high : (low high n : ℕ) → within low high n ≡ true → n ≤ high
+within-high low high n e = leb-true n high (and-true (leb low n) (leb n high) e .1)

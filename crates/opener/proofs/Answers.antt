@@ -8,7 +8,7 @@ use lib.ListN.{length, getD, take, drop, length-drop}
 use lib.Seq.{length-take-le}
 use Rattle.lists.specs.Bytes.{Bytes, bytesOf, length-bytesOf}
 use Rattle.lists.specs.Pieces.{piece}
-use Rattle.scheme.proofs.Row.{room}
+use Rattle.lists.specs.Parts.{row-fits}
 use Rattle.opener.specs.Parts.{written}
 use Rattle.opener.proofs.Writing.{upTo, upTo-none, upTo-all, upTo-room, upTo-turn, bytesOf-flatten}
 
@@ -44,7 +44,7 @@ module _ (f : ℕ → List ℕ) (xs : List ℕ) (n at : ℕ) (o : Bytes) where
 
 module _ (n k η : ℕ) (masks : List ℕ) (whole : length masks ≡ η * n) (l : k < η) where
   pub mask-room : n * k + n ≤ length masks
-  mask-room = subst (λ (j : ℕ). n * k + n ≤ j) (mul-comm n η ∙ sym whole) (room n k η l)
+  mask-room = subst (λ (j : ℕ). n * k + n ≤ j) (mul-comm n η ∙ sym whole) (row-fits n k η l)
 
   pub mask-is : take (n * k + n - n * k) (drop (n * k) masks) ≡ piece n k masks
   mask-is = let e : n * k + n - n * k ≡ n = omega arith in ap (λ (j : ℕ). take j (drop (n * k) masks)) e

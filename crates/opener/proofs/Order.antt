@@ -16,7 +16,7 @@ use Rattle.scheme.specs.Reply.{replyLength, replyBound}
 use Rattle.scheme.specs.Commit.{lentOk, filledOk, lentElements, lastDigest}
 use Rattle.scheme.specs.Open.{replyOf, openTests, openVerdict, opening}
 use Rattle.scheme.proofs.Accepted.{question-numbers}
-use Rattle.commitment.proofs.Scan.{and-right}
+use Rattle.lists.specs.Choice.{and-right}
 
 pub three : (a b c r p : Bool) → p ≡ b && c → r ≡ a && p → r ≡ every (a ∷ b ∷ c ∷ [])
 unfolding every

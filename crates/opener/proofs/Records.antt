@@ -12,7 +12,7 @@ use Rattle.lists.specs.Pieces.{piece}
 use Rattle.scheme.specs.Sizes.{Sizes, leaves, recordValues}
 use Rattle.scheme.specs.Reply.{recordLength}
 use Rattle.scheme.specs.Commit.{leafRecord}
-use Rattle.scheme.proofs.Row.{room}
+use Rattle.lists.specs.Parts.{row-fits}
 use Rattle.opener.specs.Parts.{CanRecord}
 
 module _ (s : Sizes) (table : List ℕ) (nonces : Bytes) (indices : List ℕ) (can : CanRecord s table nonces indices) (k : ℕ) (l : k < length indices) where
@@ -20,7 +20,7 @@ module _ (s : Sizes) (table : List ℕ) (nonces : Bytes) (indices : List ℕ) (c
   leaf-low = all-at (λ (i : ℕ). i < leaves s) 0 indices (can .leaf) k l
 
   pub values-room : recordValues s * getD indices k 0 + recordValues s ≤ length table
-  values-room = subst (λ (n : ℕ). recordValues s * getD indices k 0 + recordValues s ≤ n) (mul-comm (recordValues s) (leaves s) ∙ sym (can .values)) (room (recordValues s) (getD indices k 0) (leaves s) leaf-low)
+  values-room = subst (λ (n : ℕ). recordValues s * getD indices k 0 + recordValues s ≤ n) (mul-comm (recordValues s) (leaves s) ∙ sym (can .values)) (row-fits (recordValues s) (getD indices k 0) (leaves s) leaf-low)
 
   pub nonce-room : 32 * getD indices k 0 + 32 ≤ length nonces
   nonce-room = omega (arith, leaf-low, can .nonce)

@@ -1,8 +1,8 @@
 -- Bytes written one after the other into a buffer.
 use mathlib.Core.Path.{_≡_, refl, sym, ap, ap₂, _∙_}
-use mathlib.Core.List.{List, [], _∷_, _++_}
+use mathlib.Core.List.{[], _∷_, _++_}
 use Prim.Native.Nat.{ℕ, _+_, _-_, _≤_, _<_}
-use native.Mathlib.Nat.{add-zero, zero-add, sub-zero}
+use native.Mathlib.Nat.{add-zero, zero-add}
 use native.Mathlib.Omega.{arith}
 use lib.ListN.{length, set, take, drop, length-append}
 use lib.Seq.{length-take-le}
@@ -48,6 +48,3 @@ pub front-counts : (b t : Bytes) (r : ℕ) (o : Bytes) → (r, o) ≡ overwritte
 front-counts b t r o e =
     let h : r ≤ length o = omega (arith, ap (λ (x : ℕ × Bytes). x .0) e, ap (λ (x : ℕ × Bytes). length (x .1)) e, length-append t (drop (length t) b)) in
     (h, sym (length-take-le r o h))
-
-pub front-length : (n : ℕ) (l : List ℕ) → n ≤ length l → length (take (n - 0) l) ≡ n
-front-length n l h = ap (λ (k : ℕ). length (take k l)) (sub-zero n) ∙ length-take-le n l h

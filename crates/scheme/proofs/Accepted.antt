@@ -5,7 +5,7 @@ use mathlib.Core.List.{List, _∷_, _++_}
 use Prim.Native.Nat.{ℕ, suc, _+_, _-_, _≤_, _<_}
 use native.Mathlib.Nat.{pow-le-pow-right}
 use native.Mathlib.Omega.{arith}
-use lib.Dec.{ltb, leb}
+use lib.Dec.{ltb}
 use lib.ListN.{length}
 use borrow.Author.Tests.{ltb-true, leb-true, eqb-true, not-false}
 use Rattle.lists.specs.Rising.{Rising, rising-true}
@@ -14,7 +14,7 @@ use Rattle.lists.specs.All.{Below, All, Distinct, all-imp, all-append, all-left
 use Rattle.algebra.specs.Prime.{q}
 use Rattle.algebra.specs.Numbers.{evalN, interpN, Elements}
 use Rattle.lists.specs.Range.{upFrom-below, upFrom-distinct, length-upFrom}
-use Rattle.lists.specs.Tests.{Test, all, within, passed, every-true, all-true, each-true, same-true}
+use Rattle.lists.specs.Tests.{Test, all, passed, every-true, all-true, each-true, same-true, within-low, within-high}
 use Rattle.scheme.specs.Sizes.{elements}
 use Rattle.scheme.specs.Sizes.{Sizes, leaves, columns, width, degree, points, leafPoint, sizesOk}
 use Rattle.scheme.specs.Question.{Question, readQuestion, questionTests, questionVerdict}
@@ -38,28 +38,22 @@ pub record Good (s : Sizes) : Type 0 where
   pub η-high : s .η ≤ 4
   pub fits : width s ≤ leaves s
 
-low : (a b n : ℕ) → within a b n ≡ true → a ≤ n
-low a b n e = leb-true a n (and-true (leb a n) (leb n b) e .0)
-
-high : (a b n : ℕ) → within a b n ≡ true → n ≤ b
-high a b n e = leb-true n b (and-true (leb a n) (leb n b) e .1)
-
 pub good : (s : Sizes) → sizesOk s ≡ true → Good s
 unfolding sizesOk
 good s e =
     let t = every-true _ e in
     record {
-      h-low = low 1 12 (s .h) (t .0);
-      h-high = high 1 12 (s .h) (t .0);
-      μ-low = low 1 64 (s .μ) (t .1 .0);
-      μ-high = high 1 64 (s .μ) (t .1 .0);
-      ν-low = low 1 256 (s .ν) (t .1 .1 .0);
-      w-low = low 1 256 (s .w) (t .1 .1 .1 .0);
+      h-low = within-low 1 12 (s .h) (t .0);
+      h-high = within-high 1 12 (s .h) (t .0);
+      μ-low = within-low 1 64 (s .μ) (t .1 .0);
+      μ-high = within-high 1 64 (s .μ) (t .1 .0);
+      ν-low = within-low 1 256 (s .ν) (t .1 .1 .0);
+      w-low = within-low 1 256 (s .w) (t .1 .1 .1 .0);
       columns-high = leb-true (columns s) 256 (t .1 .1 .1 .1 .0);
-      ℓ-low = low 1 64 (s .ℓ) (t .1 .1 .1 .1 .1 .0);
-      ℓ-high = high 1 64 (s .ℓ) (t .1 .1 .1 .1 .1 .0);
-      η-low = low 1 4 (s .η) (t .1 .1 .1 .1 .1 .1 .0);
-      η-high = high 1 4 (s .η) (t .1 .1 .1 .1 .1 .1 .0);
+      ℓ-low = within-low 1 64 (s .ℓ) (t .1 .1 .1 .1 .1 .0);
+      ℓ-high = within-high 1 64 (s .ℓ) (t .1 .1 .1 .1 .1 .0);
+      η-low = within-low 1 4 (s .η) (t .1 .1 .1 .1 .1 .1 .0);
+      η-high = within-high 1 4 (s .η) (t .1 .1 .1 .1 .1 .1 .0);
       fits = leb-true (width s) (leaves s) (t .1 .1 .1 .1 .1 .1 .1 .0);
     }
 
@@ -107,8 +101,8 @@ asked-passed b t =
     let ix = and-true _ _ (not-false _ (t .1 .1 .1 .1 .1 .0)) in
     record {
       sizes-good = good _ (ok .0);
-      m-low = low 1 8 _ (ok .1);
-      m-high = high 1 8 _ (ok .1);
+      m-low = within-low 1 8 _ (ok .1);
+      m-high = within-high 1 8 _ (ok .1);
       challenges-below = all-left (λ (x : ℕ). x < q) (u .challenges) (u .evaluationPoints) el;
       points-below = all-right (λ (x : ℕ). x < q) (u .challenges) (u .evaluationPoints) el;
       indices-rising = rising-true _ (ix .0);

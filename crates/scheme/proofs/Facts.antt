@@ -10,9 +10,9 @@ use lib.Seq.{length-take-le}
 use Rattle.lists.specs.Rising.{Rising}
 use Rattle.lists.specs.Range.{upFrom, at-run, length-upFrom}
 use Rattle.lists.specs.Choice.{pick}
-use Rattle.lists.specs.Bytes.{Bytes, words, bytesOf, length-words, Small, words-bytesOf, length-bytesOf}
+use Rattle.lists.specs.Bytes.{Bytes, words, bytesOf, length-words, words-bytesOf, length-bytesOf}
 use Rattle.algebra.specs.Prime.{q}
-use Rattle.lists.specs.All.{All, below-mem, all-at, all-imp, Sized, all-flatten, all-take, all-each}
+use Rattle.lists.specs.All.{All, below-mem, all-at, Sized, all-flatten, all-take, all-each}
 use Rattle.algebra.specs.Numbers.{evalN, evalN-below, interpN, Elements}
 use Rattle.algebra.specs.Columns.{powN}
 use Rattle.lists.specs.Pieces.{pieces, piece, length-pieces, pieces-at, getD-flatten}
@@ -25,6 +25,7 @@ use Rattle.scheme.specs.Collect.{Entry, forRust, forC, Call, does, Answe
 use Rattle.lists.specs.Maps.{getD-in, getD-map-in}
 use Rattle.scheme.proofs.Accepted.{Good, Accepted, accepted}
 use Rattle.scheme.proofs.Bound.{Placed, placed, indices-length, challenges-length}
+use Rattle.scheme.proofs.Lent.{small}
 
 -- n elements
 abbrev pub Poly : ℕ → List ℕ → Type 0
@@ -68,9 +69,6 @@ module _ (u : Question) (r : Reply) where
       ∙ ap (λ (p : ℕ). polynomialValues (u .sizes) (pointOf u p) (answerOf r p)) (zero-add p))
       ∙ getD-map-in (λ vs. evalN vs (powN (pointOf u p) (u .sizes .μ))) (pieces (u .sizes .ν) (u .sizes .w) (answerOf r p)) i [] 0 (subst (λ (n : ℕ). i < n) (sym (length-pieces _ _ _)) m)
       ∙ ap (λ (vs : List ℕ). evalN vs (powN (pointOf u p) (u .sizes .μ))) (pieces-at (u .sizes .ν) (u .sizes .w) i (answerOf r p) m)
-
-small : (xs : List ℕ) → Elements xs → Small xs
-small xs h = all-imp (λ (x : ℕ) (l : x < q). omega arith) xs h
 
 -- bytes of words, read as words again
 pub words-back : (xs : List ℕ) → Elements xs → words (length (bytesOf xs) / 4) (bytesOf xs) ≡ xs

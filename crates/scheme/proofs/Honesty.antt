@@ -1,11 +1,10 @@
 -- Honest calls meet the hypotheses of demand 3, but for collisions, and it finds the committed rows from them.
 use mathlib.Core.Path.{_≡_, refl, sym, ap, _∙_, subst}
 use mathlib.Core.Bool.{true}
-use mathlib.Core.Logic.{_⊎_, inl, inr, ⊎-elim}
+use mathlib.Core.Logic.{_⊎_, ⊎-elim}
 use mathlib.Core.List.{List, [], _∷_, map, flatten, append-nil, List·Memᴰ as Mem, List·Memᴰ·head as here, List·Memᴰ·tail as there, List·Memᴰ·not-nil as not-nil, Memᴰ·append-left as in-left, Memᴰ·append-right as in-right, List·Memᴰ·append-cases as in-cases}
 use Prim.Native.Nat.{ℕ, zero, suc, _+_, _-_, _*_, _≤_, _<_}
 use native.Mathlib.Nat.{zero-add, le-refl, mul-le-mul-left, mul-le-mul-right}
-use native.Mathlib.Decide.{decLe}
 use native.Mathlib.Omega.{arith}
 use lib.Dec.{ltb}
 use lib.ListN.{length, getD, take, replicate, length-replicate, length-drop, length-map}
@@ -36,6 +35,7 @@ use Rattle.scheme.proofs.Complete.{checks, batching-is, reply-is}
 use Rattle.scheme.proofs.Replies.{collected-replies}
 use Rattle.scheme.proofs.Both.{Honest, extracted-committed}
 use Rattle.scheme.proofs.Encoded.{Fit, header-length, header-sizes-back, question-back, question-right}
+use Rattle.lists.specs.Number.{order}
 
 -- ---- lists
 
@@ -61,13 +61,6 @@ rising-run a (suc (suc n)) = both-true (ltb a (suc a)) (rising (suc a ∷ upFrom
 elements-copies : (n x : ℕ) → x < q → Elements (replicate n x)
 elements-copies zero x l = tt
 elements-copies (suc n) x l = (l, elements-copies n x l)
-
-order : (a b : ℕ) → (a ≤ b) ⊎ (b < a)
-order a b = go (decLe a b)
-  where
-    go : Dec (a ≤ b) → (a ≤ b) ⊎ (b < a)
-    go (yes h) = inl h
-    go (no h) = inr (omega (arith, h))
 
 -- ---- one honest call
 

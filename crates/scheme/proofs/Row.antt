@@ -2,7 +2,7 @@
 use mathlib.Core.Path.{_≡_, refl, sym, ap, ap₂, _∙_, subst}
 use mathlib.Core.List.{List, [], _∷_, _++_, map, List·Memᴰ as Mem, List·Memᴰ·head as here, List·Memᴰ·tail as there}
 use Prim.Native.Nat.{ℕ, zero, suc, _+_, _-_, _*_, _≤_, _<_}
-use native.Mathlib.Nat.{not-suc-le-zero, le-of-suc-le-suc, zero-lt-suc, zero-add, mul-suc, mul-le-mul-left}
+use native.Mathlib.Nat.{not-suc-le-zero, le-of-suc-le-suc, zero-lt-suc, zero-add}
 use native.Mathlib.Omega.{arith}
 use lib.Dec.{lit<}
 use lib.ListN.{length, getD, take, drop, length-map, length-append, length-drop, List·getD-append}
@@ -19,6 +19,7 @@ use Rattle.scheme.specs.Sizes.{Sizes, leaves, columns, rows, width, poin
 use Rattle.scheme.specs.Layers.{Lent, column, entry, extended, extendedRows, rowPolynomials, combination, evaluationAnswer, maskPolynomial, batchingAnswer, polynomialValues}
 use Rattle.scheme.proofs.Lent.{Rights}
 use Rattle.scheme.proofs.Accepted.{Good, points-are-below, points-differ, points-count}
+use Rattle.lists.specs.Parts.{row-fits}
 
 -- ---- lists
 
@@ -47,9 +48,6 @@ pub values-below : (ps : List (List ℕ)) (x : ℕ) → Elements (valuesAtN ps x
 unfolding valuesAtN
 values-below [] x = tt
 values-below (p ∷ ps) x = (evalN-below p x, values-below ps x)
-
-pub room : (k j n : ℕ) → j < n → k * j + k ≤ k * n
-room k j n l = subst (λ (x : ℕ). x ≤ k * n) (mul-suc k j) (mul-le-mul-left k l)
 
 pub all-run : {A : Type 0} (P : A → Type 0) (f : ℕ → A) (n : ℕ) → ((j : ℕ) → j < n → P (f j)) → All P (map f (upFrom 0 n))
 all-run P f n h = go (upFrom 0 n) (λ j m. h j (subst (λ (k : ℕ). j < k) (zero-add n) (upFrom-of 0 n j m .1)))
@@ -106,12 +104,12 @@ module _ (s : Sizes) (lent : Lent) (r : Rights s lent) where
   -- ---- rows
 
   tail-length : (j : ℕ) → j < rows s → length (piece (s .ℓ) j t) ≡ s .ℓ
-  tail-length j l = length-take-le (s .ℓ) (drop (s .ℓ * j) t) (omega (arith, length-drop (s .ℓ * j) t, room (s .ℓ) j (rows s) l, r .t-length))
+  tail-length j l = length-take-le (s .ℓ) (drop (s .ℓ * j) t) (omega (arith, length-drop (s .ℓ * j) t, row-fits (s .ℓ) j (rows s) l, r .t-length))
 
   -- a column has an element for each row
   column-poly : (a : ℕ) → a < columns s → (length (column s lent a) ≡ rows s) × Elements (column s lent a)
   column-poly a l = (
-    length-take-le (s .μ) (drop (s .μ * a) c) (omega (arith, length-drop (s .μ * a) c, room (s .μ) a (columns s) l, r .c-length)),
+    length-take-le (s .μ) (drop (s .μ * a) c) (omega (arith, length-drop (s .μ * a) c, row-fits (s .μ) a (columns s) l, r .c-length)),
     all-take (λ (x : ℕ). x < q) (s .μ) (drop (s .μ * a) c) (all-drop (λ (x : ℕ). x < q) (s .μ * a) c (r .c-below)),
   )
 
@@ -182,7 +180,7 @@ module _ (s : Sizes) (lent : Lent) (r : Rights s lent) where
 
   pub mask-poly : (k : ℕ) → k < s .η → (length (maskPolynomial s lent k) ≡ width s) × Elements (maskPolynomial s lent k)
   mask-poly k m = (
-    length-take-le (width s) (drop (width s * k) (lent .masks)) (omega (arith, length-drop (width s * k) (lent .masks), room (width s) k (s .η) m, r .m-length)),
+    length-take-le (width s) (drop (width s * k) (lent .masks)) (omega (arith, length-drop (width s * k) (lent .masks), row-fits (width s) k (s .η) m, r .m-length)),
     all-take (λ (x : ℕ). x < q) (width s) (drop (width s * k) (lent .masks)) (all-drop (λ (x : ℕ). x < q) (width s * k) (lent .masks) (r .m-below)),
   )
 
@@ -218,7 +216,7 @@ module _ (s : Sizes) (lent : Lent) (r : Rights s lent) where
   columns-honest z i l =
       let A : List ℕ = evaluationAnswer s lent z in
       let cs : List (List ℕ) = map (column s lent) (upFrom (s .ν * i) (s .ν)) in
-      let b : s .ν * i + s .ν ≤ s .ν * s .w = room (s .ν) i (s .w) l in
+      let b : s .ν * i + s .ν ≤ s .ν * s .w = row-fits (s .ν) i (s .w) l in
       let count : length (piece (s .ν) i A) ≡ s .ν =
       length-take-le (s .ν) (drop (s .ν * i) A) (omega (arith, length-drop (s .ν * i) A, combination-length (width s) z ext)) in
       let many : length cs ≡ s .ν = length-map (upFrom (s .ν * i) (s .ν)) (column s lent) ∙ length-upFrom (s .ν * i) (s .ν) in
@@ -246,7 +244,7 @@ module _ (s : Sizes) (lent : Lent) (r : Rights s lent) where
       let e : s .μ * (s .ν * i) ≡ s .μ * s .ν * i = omega arith in
       ap (λ (x : List ℕ). evalN x (powN z (s .μ))) (columns-honest z i l ∙ ap (λ (cs : List (List ℕ)). valuesAtN cs z) (columns-are (s .ν * i) (s .ν)))
       ∙ columns-value (s .μ) (pieces (s .μ) (s .ν) D) z
-      (pieces-sized (s .μ) (s .ν) D (omega (arith, length-drop (s .μ * (s .ν * i)) c, room (s .μ * s .ν) i (s .w) l, r .c-length)))
+      (pieces-sized (s .μ) (s .ν) D (omega (arith, length-drop (s .μ * (s .ν * i)) c, row-fits (s .μ * s .ν) i (s .w) l, r .c-length)))
       ∙ ap (λ (x : List ℕ). evalN x z) (concat-pieces (s .μ) (s .ν) D ∙ ap (λ (x : ℕ). take (s .μ * s .ν) (drop x c)) e)
 
   -- the values that an honest answer gives are the polynomials' values

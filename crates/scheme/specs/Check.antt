@@ -1,9 +1,9 @@
 -- Checking: its tests, and the values that it hands out.
 use mathlib.Core.Bool.{Bool, not}
 use mathlib.Core.List.{List, [], _∷_, _++_, map, flatten}
-use Prim.Native.Nat.{ℕ, suc, _+_, _-_, _*_}
+use Prim.Native.Nat.{ℕ, _+_, _-_, _*_}
 use lib.Dec.{eqb}
-use lib.ListN.{length, getD, drop}
+use lib.ListN.{length, getD}
 use Rattle.sponge.specs.Digest.{digest}
 use Rattle.lists.specs.Range.{upFrom}
 use Rattle.lists.specs.Bytes.{Bytes, bytesOf}

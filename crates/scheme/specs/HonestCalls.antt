@@ -10,7 +10,7 @@ use Rattle.scheme.specs.Layers.{Lent, rowPolynomials, batchingAnswer}
 use Rattle.scheme.specs.Question.{mark, readQuestion}
 use Rattle.scheme.specs.Commit.{tableOf, treeOf, lastDigest}
 use Rattle.scheme.specs.Open.{replyOf}
-use Rattle.scheme.specs.Collect.{Call, Entry, forRust, Answered, NoCollision, Covered, Extracted}
+use Rattle.scheme.specs.Collect.{Call, forRust, Answered, NoCollision, Covered, Extracted}
 use Rattle.scheme.specs.Honest.{trueValues}
 
 -- the bytes of a header and of a question

@@ -3,11 +3,10 @@ use mathlib.Core.Path.{_≡_, refl, sym, ap, ap₂, _∙_, subst}
 use mathlib.Core.Bool.{Bool, true, false, not}
 use mathlib.Core.List.{List, [], _∷_, _++_, append-nil}
 use Prim.Native.Nat.{ℕ, _+_, _-_, _*_, _≤_, _<_}
-use native.Mathlib.Nat.{one-mul, zero-add, sub-zero, le-of-eq, mul-le-mul, mul-le-mul-left, not-suc-le-zero}
+use native.Mathlib.Nat.{one-mul, zero-add, le-of-eq, mul-le-mul, mul-le-mul-left, not-suc-le-zero}
 use native.Mathlib.Omega.{arith}
 use lib.Dec.{eqb}
 use lib.ListN.{length, take, drop, drop-of-length-le}
-use lib.Seq.{length-take-le}
 use borrow.Author.Tests.{eq-eqb, ne-eqb}
 use Rattle.lists.specs.Choice.{pick}
 use Rattle.lists.specs.Bytes.{Bytes, bytesOf}
@@ -53,9 +52,6 @@ few-values b s m e =
     let one : s .w * 1 ≤ s .w * s .nu = mul-le-mul-left (s .w) (g .0) in
     let hw : s .w ≤ 256 = omega (arith, g .1) in
     mul-le-mul hw hm
-
-pub front-length : (n : ℕ) (l : List ℕ) → n ≤ length l → length (take (n - 0) l) ≡ n
-front-length n l h = ap (λ (k : ℕ). length (take k l)) (sub-zero n) ∙ length-take-le n l h
 
 module _ (question reply before : Bytes) where
   -- a refusal changes nothing

@@ -2,10 +2,9 @@
 use mathlib.Core.Path.{_≡_, refl, sym, ap, ap₂, _∙_}
 use mathlib.Core.Bool.{Bool, cond}
 use mathlib.Core.List.{List, _++_}
-use mathlib.Core.Logic.{_⊎_, inl, inr, ⊎-elim}
+use mathlib.Core.Logic.{_⊎_, ⊎-elim}
 use Prim.Native.Nat.{ℕ, suc, _+_, _-_, _*_, _/_, _%_, _^_, _<_, _≤_}
-use native.Mathlib.Decide.{decLe}
-use native.Mathlib.Nat.{lt-of-not-le, add-comm, add-assoc, mul-comm, mul-add, mul-left-comm}
+use native.Mathlib.Nat.{add-comm, add-assoc, mul-comm, mul-add, mul-left-comm}
 use native.Mathlib.Omega.{arith}
 use lib.Bits.{bitXor, xor-zero-r, xor-comm, xor-shifted}
 use lib.Dec.{eqb, lit<}
@@ -14,7 +13,7 @@ use lib.Pow.{pow-add, pow-mono, shl-exact}
 use lib.Seq.{set-append-left}
 use borrow.Author.Tests.{eq-eqb, ne-eqb}
 use Rattle.lists.specs.Tabulate.{tabulate, length-tabulate, getD-tabulate, tabulate-ext, set-tabulate}
-use Rattle.lists.specs.Number.{number}
+use Rattle.lists.specs.Number.{number, order}
 use Rattle.sponge.specs.Shake.{padded, word, xorBlock}
 use Rattle.sponge.proofs.Padding.{padding, padded-is, padding-front, padding-whole, padding-middle, padding-end}
 use Rattle.sponge.proofs.Appended.{word-before, word-across, word-after, word-past, word-lt, pow-bytes}
@@ -62,13 +61,6 @@ here k c j e = ap (λ (b : Bool). cond b c 0) (eq-eqb j k e)
 
 elsewhere : (k c j : ℕ) → (j ≡ k → ⊥) → only k c j ≡ 0
 elsewhere k c j h = ap (λ (b : Bool). cond b c 0) (ne-eqb j k h)
-
-order-of : {a b : ℕ} → Dec (a ≤ b) → (a ≤ b) ⊎ (b < a)
-order-of (yes h) = inl h
-order-of (no h) = inr (lt-of-not-le h)
-
-order : (a b : ℕ) → (a ≤ b) ⊎ (b < a)
-order a b = order-of (decLe a b)
 
 -- ---- word j of the last block of m, which has n bytes of m
 module _ (m : List ℕ) (at j : ℕ) (bytes : (i : ℕ) → getD m i 0 < 256) (low : at ≤ length m) (high : length m < at + 136) (rate : j < 17) where

@@ -6,7 +6,8 @@ use lib.ListN.{length, drop}
 use borrow.Rule.Slice.PartMut.{same-len-mid}
 use Rattle.lists.specs.Bytes.{words}
 use Rattle.checker.specs.Words.{rowsOf, valuesAt}
-use Rattle.checker.proofs.Rows.{row-fits, rows-start, row-turn, part-length}
+use Rattle.checker.proofs.Rows.{rows-start, row-turn, part-length}
+use Rattle.lists.specs.Parts.{row-fits}
 use Rattle.checker.proofs.Values.{front-all, length-valuesAt, answer-read, values-is}
 use borrow.Author.Needs.{needs}
 use native.Mathlib.Omega.{arith}

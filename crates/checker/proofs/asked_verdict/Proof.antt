@@ -7,7 +7,7 @@ use Rattle.lists.specs.Tests.{verdictOf}
 use Rattle.scheme.specs.Question.{Question}
 use Rattle.scheme.specs.Check.{replyTests}
 use Rattle.commitment.specs.Shape.{sizesIn}
-use Rattle.checker.proofs.Rows.{read-front}
+use Rattle.lists.specs.Parts.{read-front}
 use Rattle.checker.proofs.Asking.{length-halves, was-posed, posed-is}
 use borrow.Author.Needs.{needs}
 use Rattle.checker.proofs.asked_verdict.Statement.{statement}

@@ -5,7 +5,7 @@ use native.Mathlib.Nat.{mul-le-mul}
 use lib.ListN.{length, take, drop}
 use Rattle.lists.specs.Tests.{each}
 use Rattle.checker.specs.Words.{recordWordsAt, valuedLeaf}
-use Rattle.checker.proofs.Evaluation.{front-length}
+use Rattle.lists.specs.Parts.{front-length}
 use Rattle.checker.proofs.Batching.{batched-is}
 use Rattle.checker.proofs.ReplyTests.{length-recordWordsAt}
 use borrow.Author.Needs.{needs}

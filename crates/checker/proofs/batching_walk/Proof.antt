@@ -8,7 +8,7 @@ use borrow.Author.Tests.{not-true, not-false}
 use Rattle.lists.specs.All.{all-at}
 use Rattle.lists.specs.Tests.{each, each-next}
 use Rattle.checker.specs.Words.{recordWordsAt, valuedAt, valuedLeaf}
-use Rattle.checker.proofs.Rows.{row-fits}
+use Rattle.lists.specs.Parts.{row-fits}
 use Rattle.checker.proofs.Batching.{leaf-none, all-none, leaf-done, dotted-is, valued-fails}
 use borrow.Author.Needs.{needs}
 use native.Mathlib.Omega.{arith}

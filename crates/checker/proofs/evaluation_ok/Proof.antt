@@ -5,7 +5,8 @@ use native.Mathlib.Nat.{mul-le-mul}
 use lib.ListN.{length, take, drop}
 use Rattle.lists.specs.Tests.{each}
 use Rattle.checker.specs.Words.{recordWordsAt, scaledLeaf}
-use Rattle.checker.proofs.Evaluation.{scaled-is, front-length}
+use Rattle.checker.proofs.Evaluation.{scaled-is}
+use Rattle.lists.specs.Parts.{front-length}
 use Rattle.checker.proofs.ReplyTests.{length-recordWordsAt}
 use borrow.Author.Needs.{needs}
 use native.Mathlib.Omega.{arith}

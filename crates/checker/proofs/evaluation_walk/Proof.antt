@@ -6,10 +6,9 @@ use Prim.Native.Nat.{ℕ, _-_, _*_, _≤_, _<_}
 use lib.ListN.{length}
 use borrow.Author.Tests.{not-true, not-false}
 use Rattle.lists.specs.All.{all-at}
-use Rattle.lists.specs.Tests.{each, each-next, each-stop}
+use Rattle.lists.specs.Tests.{each, each-next, each-stop, each-none}
 use Rattle.checker.specs.Words.{recordWordsAt, scaledLeaf}
-use Rattle.checker.proofs.Rows.{row-fits}
-use Rattle.checker.proofs.Flat.{each-none}
+use Rattle.lists.specs.Parts.{row-fits}
 use Rattle.checker.proofs.Evaluation.{leaf-is}
 use borrow.Author.Needs.{needs}
 use native.Mathlib.Omega.{arith}

@@ -5,7 +5,8 @@ use Prim.Native.Nat.{ℕ, _+_, _-_, _*_, _≤_}
 use lib.ListN.{length, drop}
 use borrow.Rule.Slice.PartMut.{same-len-mid}
 use Rattle.checker.specs.Words.{rowsOf, powersAt}
-use Rattle.checker.proofs.Rows.{row-fits, rows-start, row-turn, part-length}
+use Rattle.checker.proofs.Rows.{rows-start, row-turn, part-length}
+use Rattle.lists.specs.Parts.{row-fits}
 use Rattle.checker.proofs.Batching.{length-powersAt, powers-is}
 use borrow.Author.Needs.{needs}
 use native.Mathlib.Omega.{arith}

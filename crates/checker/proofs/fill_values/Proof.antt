@@ -6,9 +6,8 @@ use native.Mathlib.Nat.{mul-comm}
 use lib.ListN.{length, take, drop}
 use Rattle.lists.specs.Bytes.{words, length-words}
 use Rattle.commitment.specs.Shape.{sizesIn}
-use Rattle.checker.proofs.Rows.{read-front}
 use Rattle.checker.proofs.Bounds.{width-high, answers-fit}
-use Rattle.checker.proofs.Evaluation.{front-length}
+use Rattle.lists.specs.Parts.{front-length, read-front}
 use Rattle.checker.proofs.ReplyTests.{values-done}
 use borrow.Author.Needs.{needs}
 use native.Mathlib.Omega.{arith}

@@ -6,7 +6,8 @@ use lib.ListN.{length, drop}
 use borrow.Rule.Slice.PartMut.{same-len-mid}
 use Rattle.lists.specs.All.{all-at}
 use Rattle.checker.specs.Words.{rowsOf, leafDigestAt}
-use Rattle.checker.proofs.Rows.{row-fits, rows-start, row-turn, span-length, part-length}
+use Rattle.checker.proofs.Rows.{rows-start, row-turn, part-length}
+use Rattle.lists.specs.Parts.{row-fits, span-length}
 use Rattle.checker.proofs.Roots.{length-leafDigestAt, digest-row}
 use borrow.Author.Needs.{needs}
 use native.Mathlib.Omega.{arith}

@@ -4,7 +4,7 @@ use mathlib.Core.List.{_++_}
 use Prim.Native.Nat.{_+_, _-_, _≤_}
 use lib.ListN.{length, drop, length-set}
 use Rattle.checker.specs.Words.{pointValues}
-use Rattle.checker.proofs.Rows.{row-fits}
+use Rattle.lists.specs.Parts.{row-fits}
 use Rattle.checker.proofs.Values.{point-start, point-turn, front-all}
 use borrow.Author.Needs.{needs}
 use native.Mathlib.Omega.{arith}

@@ -3,10 +3,9 @@ use mathlib.Core.Path.{_≡_, sym, _∙_}
 use mathlib.Core.Bool.{true}
 use Prim.Native.Nat.{_+_, _-_, _*_, _≤_}
 use borrow.Author.Tests.{not-true, not-false}
-use Rattle.lists.specs.Tests.{each, each-next, each-stop}
+use Rattle.lists.specs.Tests.{each, each-next, each-stop, each-none}
 use Rattle.checker.specs.Words.{recordElementsAt}
-use Rattle.checker.proofs.Rows.{row-fits, span-length}
-use Rattle.checker.proofs.Flat.{each-none}
+use Rattle.lists.specs.Parts.{row-fits, span-length}
 use Rattle.checker.proofs.ReplyTests.{record-tested}
 use borrow.Author.Needs.{needs}
 use native.Mathlib.Omega.{arith}

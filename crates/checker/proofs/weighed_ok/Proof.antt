@@ -4,10 +4,10 @@ use mathlib.Core.Bool.{true}
 use Prim.Native.Nat.{ℕ, _-_, _≤_}
 use lib.ListN.{length}
 use borrow.Author.Tests.{eq-eqb, ne-eqb}
-use Rattle.lists.specs.Tests.{each, each-next, each-stop}
+use Rattle.lists.specs.Tests.{each, each-next, each-stop, each-none}
 use Rattle.checker.specs.Words.{weighedAt}
-use Rattle.checker.proofs.Rows.{row-fits, part-length}
-use Rattle.checker.proofs.Flat.{each-none}
+use Rattle.checker.proofs.Rows.{part-length}
+use Rattle.lists.specs.Parts.{row-fits}
 use Rattle.checker.proofs.Evaluation.{weighed}
 use borrow.Author.Needs.{needs}
 use native.Mathlib.Omega.{arith}

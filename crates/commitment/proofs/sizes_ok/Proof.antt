@@ -1,8 +1,7 @@
 -- `commitment::sizes_ok` meets its contract.
 use mathlib.Core.Path.{sym, _∙_}
-use Rattle.lists.specs.Tests.{every}
+use Rattle.lists.specs.Tests.{every, within-high}
 use Rattle.scheme.specs.Sizes.{sizesOk}
-use Rattle.commitment.proofs.Sizes.{within-high}
 use borrow.Author.Needs.{needs}
 use Rattle.commitment.proofs.sizes_ok.Statement.{statement}
 use Rattle.commitment.proofs.sizes_ok.Tie as tie

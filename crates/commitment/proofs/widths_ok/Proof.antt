@@ -4,7 +4,7 @@ use mathlib.Core.Bool.{Bool, _&&_}
 use Prim.Native.Nat.{_+_, _*_}
 use lib.Dec.{leb}
 use Rattle.lists.specs.Tests.{every}
-use Rattle.commitment.proofs.Scan.{and-right}
+use Rattle.lists.specs.Choice.{and-right}
 use Rattle.commitment.proofs.Sizes.{product-fits}
 use borrow.Author.Needs.{needs}
 use native.Mathlib.Omega.{arith}

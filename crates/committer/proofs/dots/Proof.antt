@@ -4,7 +4,7 @@ use mathlib.Core.List.{List}
 use Prim.Native.Nat.{ℕ, _+_, _-_, _*_, _≤_}
 use lib.ListN.{length, length-set}
 use Rattle.lists.specs.Fill.{Filled, entryOf, filled-none, fill-next}
-use Rattle.scheme.proofs.Row.{room}
+use Rattle.lists.specs.Parts.{row-fits}
 use Rattle.lent.proofs.Parts.{part-length}
 use Rattle.committer.specs.Clauses.{dotsOf}
 use Rattle.committer.proofs.Values.{dots-at, dots-done}
@@ -28,21 +28,21 @@ loop-holds c =
 mul-start : tie.Need-mul-start Inv-loop μ-loop
 mul-start c =
     let w : ℕ = length (c .before .before .before .before .before .args .weights .now) in
-    let r = room w (c .before .loop .j) (length (c .before .before .before .before .before .args .out .now)) (c .loop-test .taken) in
+    let r = row-fits w (c .before .loop .j) (length (c .before .before .before .before .before .args .out .now)) (c .loop-test .taken) in
     let b : w * length (c .before .before .before .before .before .args .out .now) ≤ length (c .before .before .before .before .before .args .rows .now) = c .before .before .before .before .before .pre .0 in
     search needs
 
 add-end : tie.Need-add-end Inv-loop μ-loop
 add-end c =
     let w : ℕ = length (c .before .before .before .before .before .args .weights .now) in
-    let r = room w (c .before .loop .j) (length (c .before .before .before .before .before .args .out .now)) (c .loop-test .taken) in
+    let r = row-fits w (c .before .loop .j) (length (c .before .before .before .before .before .args .out .now)) (c .loop-test .taken) in
     let b : w * length (c .before .before .before .before .before .args .out .now) ≤ length (c .before .before .before .before .before .args .rows .now) = c .before .before .before .before .before .pre .0 in
     search needs
 
 mul-dot : tie.Need-mul-dot Inv-loop μ-loop
 mul-dot c =
     let w : ℕ = length (c .before .before .before .before .before .args .weights .now) in
-    let r = room w (c .before .loop .j) (length (c .before .before .before .before .before .args .out .now)) (c .loop-test .taken) in
+    let r = row-fits w (c .before .loop .j) (length (c .before .before .before .before .before .args .out .now)) (c .loop-test .taken) in
     let b : w * length (c .before .before .before .before .before .args .out .now) ≤ length (c .before .before .before .before .before .args .rows .now) = c .before .before .before .before .before .pre .0 in
     search needs
 
@@ -55,7 +55,7 @@ part-dot-start c = search needs
 part-dot-end : tie.Need-part-dot-end Inv-loop μ-loop
 part-dot-end c =
     let w : ℕ = length (c .before .before .before .before .before .args .weights .now) in
-    let r = room w (c .before .loop .j) (length (c .before .before .before .before .before .args .out .now)) (c .loop-test .taken) in
+    let r = row-fits w (c .before .loop .j) (length (c .before .before .before .before .before .args .out .now)) (c .loop-test .taken) in
     let b : w * length (c .before .before .before .before .before .args .out .now) ≤ length (c .before .before .before .before .before .args .rows .now) = c .before .before .before .before .before .pre .0 in
     search needs
 

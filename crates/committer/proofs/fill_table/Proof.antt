@@ -5,7 +5,7 @@ use Prim.Native.Nat.{ℕ, _+_, _-_, _*_, _≤_, _<_}
 use lib.ListN.{length}
 use Rattle.scheme.specs.Sizes.{Sizes, leaves, recordValues}
 use Rattle.scheme.proofs.Accepted.{Good, good, leaves-high}
-use Rattle.scheme.proofs.Row.{room}
+use Rattle.lists.specs.Parts.{row-fits}
 use Rattle.commitment.specs.Shape.{sizesIn}
 use Rattle.lent.proofs.Measures.{table-bound}
 use Rattle.lent.proofs.Parts.{filledParts, parts-none, parts-length, parts-turn, part-length}
@@ -58,7 +58,7 @@ mul-start c =
     let g : Good s = good s (c .before .before .before .before .before .before .before .before .pre .0 .sizes) in
     let e : c .before .before .before .before .leaf-count .result ≡ leaves s = c .before .before .before .before .leaf-count .ensures in
     let h : leaves s ≤ 4096 = leaves-high s g in
-    let r = room k (c .before .loop .i) (c .before .before .before .before .leaf-count .result) (c .loop-test .taken) in
+    let r = row-fits k (c .before .loop .i) (c .before .before .before .before .leaf-count .result) (c .loop-test .taken) in
     let t : length (c .before .before .before .before .before .before .before .before .args .table .now) ≡ k * c .before .before .before .before .leaf-count .result = c .before .loop .inv .4 in
     let u : length (c .before .before .before .before .before .before .before .before .args .table .now) ≡ leaves s * k = c .before .before .before .before .before .before .before .before .pre .1 in
     let v : leaves s * k ≤ 278528 = table-bound s g in
@@ -71,7 +71,7 @@ add-end c =
     let g : Good s = good s (c .before .before .before .before .before .before .before .before .pre .0 .sizes) in
     let e : c .before .before .before .before .leaf-count .result ≡ leaves s = c .before .before .before .before .leaf-count .ensures in
     let h : leaves s ≤ 4096 = leaves-high s g in
-    let r = room k (c .before .loop .i) (c .before .before .before .before .leaf-count .result) (c .loop-test .taken) in
+    let r = row-fits k (c .before .loop .i) (c .before .before .before .before .leaf-count .result) (c .loop-test .taken) in
     let t : length (c .before .before .before .before .before .before .before .before .args .table .now) ≡ k * c .before .before .before .before .leaf-count .result = c .before .loop .inv .4 in
     let u : length (c .before .before .before .before .before .before .before .before .args .table .now) ≡ leaves s * k = c .before .before .before .before .before .before .before .before .pre .1 in
     let v : leaves s * k ≤ 278528 = table-bound s g in
@@ -84,7 +84,7 @@ cast-t16 c =
     let g : Good s = good s (c .before .before .before .before .before .before .before .before .pre .0 .sizes) in
     let e : c .before .before .before .before .leaf-count .result ≡ leaves s = c .before .before .before .before .leaf-count .ensures in
     let h : leaves s ≤ 4096 = leaves-high s g in
-    let r = room k (c .before .loop .i) (c .before .before .before .before .leaf-count .result) (c .loop-test .taken) in
+    let r = row-fits k (c .before .loop .i) (c .before .before .before .before .leaf-count .result) (c .loop-test .taken) in
     let t : length (c .before .before .before .before .before .before .before .before .args .table .now) ≡ k * c .before .before .before .before .leaf-count .result = c .before .loop .inv .4 in
     let u : length (c .before .before .before .before .before .before .before .before .args .table .now) ≡ leaves s * k = c .before .before .before .before .before .before .before .before .pre .1 in
     let v : leaves s * k ≤ 278528 = table-bound s g in
@@ -97,7 +97,7 @@ mul-leaf-values c =
     let g : Good s = good s (c .before .before .before .before .before .before .before .before .pre .0 .sizes) in
     let e : c .before .before .before .before .leaf-count .result ≡ leaves s = c .before .before .before .before .leaf-count .ensures in
     let h : leaves s ≤ 4096 = leaves-high s g in
-    let r = room k (c .before .loop .i) (c .before .before .before .before .leaf-count .result) (c .loop-test .taken) in
+    let r = row-fits k (c .before .loop .i) (c .before .before .before .before .leaf-count .result) (c .loop-test .taken) in
     let t : length (c .before .before .before .before .before .before .before .before .args .table .now) ≡ k * c .before .before .before .before .leaf-count .result = c .before .loop .inv .4 in
     let u : length (c .before .before .before .before .before .before .before .before .args .table .now) ≡ leaves s * k = c .before .before .before .before .before .before .before .before .pre .1 in
     let v : leaves s * k ≤ 278528 = table-bound s g in
@@ -116,7 +116,7 @@ part-leaf-values-end c =
     let g : Good s = good s (c .before .before .before .before .before .before .before .before .pre .0 .sizes) in
     let e : c .before .before .before .before .leaf-count .result ≡ leaves s = c .before .before .before .before .leaf-count .ensures in
     let h : leaves s ≤ 4096 = leaves-high s g in
-    let r = room k (c .before .loop .i) (c .before .before .before .before .leaf-count .result) (c .loop-test .taken) in
+    let r = row-fits k (c .before .loop .i) (c .before .before .before .before .leaf-count .result) (c .loop-test .taken) in
     let t : length (c .before .before .before .before .before .before .before .before .args .table .now) ≡ k * c .before .before .before .before .leaf-count .result = c .before .loop .inv .4 in
     let u : length (c .before .before .before .before .before .before .before .before .args .table .now) ≡ leaves s * k = c .before .before .before .before .before .before .before .before .pre .1 in
     let v : leaves s * k ≤ 278528 = table-bound s g in
@@ -150,7 +150,7 @@ loop-again c =
     let n : ℕ = c .before .before .before .before .before .before .before .before .leaf-count .result in
     let f : ℕ → List ℕ = valuesOf s (args .rows .now) (args .masks .now) in
     let long : (j : ℕ) → j < n → length (f j) ≡ k = λ j h. values-length s (args .rows .now) (args .masks .now) j in
-    let b : k * (loop .i + 1) ≤ length (args .table .now) = omega (arith, room k (loop .i) n (c .before .before .before .before .loop-test .taken), loop .inv .4) in
+    let b : k * (loop .i + 1) ≤ length (args .table .now) = omega (arith, row-fits k (loop .i) n (c .before .before .before .before .loop-test .taken), loop .inv .4) in
     let t = parts-turn f k n long (loop .i) (loop .i * k) (loop .i * k + k) (args .table .now) (loop .table) (c .before .before .leaf-values .last .1 .1 .1 .1 .1 .0)
     (c .before .before .before .before .loop-test .taken) (omega arith) refl (loop .inv .7) (c .before .before .leaf-values .ensures) in
     (loop .inv .0, refl, loop .inv .2, omega (arith, c .before .before .before .before .loop-test .taken), loop .inv .4, ap length t ∙ parts-length f k n long (loop .i + 1) (args .table .now) (omega (arith, c .before .before .before .before .loop-test .taken)) b, loop .inv .6, t)

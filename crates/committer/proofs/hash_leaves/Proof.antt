@@ -5,7 +5,7 @@ use Prim.Native.Nat.{ℕ, _+_, _-_, _*_, _≤_, _<_}
 use lib.ListN.{length}
 use Rattle.scheme.specs.Sizes.{Sizes, leaves, recordValues}
 use Rattle.scheme.proofs.Accepted.{Good, good, leaves-high}
-use Rattle.scheme.proofs.Row.{room}
+use Rattle.lists.specs.Parts.{row-fits}
 use Rattle.commitment.specs.Shape.{sizesIn}
 use Rattle.lent.proofs.Measures.{table-bound}
 use Rattle.lent.proofs.Parts.{filledParts, parts-none, parts-length, parts-turn, part-length}
@@ -47,7 +47,7 @@ mul-from c =
     let e : c .before .before .before .before .leaf-count .result ≡ leaves s = c .before .before .before .before .leaf-count .ensures in
     let h : leaves s ≤ 4096 = leaves-high s g in
     let l : c .before .loop .index < leaves s = omega (arith, e, c .loop-test .taken) in
-    let r = room k (c .before .loop .index) (leaves s) l in
+    let r = row-fits k (c .before .loop .index) (leaves s) l in
     let t : length (c .before .before .before .before .before .before .before .before .args .table .now) ≡ leaves s * k = c .before .before .before .before .before .before .before .before .pre .table-length in
     let u : length (c .before .before .before .before .before .before .before .before .args .nonces .now) ≡ 32 * leaves s = c .before .before .before .before .before .before .before .before .pre .nonces-length in
     let v : 32 * leaves s ≤ length (c .before .before .before .before .before .before .before .before .args .tree .now) = c .before .before .before .before .before .before .before .before .pre .room in
@@ -62,7 +62,7 @@ add-to c =
     let e : c .before .before .before .before .leaf-count .result ≡ leaves s = c .before .before .before .before .leaf-count .ensures in
     let h : leaves s ≤ 4096 = leaves-high s g in
     let l : c .before .loop .index < leaves s = omega (arith, e, c .loop-test .taken) in
-    let r = room k (c .before .loop .index) (leaves s) l in
+    let r = row-fits k (c .before .loop .index) (leaves s) l in
     let t : length (c .before .before .before .before .before .before .before .before .args .table .now) ≡ leaves s * k = c .before .before .before .before .before .before .before .before .pre .table-length in
     let u : length (c .before .before .before .before .before .before .before .before .args .nonces .now) ≡ 32 * leaves s = c .before .before .before .before .before .before .before .before .pre .nonces-length in
     let v : 32 * leaves s ≤ length (c .before .before .before .before .before .before .before .before .args .tree .now) = c .before .before .before .before .before .before .before .before .pre .room in
@@ -77,7 +77,7 @@ mul-start c =
     let e : c .before .before .before .before .leaf-count .result ≡ leaves s = c .before .before .before .before .leaf-count .ensures in
     let h : leaves s ≤ 4096 = leaves-high s g in
     let l : c .before .loop .index < leaves s = omega (arith, e, c .loop-test .taken) in
-    let r = room k (c .before .loop .index) (leaves s) l in
+    let r = row-fits k (c .before .loop .index) (leaves s) l in
     let t : length (c .before .before .before .before .before .before .before .before .args .table .now) ≡ leaves s * k = c .before .before .before .before .before .before .before .before .pre .table-length in
     let u : length (c .before .before .before .before .before .before .before .before .args .nonces .now) ≡ 32 * leaves s = c .before .before .before .before .before .before .before .before .pre .nonces-length in
     let v : 32 * leaves s ≤ length (c .before .before .before .before .before .before .before .before .args .tree .now) = c .before .before .before .before .before .before .before .before .pre .room in
@@ -92,7 +92,7 @@ add-end c =
     let e : c .before .before .before .before .leaf-count .result ≡ leaves s = c .before .before .before .before .leaf-count .ensures in
     let h : leaves s ≤ 4096 = leaves-high s g in
     let l : c .before .loop .index < leaves s = omega (arith, e, c .loop-test .taken) in
-    let r = room k (c .before .loop .index) (leaves s) l in
+    let r = row-fits k (c .before .loop .index) (leaves s) l in
     let t : length (c .before .before .before .before .before .before .before .before .args .table .now) ≡ leaves s * k = c .before .before .before .before .before .before .before .before .pre .table-length in
     let u : length (c .before .before .before .before .before .before .before .before .args .nonces .now) ≡ 32 * leaves s = c .before .before .before .before .before .before .before .before .pre .nonces-length in
     let v : 32 * leaves s ≤ length (c .before .before .before .before .before .before .before .before .args .tree .now) = c .before .before .before .before .before .before .before .before .pre .room in
@@ -107,7 +107,7 @@ cast-t16 c =
     let e : c .before .before .before .before .leaf-count .result ≡ leaves s = c .before .before .before .before .leaf-count .ensures in
     let h : leaves s ≤ 4096 = leaves-high s g in
     let l : c .before .loop .index < leaves s = omega (arith, e, c .loop-test .taken) in
-    let r = room k (c .before .loop .index) (leaves s) l in
+    let r = row-fits k (c .before .loop .index) (leaves s) l in
     let t : length (c .before .before .before .before .before .before .before .before .args .table .now) ≡ leaves s * k = c .before .before .before .before .before .before .before .before .pre .table-length in
     let u : length (c .before .before .before .before .before .before .before .before .args .nonces .now) ≡ 32 * leaves s = c .before .before .before .before .before .before .before .before .pre .nonces-length in
     let v : 32 * leaves s ≤ length (c .before .before .before .before .before .before .before .before .args .tree .now) = c .before .before .before .before .before .before .before .before .pre .room in
@@ -122,7 +122,7 @@ mul-hash-leaf c =
     let e : c .before .before .before .before .leaf-count .result ≡ leaves s = c .before .before .before .before .leaf-count .ensures in
     let h : leaves s ≤ 4096 = leaves-high s g in
     let l : c .before .loop .index < leaves s = omega (arith, e, c .loop-test .taken) in
-    let r = room k (c .before .loop .index) (leaves s) l in
+    let r = row-fits k (c .before .loop .index) (leaves s) l in
     let t : length (c .before .before .before .before .before .before .before .before .args .table .now) ≡ leaves s * k = c .before .before .before .before .before .before .before .before .pre .table-length in
     let u : length (c .before .before .before .before .before .before .before .before .args .nonces .now) ≡ 32 * leaves s = c .before .before .before .before .before .before .before .before .pre .nonces-length in
     let v : 32 * leaves s ≤ length (c .before .before .before .before .before .before .before .before .args .tree .now) = c .before .before .before .before .before .before .before .before .pre .room in
@@ -143,7 +143,7 @@ part-hash-leaf-end c =
     let e : c .before .before .before .before .leaf-count .result ≡ leaves s = c .before .before .before .before .leaf-count .ensures in
     let h : leaves s ≤ 4096 = leaves-high s g in
     let l : c .before .loop .index < leaves s = omega (arith, e, c .loop-test .taken) in
-    let r = room k (c .before .loop .index) (leaves s) l in
+    let r = row-fits k (c .before .loop .index) (leaves s) l in
     let t : length (c .before .before .before .before .before .before .before .before .args .table .now) ≡ leaves s * k = c .before .before .before .before .before .before .before .before .pre .table-length in
     let u : length (c .before .before .before .before .before .before .before .before .args .nonces .now) ≡ 32 * leaves s = c .before .before .before .before .before .before .before .before .pre .nonces-length in
     let v : 32 * leaves s ≤ length (c .before .before .before .before .before .before .before .before .args .tree .now) = c .before .before .before .before .before .before .before .before .pre .room in
@@ -164,7 +164,7 @@ part-hash-leaf-end-2 c =
     let e : c .before .before .before .before .before .leaf-count .result ≡ leaves s = c .before .before .before .before .before .leaf-count .ensures in
     let h : leaves s ≤ 4096 = leaves-high s g in
     let l : c .before .before .loop .index < leaves s = omega (arith, e, c .before .loop-test .taken) in
-    let r = room k (c .before .before .loop .index) (leaves s) l in
+    let r = row-fits k (c .before .before .loop .index) (leaves s) l in
     let t : length (c .before .before .before .before .before .before .before .before .before .args .table .now) ≡ leaves s * k = c .before .before .before .before .before .before .before .before .before .pre .table-length in
     let u : length (c .before .before .before .before .before .before .before .before .before .args .nonces .now) ≡ 32 * leaves s = c .before .before .before .before .before .before .before .before .before .pre .nonces-length in
     let v : 32 * leaves s ≤ length (c .before .before .before .before .before .before .before .before .before .args .tree .now) = c .before .before .before .before .before .before .before .before .before .pre .room in
@@ -185,7 +185,7 @@ part-hash-leaf-end-3 c =
     let e : c .before .before .before .before .before .before .leaf-count .result ≡ leaves s = c .before .before .before .before .before .before .leaf-count .ensures in
     let h : leaves s ≤ 4096 = leaves-high s g in
     let l : c .before .before .before .loop .index < leaves s = omega (arith, e, c .before .before .loop-test .taken) in
-    let r = room k (c .before .before .before .loop .index) (leaves s) l in
+    let r = row-fits k (c .before .before .before .loop .index) (leaves s) l in
     let t : length (c .before .before .before .before .before .before .before .before .before .before .args .table .now) ≡ leaves s * k = c .before .before .before .before .before .before .before .before .before .before .pre .table-length in
     let u : length (c .before .before .before .before .before .before .before .before .before .before .args .nonces .now) ≡ 32 * leaves s = c .before .before .before .before .before .before .before .before .before .before .pre .nonces-length in
     let v : 32 * leaves s ≤ length (c .before .before .before .before .before .before .before .before .before .before .args .tree .now) = c .before .before .before .before .before .before .before .before .before .before .pre .room in

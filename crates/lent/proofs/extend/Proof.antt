@@ -6,7 +6,7 @@ use lib.ListN.{length}
 use Rattle.scheme.specs.Sizes.{Sizes, rows}
 use Rattle.scheme.specs.Sizes.{width as widthOf}
 use Rattle.scheme.specs.Layers.{Lent, lentOf, extended}
-use Rattle.scheme.proofs.Row.{room}
+use Rattle.lists.specs.Parts.{row-fits}
 use Rattle.commitment.specs.Shape.{sizesIn}
 use Rattle.lent.specs.Rows.{CanExtend}
 use Rattle.lent.proofs.Parts.{filledParts, parts-none, parts-length, parts-turn, part-length}
@@ -40,19 +40,19 @@ loop-holds c =
 
 mul-start : tie.Need-mul-start Inv-loop μ-loop
 mul-start c =
-    let r = room (c .before .before .row-width .result) (c .before .loop .j) (c .before .before .before .before .before .before .before .args .s .mu) (c .loop-test .taken) in
+    let r = row-fits (c .before .before .row-width .result) (c .before .loop .j) (c .before .before .before .before .before .before .before .args .s .mu) (c .loop-test .taken) in
     let b : c .before .before .before .before .before .before .before .args .s .mu * c .before .before .row-width .result ≤ length (c .before .before .before .before .before .before .before .args .out .now) = c .before .loop .inv .3 in
     search needs
 
 add-end : tie.Need-add-end Inv-loop μ-loop
 add-end c =
-    let r = room (c .before .before .row-width .result) (c .before .loop .j) (c .before .before .before .before .before .before .before .args .s .mu) (c .loop-test .taken) in
+    let r = row-fits (c .before .before .row-width .result) (c .before .loop .j) (c .before .before .before .before .before .before .before .args .s .mu) (c .loop-test .taken) in
     let b : c .before .before .before .before .before .before .before .args .s .mu * c .before .before .row-width .result ≤ length (c .before .before .before .before .before .before .before .args .out .now) = c .before .loop .inv .3 in
     search needs
 
 mul-extend-row : tie.Need-mul-extend-row Inv-loop μ-loop
 mul-extend-row c =
-    let r = room (c .before .before .row-width .result) (c .before .loop .j) (c .before .before .before .before .before .before .before .args .s .mu) (c .loop-test .taken) in
+    let r = row-fits (c .before .before .row-width .result) (c .before .loop .j) (c .before .before .before .before .before .before .before .args .s .mu) (c .loop-test .taken) in
     let b : c .before .before .before .before .before .before .before .args .s .mu * c .before .before .row-width .result ≤ length (c .before .before .before .before .before .before .before .args .out .now) = c .before .loop .inv .3 in
     search needs
 
@@ -64,7 +64,7 @@ part-extend-row-start c = search needs
 
 part-extend-row-end : tie.Need-part-extend-row-end Inv-loop μ-loop
 part-extend-row-end c =
-    let r = room (c .before .before .row-width .result) (c .before .loop .j) (c .before .before .before .before .before .before .before .args .s .mu) (c .loop-test .taken) in
+    let r = row-fits (c .before .before .row-width .result) (c .before .loop .j) (c .before .before .before .before .before .before .before .args .s .mu) (c .loop-test .taken) in
     let b : c .before .before .before .before .before .before .before .args .s .mu * c .before .before .row-width .result ≤ length (c .before .before .before .before .before .before .before .args .out .now) = c .before .loop .inv .3 in
     search needs
 
@@ -94,7 +94,7 @@ loop-again c =
     let w : ℕ = c .before .before .before .before .before .before .row-width .result in
     let e : c .before .before .before .before .before .before .row-width .result ≡ widthOf s = loop .inv .1 in
     let long : (j : ℕ) → j < args .s .mu → length (extended s l j) ≡ w = λ j h. extended-length s l (loop .inv .5) j h ∙ sym e in
-    let b : w * (loop .j + 1) ≤ length (args .out .now) = omega (arith, room w (loop .j) (args .s .mu) (c .before .before .before .before .loop-test .taken), loop .inv .3) in
+    let b : w * (loop .j + 1) ≤ length (args .out .now) = omega (arith, row-fits w (loop .j) (args .s .mu) (c .before .before .before .before .loop-test .taken), loop .inv .3) in
     let t = parts-turn (extended s l) w (args .s .mu) long (loop .j) (loop .j * w) (loop .j * w + w) (args .out .now) (loop .out) (c .before .before .extend-row .last .1 .1 .1 .1 .0)
     (c .before .before .before .before .loop-test .taken) (omega arith) refl (loop .inv .6) (c .before .before .extend-row .ensures) in
     (refl, e, omega (arith, c .before .before .before .before .loop-test .taken), loop .inv .3, ap length t ∙ parts-length (extended s l) w (args .s .mu) long (loop .j + 1) (args .out .now) (omega (arith, c .before .before .before .before .loop-test .taken)) b, loop .inv .5, t)

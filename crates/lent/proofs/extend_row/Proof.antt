@@ -7,7 +7,7 @@ use lib.Seq.{length-take-le}
 use Rattle.scheme.specs.Sizes.{Sizes, columns, width}
 use Rattle.scheme.specs.Layers.{lentOf}
 use Rattle.scheme.proofs.Accepted.{good}
-use Rattle.scheme.proofs.Row.{room}
+use Rattle.lists.specs.Parts.{row-fits}
 use Rattle.commitment.specs.Shape.{sizesIn}
 use Rattle.lent.proofs.Rows.{entries-fit, entries-kept, tails-fit, extended-is}
 use borrow.Author.Needs.{needs}
@@ -25,7 +25,7 @@ mul-first : tie.Need-mul-first
 mul-first c =
     let args = c .before .before .before .before .before .args in
     let s : Sizes = sizesIn (args .s) in
-    omega (arith, room (s .ℓ) (args .j) (s .μ) (c .before .before .before .before .before .pre .1), good s (c .before .before .before .before .before .pre .0 .sizes) .ℓ-high, c .before .before .before .before .before .pre .0 .tails-length)
+    omega (arith, row-fits (s .ℓ) (args .j) (s .μ) (c .before .before .before .before .before .pre .1), good s (c .before .before .before .before .before .pre .0 .sizes) .ℓ-high, c .before .before .before .before .before .pre .0 .tails-length)
 
 cast-take-every : tie.Need-cast-take-every
 cast-take-every c = search needs

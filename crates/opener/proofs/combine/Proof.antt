@@ -3,7 +3,7 @@ use mathlib.Core.Path.{_≡_, refl, _∙_, ap}
 use Prim.Native.Nat.{ℕ, _+_, _*_, _-_, _<_}
 use lib.ListN.{length, take, drop}
 use Rattle.algebra.specs.Dot.{accumulateN}
-use Rattle.scheme.proofs.Row.{room}
+use Rattle.lists.specs.Parts.{row-fits}
 use Rattle.opener.proofs.Combining.{combinedFrom, combined-length, combined-last, combined-next, combined-all, last-length}
 use borrow.Author.Needs.{needs}
 use native.Mathlib.Omega.{arith}
@@ -22,27 +22,27 @@ sub-j c = search needs
 mul-last : tie.Need-mul-last Inv-loop μ-loop
 mul-last c =
     let s = c .before .before .args in
-    let h = room (length (s .out .now)) (s .mu - 1) (s .mu) (omega arith) in search needs
+    let h = row-fits (length (s .out .now)) (s .mu - 1) (s .mu) (omega arith) in search needs
 
 mul-fold : tie.Need-mul-fold Inv-loop μ-loop
 mul-fold c =
     let s = c .before .before .before .args in
-    let h = room (length (s .out .now)) (s .mu - 1) (s .mu) (omega arith) in search needs
+    let h = row-fits (length (s .out .now)) (s .mu - 1) (s .mu) (omega arith) in search needs
 
 sub-fold : tie.Need-sub-fold Inv-loop μ-loop
 sub-fold c =
     let s = c .before .before .before .args in
-    let h = room (length (s .out .now)) (s .mu - 1) (s .mu) (omega arith) in search needs
+    let h = row-fits (length (s .out .now)) (s .mu - 1) (s .mu) (omega arith) in search needs
 
 part-fold-start : tie.Need-part-fold-start Inv-loop μ-loop
 part-fold-start c =
     let s = c .before .before .before .args in
-    let h = room (length (s .out .now)) (s .mu - 1) (s .mu) (omega arith) in search needs
+    let h = row-fits (length (s .out .now)) (s .mu - 1) (s .mu) (omega arith) in search needs
 
 part-fold-end : tie.Need-part-fold-end Inv-loop μ-loop
 part-fold-end c =
     let s = c .before .before .before .args in
-    let h = room (length (s .out .now)) (s .mu - 1) (s .mu) (omega arith) in search needs
+    let h = row-fits (length (s .out .now)) (s .mu - 1) (s .mu) (omega arith) in search needs
 
 fold-requires : tie.Need-fold-requires Inv-loop μ-loop
 fold-requires c κs =
@@ -63,17 +63,17 @@ sub-j-2 c = search needs
 mul-from : tie.Need-mul-from Inv-loop μ-loop
 mul-from c =
     let s = c .before .before .before .before .before .before .before .before .before .args in
-    let h = room (length (s .out .now)) (c .before .loop .j - 1) (s .mu) (omega arith) in search needs
+    let h = row-fits (length (s .out .now)) (c .before .loop .j - 1) (s .mu) (omega arith) in search needs
 
 add-to : tie.Need-add-to Inv-loop μ-loop
 add-to c =
     let s = c .before .before .before .before .before .before .before .before .before .args in
-    let h = room (length (s .out .now)) (c .before .loop .j - 1) (s .mu) (omega arith) in search needs
+    let h = row-fits (length (s .out .now)) (c .before .loop .j - 1) (s .mu) (omega arith) in search needs
 
 mul-fold-2 : tie.Need-mul-fold-2 Inv-loop μ-loop
 mul-fold-2 c =
     let s = c .before .before .before .before .before .before .before .before .before .before .args in
-    let h = room (length (s .out .now)) (c .before .before .loop .j - 1) (s .mu) (omega arith) in search needs
+    let h = row-fits (length (s .out .now)) (c .before .before .loop .j - 1) (s .mu) (omega arith) in search needs
 
 sub-fold-2 : tie.Need-sub-fold-2 Inv-loop μ-loop
 sub-fold-2 c = search needs
@@ -84,7 +84,7 @@ part-fold-start-2 c = search needs
 part-fold-end-2 : tie.Need-part-fold-end-2 Inv-loop μ-loop
 part-fold-end-2 c =
     let s = c .before .before .before .before .before .before .before .before .before .before .args in
-    let h = room (length (s .out .now)) (c .before .before .loop .j - 1) (s .mu) (omega arith) in search needs
+    let h = row-fits (length (s .out .now)) (c .before .before .loop .j - 1) (s .mu) (omega arith) in search needs
 
 fold-requires-2 : tie.Need-fold-requires-2 Inv-loop μ-loop
 fold-requires-2 c κs = search needs

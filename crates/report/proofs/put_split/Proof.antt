@@ -2,7 +2,7 @@
 use Prim.Native.Nat.{_*_, _-_}
 use native.Mathlib.Omega.{arith}
 use lib.ListN.{take}
-use Rattle.report.proofs.Writing.{front-length}
+use Rattle.lists.specs.Parts.{front-length}
 use Rattle.report.proofs.Split.{few-values, printed-split}
 use borrow.Author.Needs.{needs}
 use Rattle.report.proofs.put_split.Statement.{statement}

@@ -3,7 +3,8 @@ use mathlib.Core.Path.{sym, _∙_}
 use Prim.Native.Nat.{ℕ, _-_, _*_}
 use native.Mathlib.Omega.{arith}
 use lib.ListN.{take}
-use Rattle.smallwood.proofs.Values.{few-values, front-length, wrong-length, checked-bytes, question-refused}
+use Rattle.smallwood.proofs.Values.{few-values, wrong-length, checked-bytes, question-refused}
+use Rattle.lists.specs.Parts.{front-length}
 use borrow.Author.Needs.{needs}
 use Rattle.smallwood.proofs.smallwood_check.Statement.{statement}
 use Rattle.smallwood.proofs.smallwood_check.Tie as tie
