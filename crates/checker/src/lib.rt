@@ -2,7 +2,7 @@
 ghost use mathlib.Core.Path.{_≡_};
 ghost use mathlib.Core.List.{[], _∷_, _++_};
 ghost use Prim.Native.Nat.{_+_, _-_, _*_, _<_, _≤_};
-ghost use lib.ListN.{length, drop};
+ghost use lib.ListN.{length, getD, drop};
 ghost use Rattle.lists.specs.All.{Below};
 ghost use Rattle.lists.specs.Bytes.{words};
 ghost use Rattle.lists.specs.Tests.{verdictOf, every, each};
@@ -27,6 +27,15 @@ fn leaf_point(i: LeafIndex) -> Element
     ensures { λ r. ⌜ r .0 ≡ leafPoint (i .0) ⌝ }
 {
     Element(i.0)
+}
+
+// The point of opened leaf a.
+fn opened_point(indices: &[usize], a: usize) -> Element
+    requires { ⌜ (a < length (now indices)) × Below 65536 (now indices) ⌝ }
+    ensures { λ r. ⌜ r .0 ≡ leafPoint (getD (now (indices .entry)) a 0) ⌝ }
+{
+    let i = indices[a];
+    leaf_point(LeafIndex(i as u32))
 }
 
 // ---- sizes
@@ -217,9 +226,8 @@ fn batching_walk(
 {
     let mut ok = true;
     'walk: for a in 0..indices.len() {
-        let leaf = indices[a];
-        let x = leaf_point(LeafIndex(leaf as u32));
-        field::powers(x, powers);
+        let e = opened_point(indices, a);
+        field::powers(e, powers);
         read_record(at, size, a, reply, values);
         for k in 0..challenges.len() {
             if !batching_agrees(k, mu, challenges, batching, powers, scales, values) {
@@ -338,8 +346,7 @@ fn evaluation_walk(
 {
     let first = Element(leaves as u32);
     for a in 0..indices.len() {
-        let opened = indices[a];
-        let x = leaf_point(LeafIndex(opened as u32));
+        let x = opened_point(indices, a);
         read_record(at, size, a, reply, rows);
         if !leaf_ok(m, first, x, width, scales, answers, rows) {
             return false;

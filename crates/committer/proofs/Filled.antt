@@ -55,10 +55,10 @@ module _ (s : Sizes) (coefficients tails masks nonces table nodes : List ℕ) (c
   pub rows-bound : rows s * width s ≤ 20480
   rows-bound = mul-le-mul {n₂ = 64} {m₂ = 320} (g .μ-high) (omega (arith, g .columns-high, g .ℓ-high))
 
-  pub evaluable : (ext : List ℕ) → length ext ≡ 20480 → Evaluable s ext masks
+  pub evaluable : (ext : List ℕ) → rows s * width s ≤ length ext → Evaluable s ext masks
   evaluable ext e = record {
     sizes = c .right .sizes;
-    rows-length = omega (arith, rows-bound);
+    rows-length = omega arith;
     masks-length = omega (arith, r .m-length);
   }
 

@@ -10,7 +10,7 @@ ghost use Rattle.algebra.specs.Prime.{q};
 ghost use Rattle.algebra.specs.Numbers.{interpN, valuesAtN};
 ghost use Rattle.sponge.specs.Digest.{digest};
 ghost use Rattle.tree.specs.Leaf.{leafString};
-ghost use Rattle.scheme.specs.Sizes.{sizesOf, leaves, leafPoint, recordValues};
+ghost use Rattle.scheme.specs.Sizes.{sizesOf, leaves, width, leafPoint, recordValues};
 ghost use Rattle.scheme.specs.Layers.{lentOf};
 ghost use Rattle.scheme.specs.Commit.{tableOf, leafDigests, treeOf, commitVerdict, committing};
 ghost use Rattle.commitment.specs.Shape.{sizesIn};
@@ -172,12 +172,37 @@ fn hash_leaves(s: Shape, table: &[u32], nonces: &[u8], tree: &mut [u8])
 
 // ---- committing
 
-// Room for all rows with their tails.
+// Room for all rows with their tails, at the largest sizes, and where they have at most 512 elements.
 fn blank_rows() -> [u32; 20480] {
     [0u32; 20480]
 }
 
-// The table, and the tree over it.
+fn blank_few_rows() -> [u32; 512] {
+    [0u32; 512]
+}
+
+// The table, and the tree over it; `rows` is room for all rows with their tails.
+fn fill_over(
+    s: Shape,
+    coefficients: &[u32],
+    tails: &[u32],
+    masks: &[u32],
+    nonces: &[u8],
+    rows: &mut [u32],
+    table: &mut [u32],
+    tree: &mut [u8],
+)
+    requires { ⌜ Committable (sizesIn s) (lentOf (now coefficients) (now tails) (now masks) (now nonces)) (now table) (now tree) × (s .mu * width (sizesIn s) ≤ length (now rows)) ⌝ }
+    ensures { λ _. ⌜ now (table .exit) ≡ tableOf (sizesIn s) (lentOf (now (coefficients .entry)) (now (tails .entry)) (now (masks .entry)) (now (nonces .entry))) ⌝ }
+    ensures { λ _. ⌜ now (tree .exit) ≡ treeOf (sizesIn s) (lentOf (now (coefficients .entry)) (now (tails .entry)) (now (masks .entry)) (now (nonces .entry))) ⌝ }
+{
+    extend(s, coefficients, tails, rows);
+    fill_table(s, rows, masks, table);
+    hash_leaves(s, table, nonces, tree);
+    fill_tree(s.h as usize, leaf_count(s.h), tree);
+}
+
+// The table, and the tree over it. Few rows take a small array, since arrays are cleared.
 fn fill(
     s: Shape,
     coefficients: &[u32],
@@ -191,11 +216,31 @@ fn fill(
     ensures { λ _. ⌜ now (table .exit) ≡ tableOf (sizesIn s) (lentOf (now (coefficients .entry)) (now (tails .entry)) (now (masks .entry)) (now (nonces .entry))) ⌝ }
     ensures { λ _. ⌜ now (tree .exit) ≡ treeOf (sizesIn s) (lentOf (now (coefficients .entry)) (now (tails .entry)) (now (masks .entry)) (now (nonces .entry))) ⌝ }
 {
-    let mut rows = blank_rows();
-    extend(s, coefficients, tails, &mut rows);
-    fill_table(s, &rows, masks, table);
-    hash_leaves(s, table, nonces, tree);
-    fill_tree(s.h as usize, leaf_count(s.h), tree);
+    if s.mu as usize * row_width(s) <= 512 {
+        let mut rows = blank_few_rows();
+        fill_over(
+            s,
+            coefficients,
+            tails,
+            masks,
+            nonces,
+            &mut rows,
+            table,
+            tree,
+        );
+    } else {
+        let mut rows = blank_rows();
+        fill_over(
+            s,
+            coefficients,
+            tails,
+            masks,
+            nonces,
+            &mut rows,
+            table,
+            tree,
+        );
+    }
 }
 
 // The number of the first test that holds, or 0.

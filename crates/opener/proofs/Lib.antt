@@ -6,6 +6,7 @@ pub mod Answers
 pub mod Places
 pub mod Order
 pub mod Given
+pub mod Rows
 pub mod Sums
 pub mod Leaves
 pub mod Replying

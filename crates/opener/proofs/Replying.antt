@@ -1,38 +1,33 @@
 -- The whole reply, where all tests have passed.
-use mathlib.Core.Path.{_≡_, refl, sym, ap, ap₂, _∙_, subst}
+use mathlib.Core.Path.{_≡_, sym, ap, ap₂, _∙_, subst}
 use mathlib.Core.Bool.{true}
-use mathlib.Core.List.{List, [], _++_, map, flatten, append-assoc, append-nil}
+use mathlib.Core.List.{List, [], _++_, map, flatten, append-assoc}
 use Prim.Native.Nat.{ℕ, _+_, _-_, _*_, _≤_, _<_}
-use native.Mathlib.Nat.{mul-comm, mul-le-mul, pow-suc, le-of-eq}
+use native.Mathlib.Nat.{pow-suc, le-of-eq}
 use native.Mathlib.Omega.{arith}
 use lib.ListN.{length, take, drop, length-map}
 use lib.Seq.{take-at, drop-at, drop-drop}
 use borrow.Author.Tests.{eqb-true}
-use Rattle.lists.specs.All.{Sized, all-imp, all-flatten}
 use Rattle.lists.specs.Bytes.{Bytes, bytesOf, halves}
-use Rattle.lists.specs.Pieces.{pieces, length-pieces, pieces-flatten, length-flatten}
-use Rattle.lists.specs.Range.{upFrom, length-upFrom}
+use Rattle.lists.specs.Pieces.{pieces, length-pieces}
 use Rattle.lists.specs.Tests.{every-true}
 use Rattle.tree.specs.Sets.{missing, treeSize}
 use Rattle.tree.specs.Tree.{allParts, opened}
 use Rattle.tree.proofs.Counts.{missing-bound}
 use Rattle.tree.proofs.Rows.{tree-size}
-use Rattle.algebra.specs.Prime.{q}
-use Rattle.algebra.specs.Numbers.{Elements}
-use Rattle.scheme.specs.Sizes.{Sizes, leaves, rows, width, recordValues, sizesOk}
-use Rattle.scheme.specs.Layers.{Lent, lentOf, extended, extendedRows}
-use Rattle.scheme.specs.Question.{Question, questionLength, indicesAt}
+use Rattle.scheme.specs.Sizes.{Sizes, leaves, rows, width, recordValues}
+use Rattle.scheme.specs.Layers.{Lent, lentOf, extendedRows}
+use Rattle.scheme.specs.Question.{Question, indicesAt}
 use Rattle.scheme.specs.Reply.{recordsAt, nodesAt, replyLength}
 use Rattle.scheme.specs.Commit.{filledOk, leafRecord}
 use Rattle.scheme.specs.Open.{openedBatching, openedAnswers, replyOf}
 use Rattle.scheme.proofs.Accepted.{Good, good}
 use Rattle.scheme.proofs.Lent.{Rights, rights}
-use Rattle.scheme.proofs.Row.{ext-polys}
-use Rattle.lent.specs.Rows.{CanExtend}
 use Rattle.lent.proofs.Rows.{rows-lent}
-use Rattle.opener.specs.Parts.{Lined, CanList, sums}
+use Rattle.opener.specs.Parts.{CanList, CanSum, sums}
 use Rattle.opener.specs.Ready.{questionOf, Ready}
-use Rattle.opener.proofs.Places.{width-high, paths-high, nodes-high}
+use Rattle.opener.proofs.Places.{paths-high, nodes-high}
+use Rattle.opener.proofs.Rows.{ext-pieces}
 use Rattle.opener.proofs.Sums.{sums-length, sums-opened}
 
 filled-lengths : (s : Sizes) (table nodes : List ℕ) → filledOk s table nodes ≡ true → (length table ≡ leaves s * recordValues s) × (length nodes ≡ 32 * (2 * leaves s - 1))
@@ -49,58 +44,28 @@ module _ (question : Bytes) (t : Sizes) (m : ℕ) (l : Lent) (table : List ℕ) 
   r : Rights t l
   r = rights t l (record { sizes = ready .sizes; lengths = ready .lengths; elements = ready .elements })
 
-  -- ---- the rows
+  -- ---- the answers
 
   abbrev ext : List (List ℕ)
-  ext = extendedRows t l
+  ext = extendedRows t (lentOf (l .coefficients) (l .tails) [] [])
 
-  ext-sized : Sized (width t) ext
-  ext-sized = all-imp (λ (p : List ℕ) (h : (length p ≡ width t) × Elements p). h .0) ext (ext-polys t l r)
-
-  ext-count : length ext ≡ rows t
-  ext-count = length-map (upFrom 0 (rows t)) (extended t l) ∙ length-upFrom 0 (rows t)
-
-  ext-length : length (flatten ext) ≡ width t * rows t
-  ext-length = length-flatten (width t) ext ext-sized ∙ ap (λ (k : ℕ). width t * k) ext-count
-
-  ext-pieces : pieces (width t) (rows t) (flatten ext) ≡ ext
-  ext-pieces =
-      ap₂ (λ (k : ℕ) (x : List ℕ). pieces (width t) k x) (sym ext-count) (sym (append-nil (flatten ext))) ∙ pieces-flatten (width t) ext [] ext-sized
-
-  pub elements-high : (n : ℕ) → n ≡ width t → t .μ * n ≤ 20480
-  elements-high n e = mul-le-mul {n₂ = 64} {m₂ = 320} (g .μ-high) (subst (λ (k : ℕ). k ≤ 320) (sym e) (width-high t g))
-
-  pub extend-asks : (b : List ℕ) → length b ≡ 20480 → CanExtend t (l .coefficients) (l .tails) × (rows t * width t ≤ length b)
-  extend-asks b e = (
-    record { sizes = ready .sizes; coefficients-length = r .c-length; tails-length = r .t-length },
-    subst (λ (k : ℕ). rows t * width t ≤ k) (sym e) (elements-high (width t) refl),
-  )
-
-  pub rows-front : (n : ℕ) (b x : List ℕ) → n ≡ width t → x ≡ flatten (extendedRows t (lentOf (l .coefficients) (l .tails) [] [])) ++ drop (rows t * width t) b
-      → take (t .μ * n) x ≡ flatten ext
-  rows-front n b x e f =
-      ap₂ (λ (k : ℕ) (y : List ℕ). take (t .μ * k) y) e
-      (f ∙ ap (λ (es : List (List ℕ)). flatten es ++ drop (rows t * width t) b) (rows-lent t (l .coefficients) (l .tails) (l .masks) (l .nonces)))
-      ∙ take-at (flatten ext) (drop (rows t * width t) b) (rows t * width t) (ext-length ∙ mul-comm (width t) (rows t))
-
-  pub rows-length : (n : ℕ) → n ≡ width t → length (flatten ext) ≡ t .μ * n
-  rows-length n e = ext-length ∙ mul-comm (width t) (rows t) ∙ ap (λ (k : ℕ). t .μ * k) (sym e)
-
-  lined : Lined (width t) (t .μ) (flatten ext)
-  lined = record {
-    whole = ext-length;
-    some = g .μ-low;
-    few = g .μ-high;
-    narrow = width-high t g;
-    below = all-flatten (λ (x : ℕ). x < q) ext (all-imp (λ (p : List ℕ) (h : (length p ≡ width t) × Elements p). h .1) ext (ext-polys t l r));
+  pub can-sum : CanSum question t m (l .coefficients) (l .tails) (l .masks) reply
+  can-sum = record {
+    points = ready .points;
+    long = ready .long;
+    extend = record { sizes = ready .sizes; coefficients-length = r .c-length; tails-length = r .t-length };
+    coefficients-below = r .c-below;
+    tails-below = r .t-below;
+    masks-length = r .m-length;
+    room = omega (arith, ready .room);
   }
 
-  records-room : recordsAt t m ≤ length reply
-  records-room = omega (arith, ready .room)
-
-  pub sums-asks : (x : List ℕ) → x ≡ flatten ext
-      → (sizesOk t ≡ true) × (m ≤ 8) × (length question ≡ questionLength t m) × (length (l .masks) ≡ t .η * width t) × Lined (width t) (t .μ) x × (recordsAt t m ≤ length reply)
-  sums-asks x e = (ready .sizes, ready .points, ready .long, r .m-length, subst (Lined (width t) (t .μ)) (sym e) lined, records-room)
+  answers-are : sums u (flatten ext) (l .masks) ≡ bytesOf (flatten (openedBatching u l)) ++ bytesOf (flatten (openedAnswers u l))
+  answers-are =
+      let e : ext ≡ extendedRows t l = rows-lent t (l .coefficients) (l .tails) (l .masks) (l .nonces) in
+      ap (λ (es : List (List ℕ)). sums u (flatten es) (l .masks)) e
+      ∙ sums-opened u l
+      (subst (λ (es : List (List ℕ)). pieces (width t) (rows t) (flatten es) ≡ es) e (ext-pieces question t m (l .coefficients) (l .tails) (l .masks) reply can-sum))
 
   -- ---- the indices
 
@@ -172,16 +137,14 @@ module _ (question : Bytes) (t : Sizes) (m : ℕ) (l : Lent) (table : List ℕ) 
       halves-are k (sums u (flatten ext) (l .masks)) (leafPart (u .indices)) reply o₁ o₂ (sums-length t m question (flatten ext) (l .masks)) e₁
       (e₂ ∙ ap (λ (j : ℕ). take (recordsAt t m) o₁ ++ (leafPart (u .indices) ++ drop j o₁)) z)
       ∙ ap₂ (λ (y : Bytes) (j : ℕ). y ++ drop j reply)
-      (ap (λ (y : Bytes). y ++ leafPart (u .indices)) (sums-opened u l ext-pieces) ∙ append-assoc B C (leafPart (u .indices)))
+      (ap (λ (y : Bytes). y ++ leafPart (u .indices)) answers-are ∙ append-assoc B C (leafPart (u .indices)))
       (sym z)
 
-  pub reply-are : (v : ℕ) (x ix : List ℕ) (o₁ o₂ : Bytes) → x ≡ flatten ext → ix ≡ u .indices
-      → o₁ ≡ sums u x (l .masks) ++ drop (recordsAt t m) reply → v ≡ nodesAt t m + 32 * length (missing 2 (t .h) ix)
-      → o₂ ≡ take (recordsAt t m) o₁ ++ (leafPart ix ++ drop v o₁)
+  pub reply-are : (v : ℕ) (ix : List ℕ) (o₁ o₂ : Bytes) → ix ≡ u .indices → o₁ ≡ sums u (flatten ext) (l .masks) ++ drop (recordsAt t m) reply
+      → v ≡ nodesAt t m + 32 * length (missing 2 (t .h) ix) → o₂ ≡ take (recordsAt t m) o₁ ++ (leafPart ix ++ drop v o₁)
       → (v ≡ replyLength u) × (o₂ ≡ replyOf u l table nodes ++ drop v reply)
-  reply-are v x ix o₁ o₂ ex ei e₁ ev e₂ =
+  reply-are v ix o₁ o₂ ei e₁ ev e₂ =
       let w : v ≡ nodesAt t m + 32 * length (missing 2 (t .h) (u .indices)) = ev ∙ ap (λ (y : List ℕ). nodesAt t m + 32 * length (missing 2 (t .h) y)) ei in (
         w,
-        whole v o₁ o₂ (e₁ ∙ ap (λ (y : List ℕ). sums u y (l .masks) ++ drop (recordsAt t m) reply) ex) w
-            (e₂ ∙ ap (λ (y : List ℕ). take (recordsAt t m) o₁ ++ (leafPart y ++ drop v o₁)) ei),
+        whole v o₁ o₂ e₁ w (e₂ ∙ ap (λ (y : List ℕ). take (recordsAt t m) o₁ ++ (leafPart y ++ drop v o₁)) ei),
       )

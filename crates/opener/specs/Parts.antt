@@ -13,8 +13,9 @@ use Rattle.tree.specs.Sets.{missing, treeSize}
 use Rattle.tree.specs.Clauses.{IndexSet}
 use Rattle.scheme.specs.Sizes.{Sizes, leaves, rows, width, recordValues, sizesOk}
 use Rattle.scheme.specs.Layers.{combination}
-use Rattle.scheme.specs.Question.{Question}
-use Rattle.scheme.specs.Reply.{nodesAt}
+use Rattle.scheme.specs.Question.{Question, questionLength}
+use Rattle.scheme.specs.Reply.{recordsAt, nodesAt}
+use Rattle.lent.specs.Rows.{CanExtend}
 
 -- x is μ rows of n elements each
 pub record Lined (n μ : ℕ) (x : List ℕ) : Type 0 where
@@ -52,6 +53,16 @@ pub record CanList (s : Sizes) (m : ℕ) (table : List ℕ) (nonces : Bytes) (in
   pub tree-length : length nodes ≡ 32 * treeSize 2 (s .h)
   pub room : nodesAt s m + 32 * length (missing 2 (s .h) indices) ≤ length reply
   pub small : length reply ≤ 65536
+
+-- the answers can be written: as many words as the sizes ask, the rows' words field elements, and the reply has room
+pub record CanSum (question : Bytes) (s : Sizes) (m : ℕ) (coefficients tails masks : List ℕ) (reply : Bytes) : Type 0 where
+  pub points : m ≤ 8
+  pub long : length question ≡ questionLength s m
+  pub extend : CanExtend s coefficients tails
+  pub coefficients-below : Elements coefficients
+  pub tails-below : Elements tails
+  pub masks-length : length masks ≡ s .η * width s
+  pub room : recordsAt s m ≤ length reply
 
 -- a buffer after n bytes x were written from `at` on
 abbrev pub written : ℕ → ℕ → Bytes → Bytes → Bytes

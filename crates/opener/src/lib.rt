@@ -10,7 +10,7 @@ ghost use Rattle.lists.specs.Pieces.{pieces};
 ghost use Rattle.lists.specs.Range.{upFrom};
 ghost use Rattle.lists.specs.Bytes.{words, bytesOf};
 ghost use Rattle.lists.specs.Tests.{every, same};
-ghost use Rattle.scheme.specs.Layers.{lentOf, combination};
+ghost use Rattle.scheme.specs.Layers.{lentOf, extendedRows, combination};
 ghost use Rattle.scheme.specs.Commit.{lentOk, filledOk, lentElements, lastDigest, leafRecord};
 ghost use Rattle.scheme.specs.Sizes.{sizesOk, width, elements, recordValues};
 ghost use Rattle.scheme.specs.Question.{headerLength, challengesAt, questionLength};
@@ -21,7 +21,7 @@ ghost use Rattle.tree.specs.Tree.{allParts, opened};
 ghost use Rattle.commitment.specs.Shape.{sizesIn};
 ghost use Rattle.commitment.specs.Questioned.{questioned};
 ghost use Rattle.commitment.specs.declared.Questioned.the-variants.{WellFormed};
-ghost use Rattle.opener.specs.Parts.{Lined, CanRecord, CanList, batchingOver, batchingAt, answerAt, written, sums};
+ghost use Rattle.opener.specs.Parts.{Lined, CanRecord, CanList, CanSum, batchingOver, batchingAt, answerAt, written, sums};
 ghost use Rattle.opener.specs.Opened.{numberOf, lengthOf};
 ghost use Rattle.opener.specs.Ready.{questionOf, Ready};
 use commitment::Questioned;
@@ -336,9 +336,54 @@ fn put_leaves(
     nodes + 32 * count
 }
 
-// Room for all rows.
+// Room for all rows with their tails, at the largest sizes, and where they have at most 512 elements.
 fn blank_rows() -> [u32; 20480] {
     [0u32; 20480]
+}
+
+fn blank_few_rows() -> [u32; 512] {
+    [0u32; 512]
+}
+
+// The answers from what is lent; `rows` is room for all rows with their tails.
+fn sums_over(
+    s: Shape,
+    m: u32,
+    question: &[u8],
+    coefficients: &[u32],
+    tails: &[u32],
+    masks: &[u32],
+    rows: &mut [u32],
+    reply: &mut [u8],
+)
+    requires { ⌜ CanSum (now question) (sizesIn s) m (now coefficients) (now tails) (now masks) (now reply) × (s .mu * width (sizesIn s) ≤ length (now rows)) ⌝ }
+    ensures { λ _. ⌜ now (reply .exit) ≡ sums (questionOf (now (question .entry)) (sizesIn s) m) (flatten (extendedRows (sizesIn s) (lentOf (now (coefficients .entry)) (now (tails .entry)) [] []))) (now (masks .entry)) ++ drop (recordsAt (sizesIn s) m) (now (reply .entry)) ⌝ }
+{
+    let elements = s.mu as usize * row_width(s);
+    extend(s, coefficients, tails, rows);
+    put_sums(s, m, question, &rows[..elements], masks, reply);
+}
+
+// The same in room of its own, little where the rows are few, since each call clears all of it.
+fn put_lent_sums(
+    s: Shape,
+    m: u32,
+    question: &[u8],
+    coefficients: &[u32],
+    tails: &[u32],
+    masks: &[u32],
+    reply: &mut [u8],
+)
+    requires { ⌜ CanSum (now question) (sizesIn s) m (now coefficients) (now tails) (now masks) (now reply) ⌝ }
+    ensures { λ _. ⌜ now (reply .exit) ≡ sums (questionOf (now (question .entry)) (sizesIn s) m) (flatten (extendedRows (sizesIn s) (lentOf (now (coefficients .entry)) (now (tails .entry)) [] []))) (now (masks .entry)) ++ drop (recordsAt (sizesIn s) m) (now (reply .entry)) ⌝ }
+{
+    if s.mu as usize * row_width(s) <= 512 {
+        let mut rows = blank_few_rows();
+        sums_over(s, m, question, coefficients, tails, masks, &mut rows, reply);
+    } else {
+        let mut rows = blank_rows();
+        sums_over(s, m, question, coefficients, tails, masks, &mut rows, reply);
+    }
 }
 
 // Room for the indices.
@@ -363,10 +408,7 @@ fn write_reply(
     ensures { λ r. ⌜ r ≡ replyLength (questionOf (now (question .entry)) (sizesIn s) m) ⌝ }
     ensures { λ r. ⌜ now (reply .exit) ≡ replyOf (questionOf (now (question .entry)) (sizesIn s) m) (lentOf (now (coefficients .entry)) (now (tails .entry)) (now (masks .entry)) (now (nonces .entry))) (now (table .entry)) (now (tree .entry)) ++ drop r (now (reply .entry)) ⌝ }
 {
-    let elements = s.mu as usize * row_width(s);
-    let mut rows = blank_rows();
-    extend(s, coefficients, tails, &mut rows);
-    put_sums(s, m, question, &rows[..elements], masks, reply);
+    put_lent_sums(s, m, question, coefficients, tails, masks, reply);
     let l = s.l as usize;
     let from = CHALLENGES + 4 * s.eta as usize + 4 * m as usize;
     let mut indices = blank_indices();

@@ -2,13 +2,12 @@
 use mathlib.Core.Path.{_≡_, refl, sym, _∙_, ap, ap₂, subst}
 use mathlib.Core.Bool.{true}
 use mathlib.Core.List.{List}
-use Prim.Native.Nat.{ℕ, _-_, _*_, _≤_, _<_}
+use Prim.Native.Nat.{ℕ, _-_, _*_, _≤_}
 use lib.ListN.{length}
 use borrow.Author.Tests.{not-true, not-false}
-use Rattle.lists.specs.All.{all-at}
+use Rattle.lists.specs.Parts.{row-fits}
 use Rattle.lists.specs.Tests.{each, each-next}
 use Rattle.checker.specs.Words.{recordWordsAt, valuedAt, valuedLeaf}
-use Rattle.lists.specs.Parts.{row-fits}
 use Rattle.checker.proofs.Batching.{leaf-none, all-none, leaf-done, dotted-is, valued-fails}
 use borrow.Author.Needs.{needs}
 use native.Mathlib.Omega.{arith}
@@ -16,11 +15,11 @@ use Rattle.checker.proofs.batching_walk.Statement.{statement}
 use Rattle.checker.proofs.batching_walk.Tie as tie
 
 abbrev Inv-loop : tie.InvT-loop
-Inv-loop mu challenges batching scales indices at size reply powers values ok₀ a leaf k₀ a-end k-end ok k =
+Inv-loop mu challenges batching scales indices at size reply powers values ok₀ a k₀ a-end k-end ok k =
     (k ≤ length challenges) × (k-end ≡ length challenges) × (ok ≡ true) × (each k (valuedAt (length powers) mu challenges batching scales indices (recordWordsAt at size (length values) reply) a) ≡ true)
 
 abbrev μ-loop : tie.MeasureT-loop
-μ-loop mu challenges batching scales indices at size reply powers values ok₀ a leaf k₀ a-end k-end ok k = k-end - k
+μ-loop mu challenges batching scales indices at size reply powers values ok₀ a k₀ a-end k-end ok k = k-end - k
 
 abbrev Inv-walk : tie.InvT-walk
 Inv-walk mu challenges batching scales indices at size reply powers₀ values₀ ok₀ a₀ a-end powers values ok a =
@@ -34,42 +33,32 @@ walk-holds c =
     let s = c .before .before .before .before .before .before .before .args in
     (search needs, search needs, refl, refl, refl, all-none (length (s .powers .now)) (s .mu) (s .challenges .now) (s .batching .now) (s .scales .now) (s .indices .now) (recordWordsAt (s .at) (s .size) (length (s .values .now)) (s .reply .now)))
 
-mul-leaf : tie.Need-mul-leaf Inv-loop μ-loop Inv-walk μ-walk
-mul-leaf c = search needs
-
-shared-slice-read-leaf : tie.Need-shared-slice-read-leaf Inv-loop μ-loop Inv-walk μ-walk
-shared-slice-read-leaf c = search needs
-
-cast-t21 : tie.Need-cast-t21 Inv-loop μ-loop Inv-walk μ-walk
-cast-t21 c =
-    let h = all-at (λ (x : ℕ). x < 65536) 0 (c .before .before .before .before .before .before .before .before .before .before .args .indices .now) (c .before .before .before .before .before .before .before .before .before .before .pre .2) (c .before .before .walk .a) (omega arith) in search needs
-
-leaf-point-requires : tie.Need-leaf-point-requires Inv-loop μ-loop Inv-walk μ-walk
-leaf-point-requires c κs = search needs
+opened-point-requires : tie.Need-opened-point-requires Inv-loop μ-loop Inv-walk μ-walk
+opened-point-requires c κs = (omega arith, c .before .before .before .before .before .before .before .before .before .pre .2)
 
 powers-requires : tie.Need-powers-requires Inv-loop μ-loop Inv-walk μ-walk
 powers-requires c κs = search needs
 
 read-record-requires : tie.Need-read-record-requires Inv-loop μ-loop Inv-walk μ-walk
 read-record-requires c κs =
-    let s = c .before .before .before .before .before .before .before .before .before .before .before .before .before .before .before .before .args in
-    let h = row-fits (s .size) (c .before .before .before .before .before .before .before .before .walk .a) (length (s .indices .now)) (omega arith) in
-    (omega arith, omega (arith, c .before .before .before .before .before .before .before .before .walk .inv .3))
+    let s = c .before .before .before .before .before .before .before .before .before .before .before .before .before .before .before .args in
+    let h = row-fits (s .size) (c .before .before .before .before .before .before .before .walk .a) (length (s .indices .now)) (omega arith) in
+    (omega arith, omega (arith, c .before .before .before .before .before .before .before .walk .inv .3))
 
 loop-holds : tie.Need-loop-holds Inv-loop μ-loop Inv-walk μ-walk
 loop-holds c =
-    let s = c .before .before .before .before .before .before .before .before .before .before .before .before .before .before .before .before .before .before .before .args in
-    let v = c .before .before .before .before .before .before .before .before .before .before .before .walk .inv in
-    (search needs, search needs, v .4, leaf-none (length (c .before .before .before .before .before .before .powers .last .1 .0)) (s .mu) (s .challenges .now) (s .batching .now) (s .scales .now) (s .indices .now) (recordWordsAt (s .at) (s .size) (length (c .before .before .read-record .last .1 .1 .1 .1 .0)) (s .reply .now)) (c .before .before .before .before .before .before .before .before .before .before .before .walk .a))
+    let s = c .before .before .before .before .before .before .before .before .before .before .before .before .before .before .before .before .before .before .args in
+    let v = c .before .before .before .before .before .before .before .before .before .before .walk .inv in
+    (search needs, search needs, v .4, leaf-none (length (c .before .before .before .before .before .before .powers .last .1 .0)) (s .mu) (s .challenges .now) (s .batching .now) (s .scales .now) (s .indices .now) (recordWordsAt (s .at) (s .size) (length (c .before .before .read-record .last .1 .1 .1 .1 .0)) (s .reply .now)) (c .before .before .before .before .before .before .before .before .before .before .walk .a))
 
 batching-agrees-requires : tie.Need-batching-agrees-requires Inv-loop μ-loop Inv-walk μ-walk
 batching-agrees-requires c κs =
-    let s = c .before .before .before .before .before .before .before .before .before .before .before .before .before .before .before .before .before .before .before .before .before .before .before .args in
-    let v = c .before .before .before .before .before .before .before .before .before .before .before .before .before .before .before .walk .inv in
+    let s = c .before .before .before .before .before .before .before .before .before .before .before .before .before .before .before .before .before .before .before .before .before .before .args in
+    let v = c .before .before .before .before .before .before .before .before .before .before .before .before .before .before .walk .inv in
     let r : ℕ = length (c .before .before .before .before .before .before .before .before .before .before .powers .last .1 .0) in
     let e : r ≡ length (s .powers .now) = c .before .before .before .before .before .before .before .before .before .before .powers .kept .1 .0 ∙ v .2 in
     let g : length (c .before .before .before .before .before .before .read-record .last .1 .1 .1 .1 .0) ≡ length (s .values .now) = c .before .before .before .before .before .before .read-record .kept .1 .1 .1 .1 .0 ∙ v .3 in
-    let f : r * length (s .challenges .now) ≤ length (s .batching .now) = subst (λ (i : ℕ). i * length (s .challenges .now) ≤ length (s .batching .now)) (sym e) (c .before .before .before .before .before .before .before .before .before .before .before .before .before .before .before .before .before .before .before .before .before .before .before .pre .3) in
+    let f : r * length (s .challenges .now) ≤ length (s .batching .now) = subst (λ (i : ℕ). i * length (s .challenges .now) ≤ length (s .batching .now)) (sym e) (c .before .before .before .before .before .before .before .before .before .before .before .before .before .before .before .before .before .before .before .before .before .before .pre .3) in
     let h = row-fits r (c .before .before .before .loop .k) (length (s .challenges .now)) (omega arith) in
     let k = row-fits (s .mu) (c .before .before .before .loop .k) (length (s .challenges .now)) (omega arith) in
     (omega arith, omega arith, omega arith, omega arith, omega arith, omega arith)
@@ -82,21 +71,21 @@ loop-less c = search needs
 
 loop-again : tie.Need-loop-again Inv-loop μ-loop Inv-walk μ-walk
 loop-again c =
-    let s = c .before .before .before .before .before .before .before .before .before .before .before .before .before .before .before .before .before .before .before .before .before .before .before .before .before .args in
+    let s = c .before .before .before .before .before .before .before .before .before .before .before .before .before .before .before .before .before .before .before .before .before .before .before .before .args in
     let v = c .before .before .before .before .before .loop .inv in
     let p = c .before .batching-agrees in
     let r : ℕ = length (c .before .before .before .before .before .before .before .before .before .before .before .before .powers .last .1 .0) in
     let x : List ℕ = c .before .before .before .before .before .before .before .before .read-record .last .1 .1 .1 .1 .0 in
     let values : ℕ → List ℕ = recordWordsAt (s .at) (s .size) (length x) (s .reply .now) in
-    let e : r ≡ length (s .powers .now) = c .before .before .before .before .before .before .before .before .before .before .before .before .powers .kept .1 .0 ∙ c .before .before .before .before .before .before .before .before .before .before .before .before .before .before .before .before .before .walk .inv .2 in
-    let g : x ≡ values (c .before .before .before .before .before .before .before .before .before .before .before .before .before .before .before .before .before .walk .a) = c .before .before .before .before .before .before .before .before .read-record .ensures ∙ ap (λ (n : ℕ). recordWordsAt (s .at) (s .size) n (s .reply .now) (c .before .before .before .before .before .before .before .before .before .before .before .before .before .before .before .before .before .walk .a)) (sym (c .before .before .before .before .before .before .before .before .read-record .kept .1 .1 .1 .1 .0)) in
-    let f : r * length (s .challenges .now) ≤ length (s .batching .now) = subst (λ (i : ℕ). i * length (s .challenges .now) ≤ length (s .batching .now)) (sym e) (c .before .before .before .before .before .before .before .before .before .before .before .before .before .before .before .before .before .before .before .before .before .before .before .before .before .pre .3) in
+    let e : r ≡ length (s .powers .now) = c .before .before .before .before .before .before .before .before .before .before .before .before .powers .kept .1 .0 ∙ c .before .before .before .before .before .before .before .before .before .before .before .before .before .before .before .before .walk .inv .2 in
+    let g : x ≡ values (c .before .before .before .before .before .before .before .before .before .before .before .before .before .before .before .before .walk .a) = c .before .before .before .before .before .before .before .before .read-record .ensures ∙ ap (λ (n : ℕ). recordWordsAt (s .at) (s .size) n (s .reply .now) (c .before .before .before .before .before .before .before .before .before .before .before .before .before .before .before .before .walk .a)) (sym (c .before .before .before .before .before .before .before .before .read-record .kept .1 .1 .1 .1 .0)) in
+    let f : r * length (s .challenges .now) ≤ length (s .batching .now) = subst (λ (i : ℕ). i * length (s .challenges .now) ≤ length (s .batching .now)) (sym e) (c .before .before .before .before .before .before .before .before .before .before .before .before .before .before .before .before .before .before .before .before .before .before .before .before .pre .3) in
     let h = row-fits r (c .before .before .before .before .before .loop .k) (length (s .challenges .now)) (omega arith) in (
       search needs,
       search needs,
       v .2,
-      each-next (valuedAt r (s .mu) (s .challenges .now) (s .batching .now) (s .scales .now) (s .indices .now) values (c .before .before .before .before .before .before .before .before .before .before .before .before .before .before .before .before .before .walk .a)) (c .before .before .before .before .before .loop .k) (v .3)
-          (sym (dotted-is r (s .mu) (s .challenges .now) (s .batching .now) (s .scales .now) (s .indices .now) values (c .before .before .before .before .before .before .before .before .before .before .before .before .powers .last .1 .0) x (c .before .before .before .before .before .loop .k) (c .before .before .before .before .before .before .before .before .before .before .before .before .before .before .before .before .before .walk .a) (length (c .before .before .before .before .before .before .before .before .before .before .before .before .before .before .before .before .before .walk .powers)) (c .before .before .before .before .before .before .before .before .before .before .before .before .before .before .leaf-point .result .0) (omega arith) (sym (c .before .before .before .before .before .before .before .before .before .before .before .before .powers .kept .1 .0)) (c .before .before .before .before .before .before .before .before .before .before .before .before .before .before .leaf-point .ensures) (c .before .before .before .before .before .before .before .before .before .before .before .before .powers .ensures) g) ∙ sym (p .ensures) ∙ not-false (p .result) (c .if1 .left)),
+      each-next (valuedAt r (s .mu) (s .challenges .now) (s .batching .now) (s .scales .now) (s .indices .now) values (c .before .before .before .before .before .before .before .before .before .before .before .before .before .before .before .before .walk .a)) (c .before .before .before .before .before .loop .k) (v .3)
+          (sym (dotted-is r (s .mu) (s .challenges .now) (s .batching .now) (s .scales .now) (s .indices .now) values (c .before .before .before .before .before .before .before .before .before .before .before .before .powers .last .1 .0) x (c .before .before .before .before .before .loop .k) (c .before .before .before .before .before .before .before .before .before .before .before .before .before .before .before .before .walk .a) (length (c .before .before .before .before .before .before .before .before .before .before .before .before .before .before .before .before .walk .powers)) (c .before .before .before .before .before .before .before .before .before .before .before .before .before .before .opened-point .result .0) (omega arith) (sym (c .before .before .before .before .before .before .before .before .before .before .before .before .powers .kept .1 .0)) (c .before .before .before .before .before .before .before .before .before .before .before .before .before .before .opened-point .ensures) (c .before .before .before .before .before .before .before .before .before .before .before .before .powers .ensures) g) ∙ sym (p .ensures) ∙ not-false (p .result) (c .if1 .left)),
     )
 
 add-a : tie.Need-add-a Inv-loop μ-loop Inv-walk μ-walk
@@ -107,8 +96,8 @@ walk-less c = search needs
 
 walk-again : tie.Need-walk-again Inv-loop μ-loop Inv-walk μ-walk
 walk-again c =
-    let s = c .before .before .before .before .before .before .before .before .before .before .before .before .before .before .before .before .before .before .before .before .before .args in
-    let v = c .before .before .before .before .before .before .before .before .before .before .before .before .before .walk .inv in
+    let s = c .before .before .before .before .before .before .before .before .before .before .before .before .before .before .before .before .before .before .before .before .args in
+    let v = c .before .before .before .before .before .before .before .before .before .before .before .before .walk .inv in
     let u = c .before .loop .inv in
     let r : ℕ = length (c .before .before .before .before .before .before .before .before .powers .last .1 .0) in
     let n : ℕ = length (c .before .before .before .before .read-record .last .1 .1 .1 .1 .0) in
@@ -119,9 +108,9 @@ walk-again c =
       e,
       f,
       u .2,
-      each-next (valuedLeaf (length (s .powers .now)) (s .mu) (s .challenges .now) (s .batching .now) (s .scales .now) (s .indices .now) (recordWordsAt (s .at) (s .size) (length (s .values .now)) (s .reply .now))) (c .before .before .before .before .before .before .before .before .before .before .before .before .before .walk .a) (v .5)
-          (ap₂ (λ (i j : ℕ). valuedLeaf i (s .mu) (s .challenges .now) (s .batching .now) (s .scales .now) (s .indices .now) (recordWordsAt (s .at) (s .size) j (s .reply .now)) (c .before .before .before .before .before .before .before .before .before .before .before .before .before .walk .a)) (sym e) (sym f)
-          ∙ leaf-done r (s .mu) (s .challenges .now) (s .batching .now) (s .scales .now) (s .indices .now) (recordWordsAt (s .at) (s .size) n (s .reply .now)) (c .before .before .before .before .before .before .before .before .before .before .before .before .before .walk .a) (c .before .loop .k) (omega arith) (u .3)),
+      each-next (valuedLeaf (length (s .powers .now)) (s .mu) (s .challenges .now) (s .batching .now) (s .scales .now) (s .indices .now) (recordWordsAt (s .at) (s .size) (length (s .values .now)) (s .reply .now))) (c .before .before .before .before .before .before .before .before .before .before .before .before .walk .a) (v .5)
+          (ap₂ (λ (i j : ℕ). valuedLeaf i (s .mu) (s .challenges .now) (s .batching .now) (s .scales .now) (s .indices .now) (recordWordsAt (s .at) (s .size) j (s .reply .now)) (c .before .before .before .before .before .before .before .before .before .before .before .before .walk .a)) (sym e) (sym f)
+          ∙ leaf-done r (s .mu) (s .challenges .now) (s .batching .now) (s .scales .now) (s .indices .now) (recordWordsAt (s .at) (s .size) n (s .reply .now)) (c .before .before .before .before .before .before .before .before .before .before .before .before .walk .a) (c .before .loop .k) (omega arith) (u .3)),
     )
 
 same-length : tie.Need-same-length Inv-loop μ-loop Inv-walk μ-walk
@@ -139,27 +128,27 @@ returns c =
 
 same-length-3 : tie.Need-same-length-3 Inv-loop μ-loop Inv-walk μ-walk
 same-length-3 c =
-    c .before .before .before .before .before .before .before .before .before .before .before .before .powers .kept .1 .0 ∙ c .before .before .before .before .before .before .before .before .before .before .before .before .before .before .before .before .before .walk .inv .2
+    c .before .before .before .before .before .before .before .before .before .before .before .before .powers .kept .1 .0 ∙ c .before .before .before .before .before .before .before .before .before .before .before .before .before .before .before .before .walk .inv .2
 
 same-length-4 : tie.Need-same-length-4 Inv-loop μ-loop Inv-walk μ-walk
 same-length-4 c =
-    c .before .before .before .before .before .before .before .before .read-record .kept .1 .1 .1 .1 .0 ∙ c .before .before .before .before .before .before .before .before .before .before .before .before .before .before .before .before .before .walk .inv .3
+    c .before .before .before .before .before .before .before .before .read-record .kept .1 .1 .1 .1 .0 ∙ c .before .before .before .before .before .before .before .before .before .before .before .before .before .before .before .before .walk .inv .3
 
 returns-2 : tie.Need-returns-2 Inv-loop μ-loop Inv-walk μ-walk
 returns-2 c =
-    let s = c .before .before .before .before .before .before .before .before .before .before .before .before .before .before .before .before .before .before .before .before .before .before .before .before .before .args in
+    let s = c .before .before .before .before .before .before .before .before .before .before .before .before .before .before .before .before .before .before .before .before .before .before .before .before .args in
     let p = c .before .batching-agrees in
     let r : ℕ = length (c .before .before .before .before .before .before .before .before .before .before .before .before .powers .last .1 .0) in
     let x : List ℕ = c .before .before .before .before .before .before .before .before .read-record .last .1 .1 .1 .1 .0 in
     let values : ℕ → List ℕ = recordWordsAt (s .at) (s .size) (length x) (s .reply .now) in
-    let e : r ≡ length (s .powers .now) = c .before .before .before .before .before .before .before .before .before .before .before .before .powers .kept .1 .0 ∙ c .before .before .before .before .before .before .before .before .before .before .before .before .before .before .before .before .before .walk .inv .2 in
-    let d : length x ≡ length (s .values .now) = c .before .before .before .before .before .before .before .before .read-record .kept .1 .1 .1 .1 .0 ∙ c .before .before .before .before .before .before .before .before .before .before .before .before .before .before .before .before .before .walk .inv .3 in
-    let g : x ≡ values (c .before .before .before .before .before .before .before .before .before .before .before .before .before .before .before .before .before .walk .a) = c .before .before .before .before .before .before .before .before .read-record .ensures ∙ ap (λ (n : ℕ). recordWordsAt (s .at) (s .size) n (s .reply .now) (c .before .before .before .before .before .before .before .before .before .before .before .before .before .before .before .before .before .walk .a)) (sym (c .before .before .before .before .before .before .before .before .read-record .kept .1 .1 .1 .1 .0)) in
-    let f : r * length (s .challenges .now) ≤ length (s .batching .now) = subst (λ (i : ℕ). i * length (s .challenges .now) ≤ length (s .batching .now)) (sym e) (c .before .before .before .before .before .before .before .before .before .before .before .before .before .before .before .before .before .before .before .before .before .before .before .before .before .pre .3) in
+    let e : r ≡ length (s .powers .now) = c .before .before .before .before .before .before .before .before .before .before .before .before .powers .kept .1 .0 ∙ c .before .before .before .before .before .before .before .before .before .before .before .before .before .before .before .before .walk .inv .2 in
+    let d : length x ≡ length (s .values .now) = c .before .before .before .before .before .before .before .before .read-record .kept .1 .1 .1 .1 .0 ∙ c .before .before .before .before .before .before .before .before .before .before .before .before .before .before .before .before .walk .inv .3 in
+    let g : x ≡ values (c .before .before .before .before .before .before .before .before .before .before .before .before .before .before .before .before .walk .a) = c .before .before .before .before .before .before .before .before .read-record .ensures ∙ ap (λ (n : ℕ). recordWordsAt (s .at) (s .size) n (s .reply .now) (c .before .before .before .before .before .before .before .before .before .before .before .before .before .before .before .before .walk .a)) (sym (c .before .before .before .before .before .before .before .before .read-record .kept .1 .1 .1 .1 .0)) in
+    let f : r * length (s .challenges .now) ≤ length (s .batching .now) = subst (λ (i : ℕ). i * length (s .challenges .now) ≤ length (s .batching .now)) (sym e) (c .before .before .before .before .before .before .before .before .before .before .before .before .before .before .before .before .before .before .before .before .before .before .before .before .pre .3) in
     let h = row-fits r (c .before .before .before .before .before .loop .k) (length (s .challenges .now)) (omega arith) in
     sym (ap₂ (λ (i j : ℕ). each (length (s .indices .now)) (valuedLeaf i (s .mu) (s .challenges .now) (s .batching .now) (s .scales .now) (s .indices .now) (recordWordsAt (s .at) (s .size) j (s .reply .now)))) (sym e) (sym d)
-    ∙ valued-fails r (s .mu) (s .challenges .now) (s .batching .now) (s .scales .now) (s .indices .now) values (length (s .indices .now)) (c .before .before .before .before .before .before .before .before .before .before .before .before .before .before .before .before .before .walk .a) (c .before .before .before .before .before .loop .k) (omega arith) (omega arith)
-    (sym (dotted-is r (s .mu) (s .challenges .now) (s .batching .now) (s .scales .now) (s .indices .now) values (c .before .before .before .before .before .before .before .before .before .before .before .before .powers .last .1 .0) x (c .before .before .before .before .before .loop .k) (c .before .before .before .before .before .before .before .before .before .before .before .before .before .before .before .before .before .walk .a) (length (c .before .before .before .before .before .before .before .before .before .before .before .before .before .before .before .before .before .walk .powers)) (c .before .before .before .before .before .before .before .before .before .before .before .before .before .before .leaf-point .result .0) (omega arith) (sym (c .before .before .before .before .before .before .before .before .before .before .before .before .powers .kept .1 .0)) (c .before .before .before .before .before .before .before .before .before .before .before .before .before .before .leaf-point .ensures) (c .before .before .before .before .before .before .before .before .before .before .before .before .powers .ensures) g) ∙ sym (p .ensures) ∙ not-true (p .result) (c .if1 .taken)))
+    ∙ valued-fails r (s .mu) (s .challenges .now) (s .batching .now) (s .scales .now) (s .indices .now) values (length (s .indices .now)) (c .before .before .before .before .before .before .before .before .before .before .before .before .before .before .before .before .walk .a) (c .before .before .before .before .before .loop .k) (omega arith) (omega arith)
+    (sym (dotted-is r (s .mu) (s .challenges .now) (s .batching .now) (s .scales .now) (s .indices .now) values (c .before .before .before .before .before .before .before .before .before .before .before .before .powers .last .1 .0) x (c .before .before .before .before .before .loop .k) (c .before .before .before .before .before .before .before .before .before .before .before .before .before .before .before .before .walk .a) (length (c .before .before .before .before .before .before .before .before .before .before .before .before .before .before .before .before .walk .powers)) (c .before .before .before .before .before .before .before .before .before .before .before .before .before .before .opened-point .result .0) (omega arith) (sym (c .before .before .before .before .before .before .before .before .before .before .before .before .powers .kept .1 .0)) (c .before .before .before .before .before .before .before .before .before .before .before .before .before .before .opened-point .ensures) (c .before .before .before .before .before .before .before .before .before .before .before .before .powers .ensures) g) ∙ sym (p .ensures) ∙ not-true (p .result) (c .if1 .taken)))
 
 pub batching-walk-spec : {M : Type 1} → statement M
 batching-walk-spec =
@@ -170,10 +159,7 @@ batching-walk-spec =
     Inv-walk
     μ-walk
     walk-holds
-    mul-leaf
-    shared-slice-read-leaf
-    cast-t21
-    leaf-point-requires
+    opened-point-requires
     powers-requires
     read-record-requires
     loop-holds

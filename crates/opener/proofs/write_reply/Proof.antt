@@ -1,55 +1,18 @@
--- `opener::write_reply` meets its contract: the answers from the rows, and what the indices open after them.
-use mathlib.Core.Path.{_≡_, sym, ap, _∙_}
-use Prim.Native.Nat.{_*_, _≤_}
+-- `opener::write_reply` meets its contract: the answers, and what the indices open after them.
+use mathlib.Core.Path.{_≡_}
 use lib.ListN.{length, take}
 use Rattle.scheme.specs.Layers.{lentOf}
 use Rattle.commitment.specs.Shape.{sizesIn}
-use Rattle.opener.proofs.Replying.{elements-high, extend-asks, rows-front, rows-length, sums-asks, indices-ask, indices-front, indices-length, leaves-ask, reply-are}
+use Rattle.opener.proofs.Replying.{can-sum, indices-ask, indices-front, indices-length, leaves-ask, reply-are}
 use borrow.Author.Needs.{needs}
 use native.Mathlib.Omega.{arith}
 use Rattle.opener.proofs.write_reply.Statement.{statement}
 use Rattle.opener.proofs.write_reply.Tie as tie
 
-cast-elements : tie.Need-cast-elements
-cast-elements c = search needs
-
-row-width-requires : tie.Need-row-width-requires
-row-width-requires c κs = search needs
-
-mul-elements : tie.Need-mul-elements
-mul-elements c =
-    let s = c .before .before .before .before .before .before .before .before .before .before .args in
-    let h : s .s .mu * c .row-width .result ≤ 20480 = elements-high (s .question .now) (sizesIn (s .s)) (s .m) (lentOf (s .coefficients .now) (s .tails .now) (s .masks .now) (s .nonces .now)) (s .table .now) (s .tree .now) (s .reply .now) (c .before .before .before .before .before .before .before .before .before .before .pre) (c .row-width .result) (c .row-width .ensures) in search needs
-
-blank-rows-requires : tie.Need-blank-rows-requires
-blank-rows-requires c κs = search needs
-
-slice-aggregate-extend : tie.Need-slice-aggregate-extend
-slice-aggregate-extend c = search needs
-
-extend-requires : tie.Need-extend-requires
-extend-requires c κs =
-    let s = c .before .before .before .before .before .before .before .before .before .before .before .before .args in
-    let b : length (c .before .blank-rows .result) ≡ 20480 = search needs in
-    extend-asks (s .question .now) (sizesIn (s .s)) (s .m) (lentOf (s .coefficients .now) (s .tails .now) (s .masks .now) (s .nonces .now)) (s .table .now) (s .tree .now) (s .reply .now) (c .before .before .before .before .before .before .before .before .before .before .before .before .pre) (c .before .blank-rows .result) b
-
-array-share-prefix-rows : tie.Need-array-share-prefix-rows
-array-share-prefix-rows c =
-    let s = c .before .before .before .before .before .before .before .before .before .before .before .before .before .before .args in
-    let b : length (c .before .before .before .blank-rows .result) ≡ 20480 = search needs in
-    let h : s .s .mu * c .before .before .before .before .row-width .result ≤ 20480 = elements-high (s .question .now) (sizesIn (s .s)) (s .m) (lentOf (s .coefficients .now) (s .tails .now) (s .masks .now) (s .nonces .now)) (s .table .now) (s .tree .now) (s .reply .now) (c .before .before .before .before .before .before .before .before .before .before .before .before .before .before .pre) (c .before .before .before .before .row-width .result) (c .before .before .before .before .row-width .ensures) in
-    omega (arith, h, b, c .before .extend .kept .1 .1 .1 .0)
-
-slice-aggregate-put-sums : tie.Need-slice-aggregate-put-sums
-slice-aggregate-put-sums c =
-    let s = c .before .before .before .before .before .before .before .before .before .before .before .before .before .before .before .args in
-    sym (ap length (rows-front (s .question .now) (sizesIn (s .s)) (s .m) (lentOf (s .coefficients .now) (s .tails .now) (s .masks .now) (s .nonces .now)) (s .table .now) (s .tree .now) (s .reply .now) (c .before .before .before .before .before .before .before .before .before .before .before .before .before .before .before .pre) (c .before .before .before .before .before .row-width .result) (c .before .before .before .before .blank-rows .result) (c .before .before .extend .last .1 .1 .1 .0) (c .before .before .before .before .before .row-width .ensures) (c .before .before .extend .ensures)) ∙ rows-length (s .question .now) (sizesIn (s .s)) (s .m) (lentOf (s .coefficients .now) (s .tails .now) (s .masks .now) (s .nonces .now)) (s .table .now) (s .tree .now) (s .reply .now) (c .before .before .before .before .before .before .before .before .before .before .before .before .before .before .before .pre) (c .before .before .before .before .before .row-width .result) (c .before .before .before .before .before .row-width .ensures))
-
-put-sums-requires : tie.Need-put-sums-requires
-put-sums-requires c κs =
-    let s = c .before .before .before .before .before .before .before .before .before .before .before .before .before .before .before .before .args in
-    sums-asks (s .question .now) (sizesIn (s .s)) (s .m) (lentOf (s .coefficients .now) (s .tails .now) (s .masks .now) (s .nonces .now)) (s .table .now) (s .tree .now) (s .reply .now) (c .before .before .before .before .before .before .before .before .before .before .before .before .before .before .before .before .pre) (take (s .s .mu * c .before .before .before .before .before .before .row-width .result) (c .before .before .before .extend .last .1 .1 .1 .0))
-    (rows-front (s .question .now) (sizesIn (s .s)) (s .m) (lentOf (s .coefficients .now) (s .tails .now) (s .masks .now) (s .nonces .now)) (s .table .now) (s .tree .now) (s .reply .now) (c .before .before .before .before .before .before .before .before .before .before .before .before .before .before .before .before .pre) (c .before .before .before .before .before .before .row-width .result) (c .before .before .before .before .before .blank-rows .result) (c .before .before .before .extend .last .1 .1 .1 .0) (c .before .before .before .before .before .before .row-width .ensures) (c .before .before .before .extend .ensures))
+put-lent-sums-requires : tie.Need-put-lent-sums-requires
+put-lent-sums-requires c κs =
+    let s = c .before .before .before .before .before .before .before .before .before .args in
+    can-sum (s .question .now) (sizesIn (s .s)) (s .m) (lentOf (s .coefficients .now) (s .tails .now) (s .masks .now) (s .nonces .now)) (s .table .now) (s .tree .now) (s .reply .now) (c .before .before .before .before .before .before .before .before .before .pre)
 
 cast-l : tie.Need-cast-l
 cast-l c = search needs
@@ -77,54 +40,45 @@ slice-aggregate-read-indices c = search needs
 
 read-indices-requires : tie.Need-read-indices-requires
 read-indices-requires c κs =
-    let s = c .before .before .before .before .before .before .before .before .before .before .before .before .before .before .before .before .before .before .before .before .before .before .before .args in
+    let s = c .before .before .before .before .before .before .before .before .before .before .before .before .before .before .before .before .args in
     let b : length (c .before .blank-indices .result) ≡ 64 = search needs in
-    indices-ask (s .question .now) (sizesIn (s .s)) (s .m) (lentOf (s .coefficients .now) (s .tails .now) (s .masks .now) (s .nonces .now)) (s .table .now) (s .tree .now) (s .reply .now) (c .before .before .before .before .before .before .before .before .before .before .before .before .before .before .before .before .before .before .before .before .before .before .before .pre) (c .before .blank-indices .result) b
+    indices-ask (s .question .now) (sizesIn (s .s)) (s .m) (lentOf (s .coefficients .now) (s .tails .now) (s .masks .now) (s .nonces .now)) (s .table .now) (s .tree .now) (s .reply .now) (c .before .before .before .before .before .before .before .before .before .before .before .before .before .before .before .before .pre) (c .before .blank-indices .result) b
 
 array-share-prefix-indices : tie.Need-array-share-prefix-indices
 array-share-prefix-indices c =
-    let s = c .before .before .before .before .before .before .before .before .before .before .before .before .before .before .before .before .before .before .before .before .before .before .before .before .before .args in
+    let s = c .before .before .before .before .before .before .before .before .before .before .before .before .before .before .before .before .before .before .args in
     let b : length (c .before .before .before .blank-indices .result) ≡ 64 = search needs in
-    let h = indices-ask (s .question .now) (sizesIn (s .s)) (s .m) (lentOf (s .coefficients .now) (s .tails .now) (s .masks .now) (s .nonces .now)) (s .table .now) (s .tree .now) (s .reply .now) (c .before .before .before .before .before .before .before .before .before .before .before .before .before .before .before .before .before .before .before .before .before .before .before .before .before .pre) (c .before .before .before .blank-indices .result) b .1 in
+    let h = indices-ask (s .question .now) (sizesIn (s .s)) (s .m) (lentOf (s .coefficients .now) (s .tails .now) (s .masks .now) (s .nonces .now)) (s .table .now) (s .tree .now) (s .reply .now) (c .before .before .before .before .before .before .before .before .before .before .before .before .before .before .before .before .before .before .pre) (c .before .before .before .blank-indices .result) b .1 in
     omega (arith, h, c .before .read-indices .kept .1 .1 .1 .0)
 
 slice-aggregate-put-leaves : tie.Need-slice-aggregate-put-leaves
 slice-aggregate-put-leaves c =
-    let s = c .before .before .before .before .before .before .before .before .before .before .before .before .before .before .before .before .before .before .before .before .before .before .before .before .before .before .args in
-    indices-length (s .question .now) (sizesIn (s .s)) (s .m) (lentOf (s .coefficients .now) (s .tails .now) (s .masks .now) (s .nonces .now)) (s .table .now) (s .tree .now) (s .reply .now) (c .before .before .before .before .before .before .before .before .before .before .before .before .before .before .before .before .before .before .before .before .before .before .before .before .before .before .pre) (take (s .s .l) (c .before .before .read-indices .last .1 .1 .1 .0))
-    (indices-front (s .question .now) (sizesIn (s .s)) (s .m) (lentOf (s .coefficients .now) (s .tails .now) (s .masks .now) (s .nonces .now)) (s .table .now) (s .tree .now) (s .reply .now) (c .before .before .before .before .before .before .before .before .before .before .before .before .before .before .before .before .before .before .before .before .before .before .before .before .before .before .pre) (c .before .before .before .before .blank-indices .result) (c .before .before .read-indices .last .1 .1 .1 .0) (c .before .before .read-indices .ensures))
+    let s = c .before .before .before .before .before .before .before .before .before .before .before .before .before .before .before .before .before .before .before .args in
+    indices-length (s .question .now) (sizesIn (s .s)) (s .m) (lentOf (s .coefficients .now) (s .tails .now) (s .masks .now) (s .nonces .now)) (s .table .now) (s .tree .now) (s .reply .now) (c .before .before .before .before .before .before .before .before .before .before .before .before .before .before .before .before .before .before .before .pre) (take (s .s .l) (c .before .before .read-indices .last .1 .1 .1 .0))
+    (indices-front (s .question .now) (sizesIn (s .s)) (s .m) (lentOf (s .coefficients .now) (s .tails .now) (s .masks .now) (s .nonces .now)) (s .table .now) (s .tree .now) (s .reply .now) (c .before .before .before .before .before .before .before .before .before .before .before .before .before .before .before .before .before .before .before .pre) (c .before .before .before .before .blank-indices .result) (c .before .before .read-indices .last .1 .1 .1 .0) (c .before .before .read-indices .ensures))
 
 put-leaves-requires : tie.Need-put-leaves-requires
 put-leaves-requires c κs =
-    let s = c .before .before .before .before .before .before .before .before .before .before .before .before .before .before .before .before .before .before .before .before .before .before .before .before .before .before .before .args in
-    leaves-ask (s .question .now) (sizesIn (s .s)) (s .m) (lentOf (s .coefficients .now) (s .tails .now) (s .masks .now) (s .nonces .now)) (s .table .now) (s .tree .now) (s .reply .now) (c .before .before .before .before .before .before .before .before .before .before .before .before .before .before .before .before .before .before .before .before .before .before .before .before .before .before .before .pre) (take (s .s .l) (c .before .before .before .read-indices .last .1 .1 .1 .0)) (c .before .before .before .before .before .before .before .before .before .before .put-sums .last .1 .1 .1 .1 .1 .0)
-    (indices-front (s .question .now) (sizesIn (s .s)) (s .m) (lentOf (s .coefficients .now) (s .tails .now) (s .masks .now) (s .nonces .now)) (s .table .now) (s .tree .now) (s .reply .now) (c .before .before .before .before .before .before .before .before .before .before .before .before .before .before .before .before .before .before .before .before .before .before .before .before .before .before .before .pre) (c .before .before .before .before .before .blank-indices .result) (c .before .before .before .read-indices .last .1 .1 .1 .0) (c .before .before .before .read-indices .ensures)) (c .before .before .before .before .before .before .before .before .before .before .put-sums .kept .1 .1 .1 .1 .1 .0)
+    let s = c .before .before .before .before .before .before .before .before .before .before .before .before .before .before .before .before .before .before .before .before .args in
+    leaves-ask (s .question .now) (sizesIn (s .s)) (s .m) (lentOf (s .coefficients .now) (s .tails .now) (s .masks .now) (s .nonces .now)) (s .table .now) (s .tree .now) (s .reply .now) (c .before .before .before .before .before .before .before .before .before .before .before .before .before .before .before .before .before .before .before .before .pre) (take (s .s .l) (c .before .before .before .read-indices .last .1 .1 .1 .0)) (c .before .before .before .before .before .before .before .before .before .before .put-lent-sums .last .1 .1 .1 .1 .1 .1 .0)
+    (indices-front (s .question .now) (sizesIn (s .s)) (s .m) (lentOf (s .coefficients .now) (s .tails .now) (s .masks .now) (s .nonces .now)) (s .table .now) (s .tree .now) (s .reply .now) (c .before .before .before .before .before .before .before .before .before .before .before .before .before .before .before .before .before .before .before .before .pre) (c .before .before .before .before .before .blank-indices .result) (c .before .before .before .read-indices .last .1 .1 .1 .0) (c .before .before .before .read-indices .ensures)) (c .before .before .before .before .before .before .before .before .before .before .put-lent-sums .kept .1 .1 .1 .1 .1 .1 .0)
 
 same-length : tie.Need-same-length
 same-length c = search needs
 
 returns : tie.Need-returns
 returns c =
-    let s = c .before .before .before .before .before .before .before .before .before .before .before .before .before .before .before .before .before .before .before .before .before .before .before .before .before .before .before .before .before .before .args in
-    reply-are (s .question .now) (sizesIn (s .s)) (s .m) (lentOf (s .coefficients .now) (s .tails .now) (s .masks .now) (s .nonces .now)) (s .table .now) (s .tree .now) (s .reply .now) (c .before .before .before .before .before .before .before .before .before .before .before .before .before .before .before .before .before .before .before .before .before .before .before .before .before .before .before .before .before .before .pre) (c .before .before .put-leaves .result) (take (s .s .mu * c .before .before .before .before .before .before .before .before .before .before .before .before .before .before .before .before .before .before .before .before .row-width .result) (c .before .before .before .before .before .before .before .before .before .before .before .before .before .before .before .before .before .extend .last .1 .1 .1 .0)) (take (s .s .l) (c .before .before .before .before .before .before .read-indices .last .1 .1 .1 .0))
-    (c .before .before .before .before .before .before .before .before .before .before .before .before .before .put-sums .last .1 .1 .1 .1 .1 .0) (c .before .before .put-leaves .last .1 .1 .1 .1 .1 .1 .0)
-    (rows-front (s .question .now) (sizesIn (s .s)) (s .m) (lentOf (s .coefficients .now) (s .tails .now) (s .masks .now) (s .nonces .now)) (s .table .now) (s .tree .now) (s .reply .now) (c .before .before .before .before .before .before .before .before .before .before .before .before .before .before .before .before .before .before .before .before .before .before .before .before .before .before .before .before .before .before .pre) (c .before .before .before .before .before .before .before .before .before .before .before .before .before .before .before .before .before .before .before .before .row-width .result) (c .before .before .before .before .before .before .before .before .before .before .before .before .before .before .before .before .before .before .before .blank-rows .result) (c .before .before .before .before .before .before .before .before .before .before .before .before .before .before .before .before .before .extend .last .1 .1 .1 .0) (c .before .before .before .before .before .before .before .before .before .before .before .before .before .before .before .before .before .before .before .before .row-width .ensures) (c .before .before .before .before .before .before .before .before .before .before .before .before .before .before .before .before .before .extend .ensures))
-    (indices-front (s .question .now) (sizesIn (s .s)) (s .m) (lentOf (s .coefficients .now) (s .tails .now) (s .masks .now) (s .nonces .now)) (s .table .now) (s .tree .now) (s .reply .now) (c .before .before .before .before .before .before .before .before .before .before .before .before .before .before .before .before .before .before .before .before .before .before .before .before .before .before .before .before .before .before .pre) (c .before .before .before .before .before .before .before .before .blank-indices .result) (c .before .before .before .before .before .before .read-indices .last .1 .1 .1 .0) (c .before .before .before .before .before .before .read-indices .ensures))
-    (c .before .before .before .before .before .before .before .before .before .before .before .before .before .put-sums .ensures) (c .before .before .put-leaves .ensures .0) (c .before .before .put-leaves .ensures .1)
+    let s = c .before .before .before .before .before .before .before .before .before .before .before .before .before .before .before .before .before .before .before .before .before .before .before .args in
+    reply-are (s .question .now) (sizesIn (s .s)) (s .m) (lentOf (s .coefficients .now) (s .tails .now) (s .masks .now) (s .nonces .now)) (s .table .now) (s .tree .now) (s .reply .now) (c .before .before .before .before .before .before .before .before .before .before .before .before .before .before .before .before .before .before .before .before .before .before .before .pre) (c .before .before .put-leaves .result) (take (s .s .l) (c .before .before .before .before .before .before .read-indices .last .1 .1 .1 .0))
+    (c .before .before .before .before .before .before .before .before .before .before .before .before .before .put-lent-sums .last .1 .1 .1 .1 .1 .1 .0) (c .before .before .put-leaves .last .1 .1 .1 .1 .1 .1 .0)
+    (indices-front (s .question .now) (sizesIn (s .s)) (s .m) (lentOf (s .coefficients .now) (s .tails .now) (s .masks .now) (s .nonces .now)) (s .table .now) (s .tree .now) (s .reply .now) (c .before .before .before .before .before .before .before .before .before .before .before .before .before .before .before .before .before .before .before .before .before .before .before .pre) (c .before .before .before .before .before .before .before .before .blank-indices .result) (c .before .before .before .before .before .before .read-indices .last .1 .1 .1 .0) (c .before .before .before .before .before .before .read-indices .ensures))
+    (c .before .before .before .before .before .before .before .before .before .before .before .before .before .put-lent-sums .ensures) (c .before .before .put-leaves .ensures .0) (c .before .before .put-leaves .ensures .1)
 
 pub write-reply-spec : {M : Type 1} → statement M
 write-reply-spec =
     tie.close
     (tie.spec
-    cast-elements
-    row-width-requires
-    mul-elements
-    blank-rows-requires
-    slice-aggregate-extend
-    extend-requires
-    array-share-prefix-rows
-    slice-aggregate-put-sums
-    put-sums-requires
+    put-lent-sums-requires
     cast-l
     cast-from
     mul-from
