@@ -22,7 +22,7 @@ use Rattle.scheme.proofs.Accepted.{leaves-high}
 use Rattle.checker.specs.Words.{recordWordsAt, recordElementsAt, rootAt, batchedRow, evaluatedLeaf, batchingWords, answerWords}
 use Rattle.checker.specs.Posed.{posed, Posed, Read, laterTests}
 use Rattle.lists.specs.Parts.{read-front}
-use Rattle.checker.proofs.Bounds.{width-high, answers-fit}
+use Rattle.commitment.proofs.Places.{width-high, answers-fit}
 use Rattle.checker.proofs.ReplyTests.{elements-are, batching-is, evaluation-is, root-is}
 
 -- leaf indices are small

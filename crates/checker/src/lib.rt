@@ -8,9 +8,9 @@ ghost use Rattle.lists.specs.Bytes.{words};
 ghost use Rattle.lists.specs.Tests.{verdictOf, every, each};
 ghost use Rattle.tree.specs.Sets.{missing};
 ghost use Rattle.tree.specs.Clauses.{IndexSet};
-ghost use Rattle.scheme.specs.Sizes.{elements, width, recordValues, leafPoint};
+ghost use Rattle.scheme.specs.Sizes.{elements, width, leafPoint};
 ghost use Rattle.scheme.specs.Question.{questionLength};
-ghost use Rattle.scheme.specs.Reply.{readReply, recordLength, answersAt, recordsAt, nodesAt};
+ghost use Rattle.scheme.specs.Reply.{readReply, recordsAt, nodesAt};
 ghost use Rattle.scheme.specs.Check.{replyTests, checkValues, checking};
 ghost use Rattle.scheme.proofs.Accepted.{Good};
 ghost use Rattle.commitment.specs.Shape.{sizesIn};
@@ -19,6 +19,12 @@ ghost use Rattle.algebra.specs.Prime.{q};
 ghost use Rattle.checker.specs.Words.{rowsOf, recordWordsAt, recordElementsAt, leafDigestAt, rootAt, powersAt, dottedAt, valuedLeaf, batchedRow, weighedAt, scaledAt, scaledLeaf, evaluatedLeaf, pointValues, valuesAt};
 use commitment::Questioned;
 use commitment::Shape;
+use commitment::answers_at;
+use commitment::nodes_at;
+use commitment::record_length;
+use commitment::record_values;
+use commitment::records_at;
+use commitment::row_width;
 use field::Element;
 use tree::LeafIndex;
 
@@ -38,53 +44,14 @@ fn opened_point(indices: &[usize], a: usize) -> Element
     leaf_point(LeafIndex(i as u32))
 }
 
-// ---- sizes
-
-// The number of value points and tail points: words of an answer, batching or evaluation.
-fn width_of(s: Shape) -> usize
-    requires { ⌜ Good (sizesIn s) ⌝ }
-    ensures { λ r. ⌜ r ≡ width (sizesIn s) ⌝ }
-{
-    s.w as usize * s.nu as usize + s.l as usize
-}
-
-// The values of a leaf record, and its bytes.
-fn record_values(s: Shape) -> usize
-    requires { ⌜ Good (sizesIn s) ⌝ }
-    ensures { λ r. ⌜ r ≡ recordValues (sizesIn s) ⌝ }
-{
-    s.mu as usize + s.eta as usize
-}
-
-fn record_length(s: Shape) -> usize
-    requires { ⌜ Good (sizesIn s) ⌝ }
-    ensures { λ r. ⌜ r ≡ recordLength (sizesIn s) ⌝ }
-{
-    4 * record_values(s) + 32
-}
-
-// Where the evaluation answers and the leaf records of a reply begin.
-fn answers_at(s: Shape) -> usize
-    requires { ⌜ Good (sizesIn s) ⌝ }
-    ensures { λ r. ⌜ r ≡ answersAt (sizesIn s) ⌝ }
-{
-    4 * width_of(s) * s.eta as usize
-}
-
-fn records_at(s: Shape, m: usize) -> usize
-    requires { ⌜ Good (sizesIn s) × (m ≤ 8) ⌝ }
-    ensures { λ r. ⌜ r ≡ recordsAt (sizesIn s) m ⌝ }
-{
-    answers_at(s) + 4 * width_of(s) * m
-}
+// ---- the reply's length
 
 // The length that a reply must have.
 fn reply_length(s: Shape, m: usize, indices: &[usize]) -> usize
     requires { ⌜ Good (sizesIn s) × (m ≤ 8) × IndexSet (s .h) (now indices) ⌝ }
     ensures { λ r. ⌜ r ≡ nodesAt (sizesIn s) m + 32 * length (missing 2 (s .h) (now (indices .entry))) ⌝ }
 {
-    let records = record_length(s) * s.l as usize;
-    records_at(s, m) + records + 32 * tree::count_missing(s.h as usize, indices)
+    nodes_at(s, m) + 32 * tree::count_missing(s.h as usize, indices)
 }
 
 // ---- the reply's words
@@ -441,7 +408,7 @@ fn fill_values(question: &[u8], s: Shape, m: usize, reply: &[u8], values: &mut [
     requires { ⌜ Good (sizesIn s) × (m ≤ 8) × (length (now question) ≡ questionLength (sizesIn s) m) × (recordsAt (sizesIn s) m ≤ length (now reply)) × (length (now values) ≡ s .w * m) ⌝ }
     ensures { λ _. ⌜ now (values .exit) ≡ checkValues (questionAt (sizesIn s) m (now (question .entry))) (readReply (questionAt (sizesIn s) m (now (question .entry))) (now (reply .entry))) ⌝ }
 {
-    let width = width_of(s);
+    let width = row_width(s);
     let mut points = blank_points();
     commitment::read_words(question, 46 + 4 * s.eta as usize, m, &mut points);
     let mut answer = blank_row();
@@ -483,7 +450,7 @@ fn words_verdict(
     if !commitment::same_bytes(&found, root) {
         return 8;
     }
-    let width = width_of(s);
+    let width = row_width(s);
     let mu = s.mu as usize;
     if !batching_ok(width, mu, challenges, batching, indices, at, size, reply) {
         return 9;
@@ -516,7 +483,7 @@ fn reply_verdict(
     if reply.len() != reply_length(s, m, indices) {
         return 7;
     }
-    let width = width_of(s);
+    let width = row_width(s);
     let b = width * challenges.len();
     let mut batching = blank_batching();
     commitment::read_words(reply, 0, b, &mut batching);

@@ -5,3 +5,4 @@ pub mod Scan
 pub mod Read
 pub mod Answer
 pub mod Order
+pub mod Places

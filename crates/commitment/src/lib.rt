@@ -8,8 +8,10 @@ ghost use lib.ListN.{length, take, drop};
 ghost use Rattle.lists.specs.Bytes.{fromBytes, littleEndian, halves, words, bytesOf};
 ghost use Rattle.lists.specs.Rising.{rising};
 ghost use Rattle.lists.specs.Tests.{every, all, within, same};
-ghost use Rattle.scheme.specs.Sizes.{elements, sizesOk};
+ghost use Rattle.scheme.specs.Sizes.{elements, sizesOk, columns, width, recordValues};
 ghost use Rattle.scheme.specs.Question.{mark};
+ghost use Rattle.scheme.specs.Reply.{recordLength, answersAt, recordsAt, nodesAt};
+ghost use Rattle.scheme.proofs.Accepted.{Good};
 ghost use Rattle.commitment.specs.Shape.{sizesIn};
 ghost use Rattle.commitment.specs.Questioned.{headerShape, headed, questioned};
 ghost use Rattle.commitment.specs.declared.Questioned.the-variants.{WellFormed};
@@ -74,6 +76,62 @@ pub fn sizes_ok(s: Shape) -> bool
     } else {
         false
     }
+}
+
+// ---- the layout of what is lent, and of a reply
+
+// All columns.
+pub fn column_count(s: Shape) -> usize
+    requires { ⌜ Good (sizesIn s) ⌝ }
+    ensures { λ r. ⌜ r ≡ columns (sizesIn s) ⌝ }
+{
+    s.w as usize * s.nu as usize
+}
+
+// The words of a row with its tails, and of an answer, batching or evaluation.
+pub fn row_width(s: Shape) -> usize
+    requires { ⌜ Good (sizesIn s) ⌝ }
+    ensures { λ r. ⌜ r ≡ width (sizesIn s) ⌝ }
+{
+    column_count(s) + s.l as usize
+}
+
+// The values of a leaf record, and its bytes.
+pub fn record_values(s: Shape) -> usize
+    requires { ⌜ Good (sizesIn s) ⌝ }
+    ensures { λ r. ⌜ r ≡ recordValues (sizesIn s) ⌝ }
+{
+    s.mu as usize + s.eta as usize
+}
+
+pub fn record_length(s: Shape) -> usize
+    requires { ⌜ Good (sizesIn s) ⌝ }
+    ensures { λ r. ⌜ r ≡ recordLength (sizesIn s) ⌝ }
+{
+    4 * record_values(s) + 32
+}
+
+// Where the evaluation answers, the leaf records and the missing nodes of a reply begin.
+pub fn answers_at(s: Shape) -> usize
+    requires { ⌜ Good (sizesIn s) ⌝ }
+    ensures { λ r. ⌜ r ≡ answersAt (sizesIn s) ⌝ }
+{
+    4 * row_width(s) * s.eta as usize
+}
+
+pub fn records_at(s: Shape, m: usize) -> usize
+    requires { ⌜ Good (sizesIn s) × (m ≤ 8) ⌝ }
+    ensures { λ r. ⌜ r ≡ recordsAt (sizesIn s) m ⌝ }
+{
+    answers_at(s) + 4 * row_width(s) * m
+}
+
+pub fn nodes_at(s: Shape, m: usize) -> usize
+    requires { ⌜ Good (sizesIn s) × (m ≤ 8) ⌝ }
+    ensures { λ r. ⌜ r ≡ nodesAt (sizesIn s) m ⌝ }
+{
+    let records = record_length(s) * s.l as usize;
+    records_at(s, m) + records
 }
 
 // Is each word below q? All are looked at: a refusal is rare, and so the loop has no branch.

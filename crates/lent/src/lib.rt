@@ -13,26 +13,10 @@ ghost use Rattle.commitment.specs.Shape.{sizesIn};
 ghost use Rattle.lent.specs.Rows.{CanExtend, strided};
 use commitment::Shape;
 use commitment::both;
+use commitment::column_count;
 use commitment::elements_ok;
 use commitment::leaf_count;
-
-// ---- sizes
-
-// All columns.
-pub fn column_count(s: Shape) -> usize
-    requires { ⌜ sizesOk (sizesIn s) ≡ true ⌝ }
-    ensures { λ r. ⌜ r ≡ columns (sizesIn s) ⌝ }
-{
-    s.w as usize * s.nu as usize
-}
-
-// The elements of a row with its tails, and the coefficients of its polynomial.
-pub fn row_width(s: Shape) -> usize
-    requires { ⌜ sizesOk (sizesIn s) ≡ true ⌝ }
-    ensures { λ r. ⌜ r ≡ width (sizesIn s) ⌝ }
-{
-    column_count(s) + s.l as usize
-}
+use commitment::row_width;
 
 // ---- tests
 

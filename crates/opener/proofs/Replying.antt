@@ -26,7 +26,8 @@ use Rattle.scheme.proofs.Lent.{Rights, rights}
 use Rattle.lent.proofs.Rows.{rows-lent}
 use Rattle.opener.specs.Parts.{CanList, CanSum, sums}
 use Rattle.opener.specs.Ready.{questionOf, Ready}
-use Rattle.opener.proofs.Places.{paths-high, nodes-high}
+use Rattle.opener.proofs.Places.{paths-high}
+use Rattle.commitment.proofs.Places.{nodes-high}
 use Rattle.opener.proofs.Rows.{ext-pieces}
 use Rattle.opener.proofs.Sums.{sums-length, sums-opened}
 

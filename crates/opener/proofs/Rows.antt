@@ -22,7 +22,7 @@ use Rattle.scheme.proofs.Lent.{Rights}
 use Rattle.scheme.proofs.Row.{ext-polys}
 use Rattle.lent.proofs.Rows.{rows-lent}
 use Rattle.opener.specs.Parts.{Lined, CanSum}
-use Rattle.opener.proofs.Places.{width-high}
+use Rattle.commitment.proofs.Places.{width-high}
 
 zeros-below : (n : ℕ) → Elements (replicate n 0)
 zeros-below zero = tt

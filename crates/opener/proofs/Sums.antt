@@ -21,7 +21,7 @@ use Rattle.scheme.proofs.Row.{combination-length}
 use Rattle.commitment.proofs.Splice.{spliced-more}
 use Rattle.opener.specs.Parts.{Lined, batchingAt, answerAt, written, sums}
 use Rattle.opener.specs.Ready.{questionOf}
-use Rattle.opener.proofs.Places.{width-high}
+use Rattle.commitment.proofs.Places.{width-high}
 
 answers-length : (f : ℕ → List ℕ) (xs : List ℕ) (n : ℕ) → ((x : ℕ) → length (f x) ≡ n) → length (bytesOf (flatten (map f xs))) ≡ 4 * n * length xs
 answers-length f xs n sized =

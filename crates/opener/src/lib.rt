@@ -30,9 +30,12 @@ use commitment::ask;
 use commitment::both;
 use commitment::elements_ok;
 use commitment::leaf_count;
+use commitment::nodes_at;
 use commitment::put_bytes;
 use commitment::put_words;
 use commitment::read_indices;
+use commitment::records_at;
+use commitment::row_width;
 use commitment::same_bytes;
 use commitment::word;
 use field::Element;
@@ -42,7 +45,6 @@ use lent::extend;
 use lent::filled_ok;
 use lent::lent_elements;
 use lent::lent_ok;
-use lent::row_width;
 use tree::list_missing;
 
 // Where the root and the challenges begin in a question.
@@ -194,32 +196,14 @@ fn put_answers(
     }
 }
 
-// ---- where the parts of a reply begin
-
-// The first byte of the leaf records.
-fn records_at(s: Shape, m: u32) -> usize
-    requires { ⌜ (sizesOk (sizesIn s) ≡ true) × (m ≤ 8) ⌝ }
-    ensures { λ r. ⌜ r ≡ recordsAt (sizesIn s) m ⌝ }
-{
-    let n = row_width(s);
-    4 * n * s.eta as usize + 4 * n * m as usize
-}
-
-// The first byte of the missing nodes.
-fn nodes_at(s: Shape, m: u32) -> usize
-    requires { ⌜ (sizesOk (sizesIn s) ≡ true) × (m ≤ 8) ⌝ }
-    ensures { λ r. ⌜ r ≡ nodesAt (sizesIn s) m ⌝ }
-{
-    let values = s.mu as usize + s.eta as usize;
-    records_at(s, m) + (4 * values + 32) * s.l as usize
-}
+// ---- the room of a reply
 
 // The length of a reply with as many nodes as a path to each opened leaf has.
 fn reply_bound(s: Shape, m: u32) -> usize
     requires { ⌜ (sizesOk (sizesIn s) ≡ true) × (m ≤ 8) ⌝ }
     ensures { λ r. ⌜ r ≡ replyBound (sizesIn s) m ⌝ }
 {
-    nodes_at(s, m) + 32 * (s.l as usize * s.h as usize)
+    nodes_at(s, m as usize) + 32 * (s.l as usize * s.h as usize)
 }
 
 // ---- tests
@@ -323,9 +307,9 @@ fn put_leaves(
     ensures { λ r. ⌜ r ≡ nodesAt (sizesIn s) m + 32 * length (missing 2 (s .h) (now (indices .entry))) ⌝ }
     ensures { λ r. ⌜ now (reply .exit) ≡ take (recordsAt (sizesIn s) m) (now (reply .entry)) ++ ((flatten (map (leafRecord (sizesIn s) (now (table .entry)) (now (nonces .entry))) (now (indices .entry))) ++ flatten (opened 2 (s .h) (allParts (now (tree .entry))) (now (indices .entry)))) ++ drop r (now (reply .entry))) ⌝ }
 {
-    let records = records_at(s, m);
+    let records = records_at(s, m as usize);
     put_records(s, table, nonces, indices, reply, records);
-    let nodes = nodes_at(s, m);
+    let nodes = nodes_at(s, m as usize);
     let count = list_missing(
         s.h as usize,
         leaf_count(s.h),

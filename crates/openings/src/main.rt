@@ -1,6 +1,5 @@
 // Commits and opens at several sizes and prints what comes out, then refusals of every number. All inputs are made here by two rules, `word_of` and `byte_of`;
 // the file stdout is made by tools/stored_openings.py from a second implementation.
-ghost use mathlib.Core.Path.{_≡_};
 ghost use Prim.Native.Nat.{_+_, _*_, _≤_};
 ghost use lib.ListN.{length};
 use commitment::Shape;

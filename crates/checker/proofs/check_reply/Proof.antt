@@ -1,7 +1,7 @@
 -- `checker::check_reply` meets its contract.
 use Rattle.commitment.specs.Shape.{sizesIn}
 use Rattle.checker.specs.Posed.{questionAt}
-use Rattle.checker.proofs.Bounds.{buffer-high}
+use Rattle.commitment.proofs.Places.{buffer-high}
 use Rattle.checker.proofs.Asking.{answer-2, answer-refused, answer-0, accepted-length}
 use borrow.Author.Needs.{needs}
 use native.Mathlib.Omega.{arith}

@@ -2,7 +2,7 @@
 use mathlib.Core.Path.{sym, _∙_}
 use borrow.Author.Tests.{not-true, not-false}
 use Rattle.commitment.specs.Shape.{sizesIn}
-use Rattle.checker.proofs.Bounds.{record-high}
+use Rattle.commitment.proofs.Places.{record-high}
 use Rattle.checker.proofs.Verdicts.{say-3, say-8, say-9, say-10, say-0, index-set, root-fits, elements-tested, root-tested, batching-tested, evaluation-tested, elements-asks, batching-asks, evaluation-asks}
 use borrow.Author.Needs.{needs}
 use native.Mathlib.Omega.{arith}
@@ -53,8 +53,8 @@ returns-2 c =
     (sym (elements-tested (sizesIn (s .s)) (s .root .now) (s .challenges .now) (s .points .now) (s .indices .now) (s .reply .now) (c .before .before .before .before .before .before .before .before .before .before .before .before .before .before .before .before .before .pre .0) (s .batching .now) (s .answers .now) (c .before .before .before .before .before .before .before .before .before .before .before .before .before .before .before .before .before .pre .1) (c .before .before .before .before .before .before .before .before .before .records-at .result) (c .before .before .before .before .before .before .before .before .record-length .result) (c .before .before .before .before .before .before .before .before .before .records-at .ensures) (c .before .before .before .before .before .before .before .before .record-length .ensures) (c .before .before .before .before .before .before .before .record-values .result) (c .before .before .before .before .before .before .elements-read .result) (c .before .before .before .before .before .before .before .record-values .ensures) (c .before .before .before .before .before .before .elements-read .ensures)) ∙ not-false (c .before .before .before .before .before .before .elements-read .result) (c .before .before .before .before .before .if1 .left))
     (sym (root-tested (sizesIn (s .s)) (s .root .now) (s .challenges .now) (s .points .now) (s .indices .now) (s .reply .now) (c .before .before .before .before .before .before .before .before .before .before .before .before .before .before .before .before .before .pre .0) (s .batching .now) (s .answers .now) (c .before .before .before .before .before .before .before .before .before .before .before .before .before .before .before .before .before .pre .1) (c .before .before .before .before .before .before .before .before .before .records-at .result) (c .before .before .before .before .before .before .before .before .record-length .result) (c .before .before .before .before .before .before .before .before .before .records-at .ensures) (c .before .before .before .before .before .before .before .before .record-length .ensures) (c .before .same-bytes .result) (c .before .before .before .reply-root .result) (c .before .before .before .reply-root .ensures) (c .before .same-bytes .ensures)) ∙ not-true (c .before .same-bytes .result) (c .if2 .taken))
 
-width-of-requires : tie.Need-width-of-requires
-width-of-requires c κs = search needs
+row-width-requires : tie.Need-row-width-requires
+row-width-requires c κs = search needs
 
 cast-mu : tie.Need-cast-mu
 cast-mu c = search needs
@@ -62,7 +62,7 @@ cast-mu c = search needs
 batching-ok-requires : tie.Need-batching-ok-requires
 batching-ok-requires c κs =
     let s = c .before .before .before .before .before .before .before .before .before .before .before .before .before .before .before .before .before .before .before .args in
-    batching-asks (sizesIn (s .s)) (s .root .now) (s .challenges .now) (s .points .now) (s .indices .now) (s .reply .now) (c .before .before .before .before .before .before .before .before .before .before .before .before .before .before .before .before .before .before .before .pre .0) (s .batching .now) (s .answers .now) (c .before .before .before .before .before .before .before .before .before .before .before .before .before .before .before .before .before .before .before .pre .1) (c .before .before .before .before .before .before .before .before .before .before .before .records-at .result) (c .before .before .before .before .before .before .before .before .before .before .record-length .result) (c .before .before .before .before .before .before .before .before .before .before .before .records-at .ensures) (c .before .before .before .before .before .before .before .before .before .before .record-length .ensures) (c .before .width-of .result) (c .before .width-of .ensures)
+    batching-asks (sizesIn (s .s)) (s .root .now) (s .challenges .now) (s .points .now) (s .indices .now) (s .reply .now) (c .before .before .before .before .before .before .before .before .before .before .before .before .before .before .before .before .before .before .before .pre .0) (s .batching .now) (s .answers .now) (c .before .before .before .before .before .before .before .before .before .before .before .before .before .before .before .before .before .before .before .pre .1) (c .before .before .before .before .before .before .before .before .before .before .before .records-at .result) (c .before .before .before .before .before .before .before .before .before .before .record-length .result) (c .before .before .before .before .before .before .before .before .before .before .before .records-at .ensures) (c .before .before .before .before .before .before .before .before .before .before .record-length .ensures) (c .before .row-width .result) (c .before .row-width .ensures)
 
 returns-3 : tie.Need-returns-3
 returns-3 c =
@@ -70,7 +70,7 @@ returns-3 c =
     say-9 (sizesIn (s .s)) (s .root .now) (s .challenges .now) (s .points .now) (s .indices .now) (s .reply .now) (c .before .before .before .before .before .before .before .before .before .before .before .before .before .before .before .before .before .before .before .before .before .pre .0)
     (sym (elements-tested (sizesIn (s .s)) (s .root .now) (s .challenges .now) (s .points .now) (s .indices .now) (s .reply .now) (c .before .before .before .before .before .before .before .before .before .before .before .before .before .before .before .before .before .before .before .before .before .pre .0) (s .batching .now) (s .answers .now) (c .before .before .before .before .before .before .before .before .before .before .before .before .before .before .before .before .before .before .before .before .before .pre .1) (c .before .before .before .before .before .before .before .before .before .before .before .before .before .records-at .result) (c .before .before .before .before .before .before .before .before .before .before .before .before .record-length .result) (c .before .before .before .before .before .before .before .before .before .before .before .before .before .records-at .ensures) (c .before .before .before .before .before .before .before .before .before .before .before .before .record-length .ensures) (c .before .before .before .before .before .before .before .before .before .before .before .record-values .result) (c .before .before .before .before .before .before .before .before .before .before .elements-read .result) (c .before .before .before .before .before .before .before .before .before .before .before .record-values .ensures) (c .before .before .before .before .before .before .before .before .before .before .elements-read .ensures)) ∙ not-false (c .before .before .before .before .before .before .before .before .before .before .elements-read .result) (c .before .before .before .before .before .before .before .before .before .if1 .left))
     (sym (root-tested (sizesIn (s .s)) (s .root .now) (s .challenges .now) (s .points .now) (s .indices .now) (s .reply .now) (c .before .before .before .before .before .before .before .before .before .before .before .before .before .before .before .before .before .before .before .before .before .pre .0) (s .batching .now) (s .answers .now) (c .before .before .before .before .before .before .before .before .before .before .before .before .before .before .before .before .before .before .before .before .before .pre .1) (c .before .before .before .before .before .before .before .before .before .before .before .before .before .records-at .result) (c .before .before .before .before .before .before .before .before .before .before .before .before .record-length .result) (c .before .before .before .before .before .before .before .before .before .before .before .before .before .records-at .ensures) (c .before .before .before .before .before .before .before .before .before .before .before .before .record-length .ensures) (c .before .before .before .before .before .same-bytes .result) (c .before .before .before .before .before .before .before .reply-root .result) (c .before .before .before .before .before .before .before .reply-root .ensures) (c .before .before .before .before .before .same-bytes .ensures)) ∙ not-false (c .before .before .before .before .before .same-bytes .result) (c .before .before .before .before .if2 .left))
-    (sym (batching-tested (sizesIn (s .s)) (s .root .now) (s .challenges .now) (s .points .now) (s .indices .now) (s .reply .now) (c .before .before .before .before .before .before .before .before .before .before .before .before .before .before .before .before .before .before .before .before .before .pre .0) (s .batching .now) (s .answers .now) (c .before .before .before .before .before .before .before .before .before .before .before .before .before .before .before .before .before .before .before .before .before .pre .1) (c .before .before .before .before .before .before .before .before .before .before .before .before .before .records-at .result) (c .before .before .before .before .before .before .before .before .before .before .before .before .record-length .result) (c .before .before .before .before .before .before .before .before .before .before .before .before .before .records-at .ensures) (c .before .before .before .before .before .before .before .before .before .before .before .before .record-length .ensures) (c .before .batching-ok .result) (c .before .before .before .width-of .result) (c .before .before .before .width-of .ensures) (c .before .batching-ok .ensures)) ∙ not-true (c .before .batching-ok .result) (c .if3 .taken))
+    (sym (batching-tested (sizesIn (s .s)) (s .root .now) (s .challenges .now) (s .points .now) (s .indices .now) (s .reply .now) (c .before .before .before .before .before .before .before .before .before .before .before .before .before .before .before .before .before .before .before .before .before .pre .0) (s .batching .now) (s .answers .now) (c .before .before .before .before .before .before .before .before .before .before .before .before .before .before .before .before .before .before .before .before .before .pre .1) (c .before .before .before .before .before .before .before .before .before .before .before .before .before .records-at .result) (c .before .before .before .before .before .before .before .before .before .before .before .before .record-length .result) (c .before .before .before .before .before .before .before .before .before .before .before .before .before .records-at .ensures) (c .before .before .before .before .before .before .before .before .before .before .before .before .record-length .ensures) (c .before .batching-ok .result) (c .before .before .before .row-width .result) (c .before .before .before .row-width .ensures) (c .before .batching-ok .ensures)) ∙ not-true (c .before .batching-ok .result) (c .if3 .taken))
 
 leaf-count-requires : tie.Need-leaf-count-requires
 leaf-count-requires c κs =
@@ -79,7 +79,7 @@ leaf-count-requires c κs =
 evaluation-ok-requires : tie.Need-evaluation-ok-requires
 evaluation-ok-requires c κs =
     let s = c .before .before .before .before .before .before .before .before .before .before .before .before .before .before .before .before .before .before .before .before .before .before .args in
-    evaluation-asks (sizesIn (s .s)) (s .root .now) (s .challenges .now) (s .points .now) (s .indices .now) (s .reply .now) (c .before .before .before .before .before .before .before .before .before .before .before .before .before .before .before .before .before .before .before .before .before .before .pre .0) (s .batching .now) (s .answers .now) (c .before .before .before .before .before .before .before .before .before .before .before .before .before .before .before .before .before .before .before .before .before .before .pre .1) (c .before .before .before .before .before .before .before .before .before .before .before .before .before .before .records-at .result) (c .before .before .before .before .before .before .before .before .before .before .before .before .before .record-length .result) (c .before .before .before .before .before .before .before .before .before .before .before .before .before .before .records-at .ensures) (c .before .before .before .before .before .before .before .before .before .before .before .before .before .record-length .ensures) (c .leaf-count .result) (c .before .before .before .before .width-of .result) (c .leaf-count .ensures) (c .before .before .before .before .width-of .ensures)
+    evaluation-asks (sizesIn (s .s)) (s .root .now) (s .challenges .now) (s .points .now) (s .indices .now) (s .reply .now) (c .before .before .before .before .before .before .before .before .before .before .before .before .before .before .before .before .before .before .before .before .before .before .pre .0) (s .batching .now) (s .answers .now) (c .before .before .before .before .before .before .before .before .before .before .before .before .before .before .before .before .before .before .before .before .before .before .pre .1) (c .before .before .before .before .before .before .before .before .before .before .before .before .before .before .records-at .result) (c .before .before .before .before .before .before .before .before .before .before .before .before .before .record-length .result) (c .before .before .before .before .before .before .before .before .before .before .before .before .before .before .records-at .ensures) (c .before .before .before .before .before .before .before .before .before .before .before .before .before .record-length .ensures) (c .leaf-count .result) (c .before .before .before .before .row-width .result) (c .leaf-count .ensures) (c .before .before .before .before .row-width .ensures)
 
 returns-4 : tie.Need-returns-4
 returns-4 c =
@@ -87,8 +87,8 @@ returns-4 c =
     say-10 (sizesIn (s .s)) (s .root .now) (s .challenges .now) (s .points .now) (s .indices .now) (s .reply .now) (c .before .before .before .before .before .before .before .before .before .before .before .before .before .before .before .before .before .before .before .before .before .before .before .before .pre .0)
     (sym (elements-tested (sizesIn (s .s)) (s .root .now) (s .challenges .now) (s .points .now) (s .indices .now) (s .reply .now) (c .before .before .before .before .before .before .before .before .before .before .before .before .before .before .before .before .before .before .before .before .before .before .before .before .pre .0) (s .batching .now) (s .answers .now) (c .before .before .before .before .before .before .before .before .before .before .before .before .before .before .before .before .before .before .before .before .before .before .before .before .pre .1) (c .before .before .before .before .before .before .before .before .before .before .before .before .before .before .before .before .records-at .result) (c .before .before .before .before .before .before .before .before .before .before .before .before .before .before .before .record-length .result) (c .before .before .before .before .before .before .before .before .before .before .before .before .before .before .before .before .records-at .ensures) (c .before .before .before .before .before .before .before .before .before .before .before .before .before .before .before .record-length .ensures) (c .before .before .before .before .before .before .before .before .before .before .before .before .before .before .record-values .result) (c .before .before .before .before .before .before .before .before .before .before .before .before .before .elements-read .result) (c .before .before .before .before .before .before .before .before .before .before .before .before .before .before .record-values .ensures) (c .before .before .before .before .before .before .before .before .before .before .before .before .before .elements-read .ensures)) ∙ not-false (c .before .before .before .before .before .before .before .before .before .before .before .before .before .elements-read .result) (c .before .before .before .before .before .before .before .before .before .before .before .before .if1 .left))
     (sym (root-tested (sizesIn (s .s)) (s .root .now) (s .challenges .now) (s .points .now) (s .indices .now) (s .reply .now) (c .before .before .before .before .before .before .before .before .before .before .before .before .before .before .before .before .before .before .before .before .before .before .before .before .pre .0) (s .batching .now) (s .answers .now) (c .before .before .before .before .before .before .before .before .before .before .before .before .before .before .before .before .before .before .before .before .before .before .before .before .pre .1) (c .before .before .before .before .before .before .before .before .before .before .before .before .before .before .before .before .records-at .result) (c .before .before .before .before .before .before .before .before .before .before .before .before .before .before .before .record-length .result) (c .before .before .before .before .before .before .before .before .before .before .before .before .before .before .before .before .records-at .ensures) (c .before .before .before .before .before .before .before .before .before .before .before .before .before .before .before .record-length .ensures) (c .before .before .before .before .before .before .before .before .same-bytes .result) (c .before .before .before .before .before .before .before .before .before .before .reply-root .result) (c .before .before .before .before .before .before .before .before .before .before .reply-root .ensures) (c .before .before .before .before .before .before .before .before .same-bytes .ensures)) ∙ not-false (c .before .before .before .before .before .before .before .before .same-bytes .result) (c .before .before .before .before .before .before .before .if2 .left))
-    (sym (batching-tested (sizesIn (s .s)) (s .root .now) (s .challenges .now) (s .points .now) (s .indices .now) (s .reply .now) (c .before .before .before .before .before .before .before .before .before .before .before .before .before .before .before .before .before .before .before .before .before .before .before .before .pre .0) (s .batching .now) (s .answers .now) (c .before .before .before .before .before .before .before .before .before .before .before .before .before .before .before .before .before .before .before .before .before .before .before .before .pre .1) (c .before .before .before .before .before .before .before .before .before .before .before .before .before .before .before .before .records-at .result) (c .before .before .before .before .before .before .before .before .before .before .before .before .before .before .before .record-length .result) (c .before .before .before .before .before .before .before .before .before .before .before .before .before .before .before .before .records-at .ensures) (c .before .before .before .before .before .before .before .before .before .before .before .before .before .before .before .record-length .ensures) (c .before .before .before .before .batching-ok .result) (c .before .before .before .before .before .before .width-of .result) (c .before .before .before .before .before .before .width-of .ensures) (c .before .before .before .before .batching-ok .ensures)) ∙ not-false (c .before .before .before .before .batching-ok .result) (c .before .before .before .if3 .left))
-    (sym (evaluation-tested (sizesIn (s .s)) (s .root .now) (s .challenges .now) (s .points .now) (s .indices .now) (s .reply .now) (c .before .before .before .before .before .before .before .before .before .before .before .before .before .before .before .before .before .before .before .before .before .before .before .before .pre .0) (s .batching .now) (s .answers .now) (c .before .before .before .before .before .before .before .before .before .before .before .before .before .before .before .before .before .before .before .before .before .before .before .before .pre .1) (c .before .before .before .before .before .before .before .before .before .before .before .before .before .before .before .before .records-at .result) (c .before .before .before .before .before .before .before .before .before .before .before .before .before .before .before .record-length .result) (c .before .before .before .before .before .before .before .before .before .before .before .before .before .before .before .before .records-at .ensures) (c .before .before .before .before .before .before .before .before .before .before .before .before .before .before .before .record-length .ensures) (c .before .evaluation-ok .result) (c .before .before .leaf-count .result) (c .before .before .before .before .before .before .width-of .result) (c .before .before .leaf-count .ensures) (c .before .before .before .before .before .before .width-of .ensures) (c .before .evaluation-ok .ensures)) ∙ not-true (c .before .evaluation-ok .result) (c .if4 .taken))
+    (sym (batching-tested (sizesIn (s .s)) (s .root .now) (s .challenges .now) (s .points .now) (s .indices .now) (s .reply .now) (c .before .before .before .before .before .before .before .before .before .before .before .before .before .before .before .before .before .before .before .before .before .before .before .before .pre .0) (s .batching .now) (s .answers .now) (c .before .before .before .before .before .before .before .before .before .before .before .before .before .before .before .before .before .before .before .before .before .before .before .before .pre .1) (c .before .before .before .before .before .before .before .before .before .before .before .before .before .before .before .before .records-at .result) (c .before .before .before .before .before .before .before .before .before .before .before .before .before .before .before .record-length .result) (c .before .before .before .before .before .before .before .before .before .before .before .before .before .before .before .before .records-at .ensures) (c .before .before .before .before .before .before .before .before .before .before .before .before .before .before .before .record-length .ensures) (c .before .before .before .before .batching-ok .result) (c .before .before .before .before .before .before .row-width .result) (c .before .before .before .before .before .before .row-width .ensures) (c .before .before .before .before .batching-ok .ensures)) ∙ not-false (c .before .before .before .before .batching-ok .result) (c .before .before .before .if3 .left))
+    (sym (evaluation-tested (sizesIn (s .s)) (s .root .now) (s .challenges .now) (s .points .now) (s .indices .now) (s .reply .now) (c .before .before .before .before .before .before .before .before .before .before .before .before .before .before .before .before .before .before .before .before .before .before .before .before .pre .0) (s .batching .now) (s .answers .now) (c .before .before .before .before .before .before .before .before .before .before .before .before .before .before .before .before .before .before .before .before .before .before .before .before .pre .1) (c .before .before .before .before .before .before .before .before .before .before .before .before .before .before .before .before .records-at .result) (c .before .before .before .before .before .before .before .before .before .before .before .before .before .before .before .record-length .result) (c .before .before .before .before .before .before .before .before .before .before .before .before .before .before .before .before .records-at .ensures) (c .before .before .before .before .before .before .before .before .before .before .before .before .before .before .before .record-length .ensures) (c .before .evaluation-ok .result) (c .before .before .leaf-count .result) (c .before .before .before .before .before .before .row-width .result) (c .before .before .leaf-count .ensures) (c .before .before .before .before .before .before .row-width .ensures) (c .before .evaluation-ok .ensures)) ∙ not-true (c .before .evaluation-ok .result) (c .if4 .taken))
 
 returns-5 : tie.Need-returns-5
 returns-5 c =
@@ -96,8 +96,8 @@ returns-5 c =
     say-0 (sizesIn (s .s)) (s .root .now) (s .challenges .now) (s .points .now) (s .indices .now) (s .reply .now) (c .before .before .before .before .before .before .before .before .before .before .before .before .before .before .before .before .before .before .before .before .before .before .before .before .pre .0)
     (sym (elements-tested (sizesIn (s .s)) (s .root .now) (s .challenges .now) (s .points .now) (s .indices .now) (s .reply .now) (c .before .before .before .before .before .before .before .before .before .before .before .before .before .before .before .before .before .before .before .before .before .before .before .before .pre .0) (s .batching .now) (s .answers .now) (c .before .before .before .before .before .before .before .before .before .before .before .before .before .before .before .before .before .before .before .before .before .before .before .before .pre .1) (c .before .before .before .before .before .before .before .before .before .before .before .before .before .before .before .before .records-at .result) (c .before .before .before .before .before .before .before .before .before .before .before .before .before .before .before .record-length .result) (c .before .before .before .before .before .before .before .before .before .before .before .before .before .before .before .before .records-at .ensures) (c .before .before .before .before .before .before .before .before .before .before .before .before .before .before .before .record-length .ensures) (c .before .before .before .before .before .before .before .before .before .before .before .before .before .before .record-values .result) (c .before .before .before .before .before .before .before .before .before .before .before .before .before .elements-read .result) (c .before .before .before .before .before .before .before .before .before .before .before .before .before .before .record-values .ensures) (c .before .before .before .before .before .before .before .before .before .before .before .before .before .elements-read .ensures)) ∙ not-false (c .before .before .before .before .before .before .before .before .before .before .before .before .before .elements-read .result) (c .before .before .before .before .before .before .before .before .before .before .before .before .if1 .left))
     (sym (root-tested (sizesIn (s .s)) (s .root .now) (s .challenges .now) (s .points .now) (s .indices .now) (s .reply .now) (c .before .before .before .before .before .before .before .before .before .before .before .before .before .before .before .before .before .before .before .before .before .before .before .before .pre .0) (s .batching .now) (s .answers .now) (c .before .before .before .before .before .before .before .before .before .before .before .before .before .before .before .before .before .before .before .before .before .before .before .before .pre .1) (c .before .before .before .before .before .before .before .before .before .before .before .before .before .before .before .before .records-at .result) (c .before .before .before .before .before .before .before .before .before .before .before .before .before .before .before .record-length .result) (c .before .before .before .before .before .before .before .before .before .before .before .before .before .before .before .before .records-at .ensures) (c .before .before .before .before .before .before .before .before .before .before .before .before .before .before .before .record-length .ensures) (c .before .before .before .before .before .before .before .before .same-bytes .result) (c .before .before .before .before .before .before .before .before .before .before .reply-root .result) (c .before .before .before .before .before .before .before .before .before .before .reply-root .ensures) (c .before .before .before .before .before .before .before .before .same-bytes .ensures)) ∙ not-false (c .before .before .before .before .before .before .before .before .same-bytes .result) (c .before .before .before .before .before .before .before .if2 .left))
-    (sym (batching-tested (sizesIn (s .s)) (s .root .now) (s .challenges .now) (s .points .now) (s .indices .now) (s .reply .now) (c .before .before .before .before .before .before .before .before .before .before .before .before .before .before .before .before .before .before .before .before .before .before .before .before .pre .0) (s .batching .now) (s .answers .now) (c .before .before .before .before .before .before .before .before .before .before .before .before .before .before .before .before .before .before .before .before .before .before .before .before .pre .1) (c .before .before .before .before .before .before .before .before .before .before .before .before .before .before .before .before .records-at .result) (c .before .before .before .before .before .before .before .before .before .before .before .before .before .before .before .record-length .result) (c .before .before .before .before .before .before .before .before .before .before .before .before .before .before .before .before .records-at .ensures) (c .before .before .before .before .before .before .before .before .before .before .before .before .before .before .before .record-length .ensures) (c .before .before .before .before .batching-ok .result) (c .before .before .before .before .before .before .width-of .result) (c .before .before .before .before .before .before .width-of .ensures) (c .before .before .before .before .batching-ok .ensures)) ∙ not-false (c .before .before .before .before .batching-ok .result) (c .before .before .before .if3 .left))
-    (sym (evaluation-tested (sizesIn (s .s)) (s .root .now) (s .challenges .now) (s .points .now) (s .indices .now) (s .reply .now) (c .before .before .before .before .before .before .before .before .before .before .before .before .before .before .before .before .before .before .before .before .before .before .before .before .pre .0) (s .batching .now) (s .answers .now) (c .before .before .before .before .before .before .before .before .before .before .before .before .before .before .before .before .before .before .before .before .before .before .before .before .pre .1) (c .before .before .before .before .before .before .before .before .before .before .before .before .before .before .before .before .records-at .result) (c .before .before .before .before .before .before .before .before .before .before .before .before .before .before .before .record-length .result) (c .before .before .before .before .before .before .before .before .before .before .before .before .before .before .before .before .records-at .ensures) (c .before .before .before .before .before .before .before .before .before .before .before .before .before .before .before .record-length .ensures) (c .before .evaluation-ok .result) (c .before .before .leaf-count .result) (c .before .before .before .before .before .before .width-of .result) (c .before .before .leaf-count .ensures) (c .before .before .before .before .before .before .width-of .ensures) (c .before .evaluation-ok .ensures)) ∙ not-false (c .before .evaluation-ok .result) (c .if4 .left))
+    (sym (batching-tested (sizesIn (s .s)) (s .root .now) (s .challenges .now) (s .points .now) (s .indices .now) (s .reply .now) (c .before .before .before .before .before .before .before .before .before .before .before .before .before .before .before .before .before .before .before .before .before .before .before .before .pre .0) (s .batching .now) (s .answers .now) (c .before .before .before .before .before .before .before .before .before .before .before .before .before .before .before .before .before .before .before .before .before .before .before .before .pre .1) (c .before .before .before .before .before .before .before .before .before .before .before .before .before .before .before .before .records-at .result) (c .before .before .before .before .before .before .before .before .before .before .before .before .before .before .before .record-length .result) (c .before .before .before .before .before .before .before .before .before .before .before .before .before .before .before .before .records-at .ensures) (c .before .before .before .before .before .before .before .before .before .before .before .before .before .before .before .record-length .ensures) (c .before .before .before .before .batching-ok .result) (c .before .before .before .before .before .before .row-width .result) (c .before .before .before .before .before .before .row-width .ensures) (c .before .before .before .before .batching-ok .ensures)) ∙ not-false (c .before .before .before .before .batching-ok .result) (c .before .before .before .if3 .left))
+    (sym (evaluation-tested (sizesIn (s .s)) (s .root .now) (s .challenges .now) (s .points .now) (s .indices .now) (s .reply .now) (c .before .before .before .before .before .before .before .before .before .before .before .before .before .before .before .before .before .before .before .before .before .before .before .before .pre .0) (s .batching .now) (s .answers .now) (c .before .before .before .before .before .before .before .before .before .before .before .before .before .before .before .before .before .before .before .before .before .before .before .before .pre .1) (c .before .before .before .before .before .before .before .before .before .before .before .before .before .before .before .before .records-at .result) (c .before .before .before .before .before .before .before .before .before .before .before .before .before .before .before .record-length .result) (c .before .before .before .before .before .before .before .before .before .before .before .before .before .before .before .before .records-at .ensures) (c .before .before .before .before .before .before .before .before .before .before .before .before .before .before .before .record-length .ensures) (c .before .evaluation-ok .result) (c .before .before .leaf-count .result) (c .before .before .before .before .before .before .row-width .result) (c .before .before .leaf-count .ensures) (c .before .before .before .before .before .before .row-width .ensures) (c .before .evaluation-ok .ensures)) ∙ not-false (c .before .evaluation-ok .result) (c .if4 .left))
 
 pub words-verdict-spec : {M : Type 1} → statement M
 words-verdict-spec =
@@ -113,7 +113,7 @@ words-verdict-spec =
     slice-aggregate-same-bytes
     same-bytes-requires
     returns-2
-    width-of-requires
+    row-width-requires
     cast-mu
     batching-ok-requires
     returns-3

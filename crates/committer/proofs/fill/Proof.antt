@@ -9,13 +9,14 @@ use Rattle.committer.proofs.Filled.{rows-bound}
 use borrow.Author.Needs.{needs}
 use native.Mathlib.Omega.{arith}
 use Rattle.committer.proofs.fill.Statement.{statement}
+use Rattle.scheme.proofs.Accepted.{good}
 use Rattle.committer.proofs.fill.Tie as tie
 
 cast-if1 : tie.Need-cast-if1
 cast-if1 c = search needs
 
 row-width-requires : tie.Need-row-width-requires
-row-width-requires c κs = search needs
+row-width-requires c κs = good _ (c .before .before .before .before .before .before .before .pre .right .sizes)
 
 mul-if1 : tie.Need-mul-if1
 mul-if1 c =

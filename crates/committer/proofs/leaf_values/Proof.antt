@@ -17,7 +17,7 @@ cast-mu : tie.Need-cast-mu
 cast-mu c = search needs
 
 row-width-requires : tie.Need-row-width-requires
-row-width-requires c κs = search needs
+row-width-requires c κs = good _ (c .before .before .before .before .pre .0 .sizes)
 
 leaf-point-requires : tie.Need-leaf-point-requires
 leaf-point-requires c κs = search needs

@@ -14,6 +14,7 @@ use Rattle.lent.proofs.Rows.{extended-length, rows-done}
 use borrow.Author.Needs.{needs}
 use native.Mathlib.Omega.{arith}
 use Rattle.lent.proofs.extend.Statement.{statement}
+use Rattle.scheme.proofs.Accepted.{good}
 use Rattle.lent.proofs.extend.Tie as tie
 
 abbrev Inv-loop : tie.InvT-loop
@@ -28,7 +29,7 @@ cast-mu : tie.Need-cast-mu Inv-loop μ-loop
 cast-mu c = search needs
 
 row-width-requires : tie.Need-row-width-requires Inv-loop μ-loop
-row-width-requires c κs = c .before .before .before .before .pre .0 .sizes
+row-width-requires c κs = good _ (c .before .before .before .before .pre .0 .sizes)
 
 loop-holds : tie.Need-loop-holds Inv-loop μ-loop
 loop-holds c =

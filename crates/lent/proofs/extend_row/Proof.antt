@@ -16,7 +16,7 @@ use Rattle.lent.proofs.extend_row.Statement.{statement}
 use Rattle.lent.proofs.extend_row.Tie as tie
 
 column-count-requires : tie.Need-column-count-requires
-column-count-requires c κs = c .before .before .before .pre .0 .sizes
+column-count-requires c κs = good _ (c .before .before .before .pre .0 .sizes)
 
 cast-first : tie.Need-cast-first
 cast-first c = search needs

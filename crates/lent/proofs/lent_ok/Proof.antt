@@ -14,10 +14,10 @@ cast-mu : tie.Need-cast-mu
 cast-mu c = search needs
 
 column-count-requires : tie.Need-column-count-requires
-column-count-requires c κs = search needs
+column-count-requires c κs = good _ (c .before .before .before .before .before .pre)
 
 row-width-requires : tie.Need-row-width-requires
-row-width-requires c κs = search needs
+row-width-requires c κs = good _ (c .before .before .before .before .before .before .pre)
 
 leaf-count-requires : tie.Need-leaf-count-requires
 leaf-count-requires c κs = good (sizesIn (c .before .before .before .before .before .before .before .args .s)) (c .before .before .before .before .before .before .before .pre) .h-high

@@ -7,13 +7,14 @@ use Rattle.opener.proofs.Rows.{elements-high, rows-room}
 use borrow.Author.Needs.{needs}
 use native.Mathlib.Omega.{arith}
 use Rattle.opener.proofs.put_lent_sums.Statement.{statement}
+use Rattle.scheme.proofs.Accepted.{good}
 use Rattle.opener.proofs.put_lent_sums.Tie as tie
 
 cast-if1 : tie.Need-cast-if1
 cast-if1 c = search needs
 
 row-width-requires : tie.Need-row-width-requires
-row-width-requires c κs = search needs
+row-width-requires c κs = good _ (c .before .before .before .before .before .before .pre .extend .sizes)
 
 mul-if1 : tie.Need-mul-if1
 mul-if1 c =

@@ -9,7 +9,7 @@ use Rattle.opener.proofs.put_sums.Statement.{statement}
 use Rattle.opener.proofs.put_sums.Tie as tie
 
 row-width-requires : tie.Need-row-width-requires
-row-width-requires c κs = search needs
+row-width-requires c κs = good _ (c .before .before .before .before .pre .0)
 
 cast-mu : tie.Need-cast-mu
 cast-mu c = search needs

@@ -1,13 +1,14 @@
 -- `opener::reply_bound` meets its contract.
 use Rattle.scheme.proofs.Accepted.{good}
 use Rattle.commitment.specs.Shape.{sizesIn}
-use Rattle.opener.proofs.Places.{paths-high, nodes-high}
+use Rattle.commitment.proofs.Places.{nodes-high}
+use Rattle.opener.proofs.Places.{paths-high}
 use borrow.Author.Needs.{needs}
 use Rattle.opener.proofs.reply_bound.Statement.{statement}
 use Rattle.opener.proofs.reply_bound.Tie as tie
 
 nodes-at-requires : tie.Need-nodes-at-requires
-nodes-at-requires c κs = search needs
+nodes-at-requires c κs = (good _ (c .pre .0), c .pre .1)
 
 cast-result : tie.Need-cast-result
 cast-result c = search needs

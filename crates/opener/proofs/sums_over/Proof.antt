@@ -10,13 +10,14 @@ use Rattle.opener.proofs.Rows.{elements-high, rows-fit, front-length, s
 use borrow.Author.Needs.{needs}
 use native.Mathlib.Omega.{arith}
 use Rattle.opener.proofs.sums_over.Statement.{statement}
+use Rattle.scheme.proofs.Accepted.{good}
 use Rattle.opener.proofs.sums_over.Tie as tie
 
 cast-elements : tie.Need-cast-elements
 cast-elements c = search needs
 
 row-width-requires : tie.Need-row-width-requires
-row-width-requires c κs = search needs
+row-width-requires c κs = good _ (c .before .before .before .before .before .before .before .pre .0 .extend .sizes)
 
 mul-elements : tie.Need-mul-elements
 mul-elements c =

@@ -1,5 +1,5 @@
 -- `openings::word_digest` is safe.
-use mathlib.Core.Path.{_≡_, sym}
+use mathlib.Core.Path.{sym}
 use Prim.Native.Nat.{_*_}
 use lib.Seq.{length-take-le}
 use borrow.Author.Needs.{needs}
