@@ -1,19 +1,22 @@
 -- The sum of the products of two lists of numbers, modulo q.
-use mathlib.Core.Path.{_≡_, refl, sym, _∙_, ap, ap₂}
-use mathlib.Core.List.{List, [], _∷_}
-use Prim.Native.Nat.{ℕ, zero, suc, _+_, _*_, _/_, _%_, _≤_, _<_}
+use mathlib.Core.Path.{_≡_, refl, sym, _∙_, ap, ap₂, subst}
+use mathlib.Core.List.{List, [], _∷_, map}
+use Prim.Native.Nat.{ℕ, zero, suc, _+_, _-_, _*_, _/_, _%_, _≤_, _<_}
 use native.Mathlib.Nat.{mod-lt, le-refl, suc-inj, suc-ne-zero, not-suc-le-zero, le-of-suc-le-suc, div-add-mod', mul-le-mul, div-lt-iff-lt-mul}
 use native.Mathlib.Numerals.{add-one}
 use native.Mathlib.Omega.{arith}
 use lib.Dec.{lit<}
-use lib.ListN.{length, getD, take}
-use lib.Seq.{take-length}
+use lib.ListN.{length, getD, take, drop, length-map}
+use lib.Seq.{take-length, ext-getD}
 use Rattle.algebra.specs.Prime.{q}
 use Rattle.algebra.specs.Field.{K, of, same-mod, of-add, of-mul, of-zero, of-one, _⊕_, _⊗_, 𝟏, dv, ring, dif-path, ⊗-zero, ⊗-one, ⊗-comm}
 use Rattle.algebra.specs.Columns.{powN}
-use Rattle.algebra.specs.Numbers.{ofs, evalN, evalN-below, of-evalN, of-injective}
+use Rattle.algebra.specs.Numbers.{ofs, evalN, evalN-below, valuesAtN, of-evalN, of-injective}
 use Rattle.algebra.specs.Poly.{eval}
-use Rattle.lists.specs.Tabulate.{tabulate-is, tabulateFrom, tabulate}
+use Rattle.lists.specs.All.{Sized}
+use Rattle.lists.specs.Maps.{getD-map-in}
+use Rattle.lists.specs.Pieces.{pieces, length-pieces, pieces-at, pieces-sized}
+use Rattle.lists.specs.Tabulate.{tabulate-is, tabulateFrom, tabulate, length-from}
 use Rattle.lists.specs.Fill.{Filled, entryOf}
 use Rattle.algebra.specs.Divided.{of-mod}
 use Rattle.algebra.specs.Interp.{dot}
@@ -144,3 +147,37 @@ dot-powersN p x =
   where
     one : (a : K) → of 1 ⊗ a ≡ a
     one a = ap (λ (t : K). t ⊗ a) of-one ∙ ⊗-comm 𝟏 a ∙ ⊗-one a
+
+-- ---- the dot products of the weights with the first n rows, which stand one after the other
+unfoldable pub dotsOf : List ℕ → ℕ → List ℕ → List ℕ
+dotsOf weights n rows = map (dotN weights) (pieces (length weights) n rows)
+
+pub dots-length : (w : List ℕ) (n : ℕ) (rows : List ℕ) → length (dotsOf w n rows) ≡ n
+unfolding dotsOf
+dots-length w n rows = length-map (pieces (length w) n rows) (dotN w) ∙ length-pieces (length w) n rows
+
+-- row j goes from a to e
+pub dots-at : (w rows : List ℕ) (n j a e v : ℕ) → j < n → a ≡ length w * j → e ≡ a + length w → v ≡ dotN w (take (e - a) (drop a rows)) → v ≡ entryOf (dotsOf w n rows) j
+unfolding dotsOf
+dots-at w rows n j a e v l ha he h =
+    let m : e - a ≡ length w = omega arith in
+    h ∙ ap₂ (λ (x y : ℕ). dotN w (take x (drop y rows))) m ha
+    ∙ ap (dotN w) (sym (pieces-at (length w) n j rows l))
+    ∙ sym (getD-map-in (dotN w) (pieces (length w) n rows) j [] 0 (subst (λ (k : ℕ). j < k) (sym (length-pieces (length w) n rows)) l))
+
+pub dots-done : (w rows : List ℕ) (n : ℕ) (out : List ℕ) → length out ≡ n → Filled (entryOf (dotsOf w n rows)) out 0 n → out ≡ dotsOf w n rows
+dots-done w rows n out l h =
+    ext-getD 0 out (dotsOf w n rows) (l ∙ sym (dots-length w n rows)) (λ i m. h i (omega arith) (subst (λ (k : ℕ). i < k) l m))
+
+-- with the powers they are the values of the rows as polynomials
+powers-dots : (k : ℕ) (ps : List (List ℕ)) (x : ℕ) → Sized k ps → map (dotN (tabulate k (powN x))) ps ≡ valuesAtN ps x
+unfolding valuesAtN
+powers-dots k [] x h = refl
+powers-dots k (p ∷ ps) x h =
+    ap₂ (λ (a : ℕ) (t : List ℕ). a ∷ t) (ap (λ (n : ℕ). dotN (tabulate n (powN x)) p) (sym (h .0)) ∙ dot-powersN p x) (powers-dots k ps x (h .1))
+
+pub dots-powersN : (k n : ℕ) (rows : List ℕ) (x : ℕ) → k * n ≤ length rows → dotsOf (tabulate k (powN x)) n rows ≡ valuesAtN (pieces k n rows) x
+unfolding dotsOf
+dots-powersN k n rows x h =
+    ap (λ (m : ℕ). map (dotN (tabulate k (powN x))) (pieces m n rows)) (length-from 0 k (powN x))
+    ∙ powers-dots k (pieces k n rows) x (pieces-sized k n rows h)

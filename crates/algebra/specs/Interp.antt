@@ -159,36 +159,6 @@ interp-of-values xs p l d =
     unique xs _ p (length-interp xs _ (length-map xs _) ∙ sym l) (le-of-eq l) d
     (values-all _ p xs (interp-values xs _ (length-map xs _) d))
 
-map-eval-add : (xs p r : List K) → map (λ (z : K). eval (addV p r) z) xs ≡ addV (map (λ (z : K). eval p z) xs) (map (λ (z : K). eval r z) xs)
-unfolding addV
-map-eval-add [] p r = refl
-map-eval-add (x ∷ xs) p r = ap₂ (λ (c : K) (t : List K). c ∷ t) (eval-add p r x) (map-eval-add xs p r)
-
-map-eval-scale : (xs : List K) (k : K) (p : List K) → map (λ (z : K). eval (scale k p) z) xs ≡ scale k (map (λ (z : K). eval p z) xs)
-unfolding scale
-map-eval-scale [] k p = refl
-map-eval-scale (x ∷ xs) k p = ap₂ (λ (c : K) (t : List K). c ∷ t) (eval-scale k p x) (map-eval-scale xs k p)
-
--- ---- linear in the values, by uniqueness
-pub interp-add : (xs ys us : List K) → length ys ≡ length xs → length us ≡ length xs → Distinct xs → interp xs (addV ys us) ≡ addV (interp xs ys) (interp xs us)
-interp-add xs ys us l m d =
-    unique xs _ _ (length-interp xs _ n ∙ sym len) (le-of-eq len) d
-    (values-all _ _ xs (interp-values xs _ n d ∙ sym (map-eval-add xs (interp xs ys) (interp xs us) ∙ ap₂ addV (interp-values xs ys l d) (interp-values xs us m d))))
-  where
-    n : length (addV ys us) ≡ length xs
-    n = length-addV ys us (omega arith) ∙ m
-
-    len : length (addV (interp xs ys) (interp xs us)) ≡ length xs
-    len = length-addV (interp xs ys) (interp xs us) (omega (arith, length-interp xs ys l, length-interp xs us m)) ∙ length-interp xs us m
-
-pub interp-scale : (xs ys : List K) (k : K) → length ys ≡ length xs → Distinct xs → interp xs (scale k ys) ≡ scale k (interp xs ys)
-interp-scale xs ys k l d =
-    unique xs _ _ (length-interp xs _ (length-scale k ys ∙ l) ∙ sym len) (le-of-eq len) d
-    (values-all _ _ xs (interp-values xs _ (length-scale k ys ∙ l) d ∙ sym (map-eval-scale xs k (interp xs ys) ∙ ap (scale k) (interp-values xs ys l d))))
-  where
-    len : length (scale k (interp xs ys)) ≡ length xs
-    len = length-scale k _ ∙ length-interp xs ys l
-
 -- ---- extraction: the rows behind batched answers
 -- row j of the polynomials behind the answers rs to the challenges gs
 pub row : List K → List (List K) → ℕ → List K

@@ -2,22 +2,17 @@
 use mathlib.Core.Path.{_≡_}
 use mathlib.Core.Bool.{true}
 use mathlib.Core.List.{List, _++_, map}
-use Prim.Native.Nat.{ℕ, _+_, _*_, _≤_}
+use Prim.Native.Nat.{ℕ, _*_, _≤_}
 use lib.ListN.{length}
 use Rattle.lists.specs.Bytes.{bytesOf}
 use Rattle.lists.specs.Pieces.{pieces, piece}
 use Rattle.algebra.specs.Numbers.{interpN, valuesAtN}
-use Rattle.algebra.specs.Dot.{dotN}
 use Rattle.sponge.specs.Digest.{digest}
 use Rattle.tree.specs.Leaf.{leafString}
 use Rattle.scheme.specs.Sizes.{Sizes, leaves, width, recordValues, points, leafPoint, sizesOk}
 use Rattle.scheme.specs.Layers.{Lent}
 use Rattle.scheme.specs.Commit.{filledOk}
 use Rattle.scheme.specs.Honest.{Right}
-
--- the dot products of the weights with the first n rows
-unfoldable pub dotsOf : List ℕ → ℕ → List ℕ → List ℕ
-dotsOf weights n rows = map (dotN weights) (pieces (length weights) n rows)
 
 -- sizes in their ranges, and room for all rows and masks
 pub record Evaluable (s : Sizes) (rows masks : List ℕ) : Type 0 where

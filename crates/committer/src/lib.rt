@@ -14,7 +14,7 @@ ghost use Rattle.scheme.specs.Sizes.{sizesOf, leaves, width, leafPoint, recordV
 ghost use Rattle.scheme.specs.Layers.{lentOf};
 ghost use Rattle.scheme.specs.Commit.{tableOf, leafDigests, treeOf, commitVerdict, committing};
 ghost use Rattle.commitment.specs.Shape.{sizesIn};
-ghost use Rattle.committer.specs.Clauses.{dotsOf, Evaluable, valuesOf, Hashable, Committable};
+ghost use Rattle.committer.specs.Clauses.{Evaluable, valuesOf, Hashable, Committable};
 use commitment::Shape;
 use commitment::leaf_count;
 use commitment::put_bytes;
@@ -23,7 +23,7 @@ use commitment::row_width;
 use commitment::sizes_ok;
 use field::Element;
 use field::basis;
-use field::dot;
+use field::dots;
 use field::powers;
 use lent::extend;
 use lent::filled_ok;
@@ -40,23 +40,6 @@ fn leaf_point(index: LeafIndex) -> Element
     ensures { λ r. ⌜ r .0 ≡ leafPoint (index .0) ⌝ }
 {
     Element(index.0)
-}
-
-// The dot products of the weights with rows that stand one after the other.
-fn dots(weights: &[u32], rows: &[u32], out: &mut [u32])
-    requires { ⌜ (length (now weights) * length (now out) ≤ length (now rows)) × (length (now weights) ≤ 320) ⌝ }
-    ensures { λ _. ⌜ now (out .exit) ≡ dotsOf (now (weights .entry)) (length (now (out .entry))) (now (rows .entry)) ⌝ }
-{
-    let width = weights.len();
-    let n = out.len();
-    let mut j = 0;
-    while j < n {
-        let start = j * width;
-        let end = start + width;
-        let v = dot(weights, &rows[start..end]);
-        out[j] = v.0;
-        j += 1;
-    }
 }
 
 // Room for the weights of a row. A function of its own, so that a caller's goals do not show its zeros.

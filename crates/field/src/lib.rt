@@ -8,7 +8,7 @@ ghost use Rattle.algebra.specs.Columns.{powN};
 ghost use Rattle.algebra.specs.Inverse.{invN};
 ghost use Rattle.algebra.specs.Table.{inverseFactorials};
 ghost use Rattle.lists.specs.Tabulate.{tabulate};
-ghost use Rattle.algebra.specs.Dot.{dotN, accumulateN};
+ghost use Rattle.algebra.specs.Dot.{dotN, dotsOf, accumulateN};
 ghost use Rattle.lists.specs.Range.{upFrom};
 ghost use Rattle.algebra.specs.Basis.{lowerN, upperN, basisN};
 
@@ -111,6 +111,23 @@ pub fn dot(a: &[u32], b: &[u32]) -> Element
         i += 1;
     }
     Element(((low + 10 * high) % Q) as u32)
+}
+
+// The dot products of the weights with rows that stand one after the other.
+pub fn dots(weights: &[u32], rows: &[u32], out: &mut [u32])
+    requires { ⌜ (length (now weights) * length (now out) ≤ length (now rows)) × (length (now weights) ≤ 320) ⌝ }
+    ensures { λ _. ⌜ now (out .exit) ≡ dotsOf (now (weights .entry)) (length (now (out .entry))) (now (rows .entry)) ⌝ }
+{
+    let width = weights.len();
+    let n = out.len();
+    let mut j = 0;
+    while j < n {
+        let start = j * width;
+        let end = start + width;
+        let v = dot(weights, &rows[start..end]);
+        out[j] = v.0;
+        j += 1;
+    }
 }
 
 // acc + c row, entry by entry.

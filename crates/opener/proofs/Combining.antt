@@ -6,7 +6,7 @@ use native.Mathlib.Nat.{not-suc-le-zero, le-of-suc-le-suc, suc-inj, suc-ne-zero,
 use native.Mathlib.Omega.{arith}
 use lib.ListN.{length, getD, take, drop, length-map, length-drop, drop-of-length-le}
 use lib.Seq.{ext-getD, drop-cons, length-take-le}
-use Rattle.lists.specs.All.{Distinct, all-at, all-take, all-drop}
+use Rattle.lists.specs.All.{Distinct, all-at}
 use Rattle.lists.specs.Range.{upFrom, length-upFrom, upFrom-below, upFrom-distinct}
 use Rattle.lists.specs.Maps.{getD-map-in}
 use Rattle.lists.specs.Pieces.{pieces, piece, length-pieces, pieces-at, pieces-sized}
@@ -135,23 +135,13 @@ interp-combination xs n z es e b d h some =
 
 -- ---- the batching answer: one interpolation, of the combined rows
 
-rows-polys : (n μ : ℕ) (x : List ℕ) → n * μ ≤ length x → Elements x → Polys n (pieces n μ x)
-unfolding pieces
-rows-polys n zero x l b = tt
-rows-polys n (suc μ) x l b = (
-  (length-take-le n x (omega (arith, mul-suc n μ)), all-take (λ (a : ℕ). a < q) n x b),
-  rows-polys n μ (drop n x) (omega (arith, mul-suc n μ, length-drop n x)) (all-drop (λ (a : ℕ). a < q) n x b),
-)
-
-pub batching-one : (first n μ γ : ℕ) (mask x sum out : List ℕ) → length x ≡ n * μ → 0 < μ → Elements x → first + n ≤ q → length mask ≡ n
-    → sum ≡ combination n γ (pieces n μ x) → out ≡ interpN (upFrom first n) sum
-    → accumulateN mask γ out ≡ combination n γ (mask ∷ map (interpN (upFrom first n)) (pieces n μ x))
-batching-one first n μ γ mask x sum out w some b u m s o =
-    let es : List (List ℕ) = pieces n μ x in
+pub batching-one : (first n γ : ℕ) (mask : List ℕ) (es : List (List ℕ)) (sum out : List ℕ) → Polys n es → 0 < length es → first + n ≤ q → length mask ≡ n
+    → sum ≡ combination n γ es → out ≡ interpN (upFrom first n) sum
+    → accumulateN mask γ out ≡ combination n γ (mask ∷ map (interpN (upFrom first n)) es)
+batching-one first n γ mask es sum out polys some u m s o =
     let xs : List ℕ = upFrom first n in
     ap (accumulateN mask γ) (o ∙ ap (interpN xs) s
-    ∙ interp-combination xs n γ es (length-upFrom first n) (upFrom-below first n q u) (upFrom-distinct first n) (rows-polys n μ x (le-of-eq (sym w)) b)
-    (subst (λ (k : ℕ). 0 < k) (sym (length-pieces n μ x)) some))
+    ∙ interp-combination xs n γ es (length-upFrom first n) (upFrom-below first n q u) (upFrom-distinct first n) polys some)
     ∙ next-row n γ mask (map (interpN xs) es) m
 
 -- what the interpolation of a combination asks

@@ -15,7 +15,7 @@ use Rattle.tree.specs.Sets.{missing, treeSize}
 use Rattle.tree.specs.Tree.{allParts, opened}
 use Rattle.tree.proofs.Counts.{missing-bound}
 use Rattle.tree.proofs.Rows.{tree-size}
-use Rattle.scheme.specs.Sizes.{Sizes, leaves, rows, width, recordValues}
+use Rattle.scheme.specs.Sizes.{Sizes, leaves, recordValues}
 use Rattle.scheme.specs.Layers.{Lent, lentOf, extendedRows}
 use Rattle.scheme.specs.Question.{Question, indicesAt}
 use Rattle.scheme.specs.Reply.{recordsAt, nodesAt, replyLength}
@@ -28,7 +28,6 @@ use Rattle.opener.specs.Parts.{CanList, CanSum, sums}
 use Rattle.opener.specs.Ready.{questionOf, Ready}
 use Rattle.opener.proofs.Places.{paths-high}
 use Rattle.commitment.proofs.Places.{nodes-high}
-use Rattle.opener.proofs.Rows.{ext-pieces}
 use Rattle.opener.proofs.Sums.{sums-length, sums-opened}
 
 filled-lengths : (s : Sizes) (table nodes : List ℕ) → filledOk s table nodes ≡ true → (length table ≡ leaves s * recordValues s) × (length nodes ≡ 32 * (2 * leaves s - 1))
@@ -54,19 +53,17 @@ module _ (question : Bytes) (t : Sizes) (m : ℕ) (l : Lent) (table : List ℕ) 
   can-sum = record {
     points = ready .points;
     long = ready .long;
-    extend = record { sizes = ready .sizes; coefficients-length = r .c-length; tails-length = r .t-length };
-    coefficients-below = r .c-below;
-    tails-below = r .t-below;
+    combine = record {
+      extend = record { sizes = ready .sizes; coefficients-length = r .c-length; tails-length = r .t-length };
+      coefficients-below = r .c-below;
+      tails-below = r .t-below;
+    };
     masks-length = r .m-length;
     room = omega (arith, ready .room);
   }
 
-  answers-are : sums u (flatten ext) (l .masks) ≡ bytesOf (flatten (openedBatching u l)) ++ bytesOf (flatten (openedAnswers u l))
-  answers-are =
-      let e : ext ≡ extendedRows t l = rows-lent t (l .coefficients) (l .tails) (l .masks) (l .nonces) in
-      ap (λ (es : List (List ℕ)). sums u (flatten es) (l .masks)) e
-      ∙ sums-opened u l
-      (subst (λ (es : List (List ℕ)). pieces (width t) (rows t) (flatten es) ≡ es) e (ext-pieces question t m (l .coefficients) (l .tails) (l .masks) reply can-sum))
+  answers-are : sums u ext (l .masks) ≡ bytesOf (flatten (openedBatching u l)) ++ bytesOf (flatten (openedAnswers u l))
+  answers-are = ap (λ (es : List (List ℕ)). sums u es (l .masks)) (rows-lent t (l .coefficients) (l .tails) (l .masks) (l .nonces)) ∙ sums-opened u l
 
   -- ---- the indices
 
@@ -127,7 +124,7 @@ module _ (question : Bytes) (t : Sizes) (m : ℕ) (l : Lent) (table : List ℕ) 
       (sym (drop-drop k n o₁) ∙ ap (drop k) (ap (drop n) f ∙ drop-at a (drop n o) n e) ∙ drop-drop k n o)
       ∙ sym (append-assoc a x (drop (n + k) o))
 
-  whole : (v : ℕ) (o₁ o₂ : Bytes) → o₁ ≡ sums u (flatten ext) (l .masks) ++ drop (recordsAt t m) reply → v ≡ nodesAt t m + 32 * length (missing 2 (t .h) (u .indices))
+  whole : (v : ℕ) (o₁ o₂ : Bytes) → o₁ ≡ sums u ext (l .masks) ++ drop (recordsAt t m) reply → v ≡ nodesAt t m + 32 * length (missing 2 (t .h) (u .indices))
       → o₂ ≡ take (recordsAt t m) o₁ ++ (leafPart (u .indices) ++ drop v o₁) → o₂ ≡ replyOf u l table nodes ++ drop v reply
   unfolding replyOf
   whole v o₁ o₂ e₁ ev e₂ =
@@ -135,13 +132,13 @@ module _ (question : Bytes) (t : Sizes) (m : ℕ) (l : Lent) (table : List ℕ) 
       let z : v ≡ recordsAt t m + k = omega (arith, ev) in
       let B : Bytes = bytesOf (flatten (openedBatching u l)) in
       let C : Bytes = bytesOf (flatten (openedAnswers u l)) in
-      halves-are k (sums u (flatten ext) (l .masks)) (leafPart (u .indices)) reply o₁ o₂ (sums-length t m question (flatten ext) (l .masks)) e₁
+      halves-are k (sums u ext (l .masks)) (leafPart (u .indices)) reply o₁ o₂ (sums-length t m question ext (l .masks)) e₁
       (e₂ ∙ ap (λ (j : ℕ). take (recordsAt t m) o₁ ++ (leafPart (u .indices) ++ drop j o₁)) z)
       ∙ ap₂ (λ (y : Bytes) (j : ℕ). y ++ drop j reply)
       (ap (λ (y : Bytes). y ++ leafPart (u .indices)) answers-are ∙ append-assoc B C (leafPart (u .indices)))
       (sym z)
 
-  pub reply-are : (v : ℕ) (ix : List ℕ) (o₁ o₂ : Bytes) → ix ≡ u .indices → o₁ ≡ sums u (flatten ext) (l .masks) ++ drop (recordsAt t m) reply
+  pub reply-are : (v : ℕ) (ix : List ℕ) (o₁ o₂ : Bytes) → ix ≡ u .indices → o₁ ≡ sums u ext (l .masks) ++ drop (recordsAt t m) reply
       → v ≡ nodesAt t m + 32 * length (missing 2 (t .h) ix) → o₂ ≡ take (recordsAt t m) o₁ ++ (leafPart ix ++ drop v o₁)
       → (v ≡ replyLength u) × (o₂ ≡ replyOf u l table nodes ++ drop v reply)
   reply-are v ix o₁ o₂ ei e₁ ev e₂ =

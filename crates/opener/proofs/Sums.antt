@@ -1,25 +1,24 @@
 -- The first two parts of a reply: batching answers, evaluation answers.
-use mathlib.Core.Path.{_≡_, sym, ap, ap₂, _∙_, subst}
-use mathlib.Core.List.{List, _∷_, _++_, map, flatten}
+use mathlib.Core.Path.{_≡_, refl, sym, ap, ap₂, _∙_, subst}
+use mathlib.Core.List.{List, [], _++_, map, flatten}
 use Prim.Native.Nat.{ℕ, _+_, _*_, _≤_}
 use native.Mathlib.Nat.{zero-add}
 use native.Mathlib.Omega.{arith}
-use lib.ListN.{length, getD, drop, length-map, length-append}
+use lib.ListN.{length, drop, length-map, length-append}
 use Rattle.lists.specs.All.{all-each}
 use Rattle.lists.specs.Bytes.{Bytes, words, bytesOf, length-bytesOf, length-words}
-use Rattle.lists.specs.Pieces.{pieces, piece, length-flatten}
+use Rattle.lists.specs.Pieces.{length-flatten}
 use Rattle.lists.specs.Range.{upFrom, length-upFrom}
 use Rattle.algebra.specs.Prime.{q}
-use Rattle.algebra.specs.Numbers.{interpN}
-use Rattle.scheme.specs.Sizes.{Sizes, leaves, rows, width, points}
-use Rattle.scheme.specs.Layers.{Lent, extendedRows, combination}
-use Rattle.scheme.specs.Question.{Question, challengesAt, pointsAt, questionLength}
+use Rattle.scheme.specs.Sizes.{Sizes, leaves, width}
+use Rattle.scheme.specs.Layers.{Lent, lentOf, extendedRows}
+use Rattle.scheme.specs.Question.{Question, challengesAt, pointsAt}
 use Rattle.scheme.specs.Reply.{recordsAt}
 use Rattle.scheme.specs.Open.{openedBatching, openedAnswers}
-use Rattle.scheme.proofs.Accepted.{Good, leaves-high}
+use Rattle.scheme.proofs.Accepted.{Good, good, leaves-high}
 use Rattle.scheme.proofs.Row.{combination-length}
 use Rattle.commitment.proofs.Splice.{spliced-more}
-use Rattle.opener.specs.Parts.{Lined, batchingAt, answerAt, written, sums}
+use Rattle.opener.specs.Parts.{CanCombine, CanSum, batchingAt, answerAt, written, sums}
 use Rattle.opener.specs.Ready.{questionOf}
 use Rattle.commitment.proofs.Places.{width-high}
 
@@ -37,55 +36,55 @@ two-parts a b x y o o₁ o₂ e l h₁ h₂ =
     ∙ spliced-more 0 a x o e (omega arith) b y
     ∙ ap (λ (k : ℕ). (x ++ y) ++ drop k o) (zero-add (a + b))
 
-module _ (t : Sizes) (g : Good t) (m : ℕ) (question : Bytes) (x masks : List ℕ) (o : Bytes) (long : length question ≡ questionLength t m)
-    (whole : length masks ≡ t .η * width t) (lined : Lined (width t) (t .μ) x) (room : recordsAt t m ≤ length o) where
+module _ (t : Sizes) (m : ℕ) (question : Bytes) (coefficients tails masks : List ℕ) (o : Bytes) (can : CanSum question t m coefficients tails masks o) where
+  abbrev es : List (List ℕ)
+  es = extendedRows t (lentOf coefficients tails [] [])
+
+  g : Good t
+  g = good t (can .combine .extend .sizes)
+
   pub batchings-ask : (n first : ℕ) → n ≡ width t → first ≡ leaves t
-      → Lined n (t .μ) x × (first + n ≤ q) × (length masks ≡ t .η * n) × (challengesAt + 4 * t .η ≤ length question) × (0 + 4 * n * t .η ≤ length o)
+      → CanCombine t coefficients tails × (n ≡ width t) × (first + n ≤ q) × (length masks ≡ t .η * n) × (challengesAt + 4 * t .η ≤ length question) × (0 + 4 * n * t .η ≤ length o)
   batchings-ask n first e f =
-      subst (λ (k : ℕ). Lined k (t .μ) x × (first + k ≤ q) × (length masks ≡ t .η * k) × (challengesAt + 4 * t .η ≤ length question) × (0 + 4 * k * t .η ≤ length o)) (sym e)
-      (lined, omega (arith, f, leaves-high t g, width-high t g), whole, omega (arith, long), omega (arith, room))
+      subst (λ (k : ℕ). CanCombine t coefficients tails × (k ≡ width t) × (first + k ≤ q) × (length masks ≡ t .η * k) × (challengesAt + 4 * t .η ≤ length question) × (0 + 4 * k * t .η ≤ length o)) (sym e)
+      (can .combine, refl, omega (arith, f, leaves-high t g, width-high t g), can .masks-length, omega (arith, can .long), omega (arith, can .room))
 
   pub answers-ask : (n : ℕ) (o₁ : Bytes) → n ≡ width t → length o₁ ≡ length o
-      → Lined n (t .μ) x × (46 + 4 * t .η + 4 * m ≤ length question) × (4 * n * t .η + 4 * n * m ≤ length o₁)
+      → CanCombine t coefficients tails × (n ≡ width t) × (46 + 4 * t .η + 4 * m ≤ length question) × (4 * n * t .η + 4 * n * m ≤ length o₁)
   answers-ask n o₁ e k =
-      subst (λ (j : ℕ). Lined j (t .μ) x × (46 + 4 * t .η + 4 * m ≤ length question) × (4 * j * t .η + 4 * j * m ≤ length o₁)) (sym e)
-      (lined, omega (arith, long), subst (λ (j : ℕ). recordsAt t m ≤ j) (sym k) room)
+      subst (λ (j : ℕ). CanCombine t coefficients tails × (j ≡ width t) × (46 + 4 * t .η + 4 * m ≤ length question) × (4 * j * t .η + 4 * j * m ≤ length o₁)) (sym e)
+      (can .combine, refl, omega (arith, can .long), subst (λ (j : ℕ). recordsAt t m ≤ j) (sym k) (can .room))
 
   -- what the two loops leave
   abbrev Left : ℕ → ℕ → Bytes → Bytes → Type 0
   Left n first o₁ o₂ =
-      (o₁ ≡ written 0 (4 * n * t .η) (bytesOf (flatten (map (batchingAt first n (t .μ) x masks (words (t .η) (drop 46 question))) (upFrom 0 (t .η))))) o)
-      → (o₂ ≡ written (4 * n * t .η) (4 * n * m) (bytesOf (flatten (map (answerAt n (t .μ) x) (words m (drop (46 + 4 * t .η) question))))) o₁)
-      → o₂ ≡ sums (questionOf question t m) x masks ++ drop (recordsAt t m) o
+      (o₁ ≡ written 0 (4 * n * t .η) (bytesOf (flatten (map (batchingAt first n es masks (words (t .η) (drop 46 question))) (upFrom 0 (t .η))))) o)
+      → (o₂ ≡ written (4 * n * t .η) (4 * n * m) (bytesOf (flatten (map (answerAt n es) (words m (drop (46 + 4 * t .η) question))))) o₁)
+      → o₂ ≡ sums (questionOf question t m) es masks ++ drop (recordsAt t m) o
 
   left : (o₁ o₂ : Bytes) → Left (width t) (leaves t) o₁ o₂
   unfolding sums
   left o₁ o₂ h₁ h₂ =
-      let f : ℕ → List ℕ = batchingAt (leaves t) (width t) (t .μ) x masks (words (t .η) (drop 46 question)) in
+      let f : ℕ → List ℕ = batchingAt (leaves t) (width t) es masks (words (t .η) (drop 46 question)) in
       two-parts (4 * width t * t .η) (4 * width t * m) (bytesOf (flatten (map f (upFrom 0 (t .η))))) _ o o₁ o₂
       (answers-length f (upFrom 0 (t .η)) (width t) (λ k. combination-length (width t) _ _) ∙ ap (λ (k : ℕ). 4 * width t * k) (length-upFrom 0 (t .η)))
-      room h₁ h₂
+      (can .room) h₁ h₂
 
   pub sums-are : (n first : ℕ) (o₁ o₂ : Bytes) → n ≡ width t → first ≡ leaves t → Left n first o₁ o₂
   sums-are n first o₁ o₂ e f = subst (λ (k : ℕ). Left k first o₁ o₂) (sym e) (subst (λ (k : ℕ). Left (width t) k o₁ o₂) (sym f) (left o₁ o₂))
 
-pub sums-length : (t : Sizes) (m : ℕ) (question : Bytes) (x masks : List ℕ) → length (sums (questionOf question t m) x masks) ≡ recordsAt t m
+pub sums-length : (t : Sizes) (m : ℕ) (question : Bytes) (es : List (List ℕ)) (masks : List ℕ) → length (sums (questionOf question t m) es masks) ≡ recordsAt t m
 unfolding sums
-sums-length t m question x masks =
-    let f : ℕ → List ℕ = batchingAt (leaves t) (width t) (t .μ) x masks (words (t .η) (drop 46 question)) in
-    let g : ℕ → List ℕ = answerAt (width t) (t .μ) x in
+sums-length t m question es masks =
+    let f : ℕ → List ℕ = batchingAt (leaves t) (width t) es masks (words (t .η) (drop 46 question)) in
+    let g : ℕ → List ℕ = answerAt (width t) es in
     let zs : List ℕ = words m (drop (pointsAt t) question) in
     length-append (bytesOf (flatten (map f (upFrom 0 (t .η))))) (bytesOf (flatten (map g zs)))
     ∙ ap₂ _+_
     (answers-length f (upFrom 0 (t .η)) (width t) (λ k. combination-length (width t) _ _) ∙ ap (λ (k : ℕ). 4 * width t * k) (length-upFrom 0 (t .η)))
     (answers-length g zs (width t) (λ z. combination-length (width t) z _) ∙ ap (λ (k : ℕ). 4 * width t * k) (length-words m (drop (pointsAt t) question)))
 
--- from the rows with their tails they are the reply's first two parts
-pub sums-opened : (u : Question) (l : Lent) → pieces (width (u .sizes)) (rows (u .sizes)) (flatten (extendedRows (u .sizes) l)) ≡ extendedRows (u .sizes) l
-    → sums u (flatten (extendedRows (u .sizes) l)) (l .masks) ≡ bytesOf (flatten (openedBatching u l)) ++ bytesOf (flatten (openedAnswers u l))
+-- they are the reply's first two parts
+pub sums-opened : (u : Question) (l : Lent) → sums u (extendedRows (u .sizes) l) (l .masks) ≡ bytesOf (flatten (openedBatching u l)) ++ bytesOf (flatten (openedAnswers u l))
 unfolding sums
-sums-opened u l e =
-    let s : Sizes = u .sizes in
-    ap (λ (es : List (List ℕ)).
-    bytesOf (flatten (map (λ k. combination (width s) (getD (u .challenges) k 0) (piece (width s) k (l .masks) ∷ map (interpN (points s)) es)) (upFrom 0 (s .η))))
-    ++ bytesOf (flatten (map (λ z. combination (width s) z es) (u .evaluationPoints)))) e
+sums-opened u l = refl

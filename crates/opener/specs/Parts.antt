@@ -1,4 +1,4 @@
--- The parts of a reply, over the extended rows one after the other in a list.
+-- The parts of a reply, over the extended rows.
 use mathlib.Core.Path.{_≡_}
 use mathlib.Core.Bool.{true}
 use mathlib.Core.List.{List, _∷_, _++_, map, flatten}
@@ -6,12 +6,12 @@ use Prim.Native.Nat.{ℕ, _+_, _*_, _≤_, _<_}
 use lib.ListN.{length, getD, take, drop}
 use Rattle.lists.specs.All.{Below}
 use Rattle.lists.specs.Bytes.{Bytes, bytesOf}
-use Rattle.lists.specs.Pieces.{pieces, piece}
+use Rattle.lists.specs.Pieces.{piece}
 use Rattle.lists.specs.Range.{upFrom}
 use Rattle.algebra.specs.Numbers.{Elements, interpN}
 use Rattle.tree.specs.Sets.{missing, treeSize}
 use Rattle.tree.specs.Clauses.{IndexSet}
-use Rattle.scheme.specs.Sizes.{Sizes, leaves, rows, width, recordValues, sizesOk}
+use Rattle.scheme.specs.Sizes.{Sizes, leaves, width, recordValues, sizesOk}
 use Rattle.scheme.specs.Layers.{combination}
 use Rattle.scheme.specs.Question.{Question, questionLength}
 use Rattle.scheme.specs.Reply.{recordsAt, nodesAt}
@@ -23,19 +23,24 @@ pub record Lined (n μ : ℕ) (x : List ℕ) : Type 0 where
   pub some : 0 < μ
   pub few : μ ≤ 64
   pub narrow : n ≤ 320
-  pub below : Elements x
+
+-- the rows can be combined: as many words as the sizes ask, and each a field element
+pub record CanCombine (s : Sizes) (coefficients tails : List ℕ) : Type 0 where
+  pub extend : CanExtend s coefficients tails
+  pub coefficients-below : Elements coefficients
+  pub tails-below : Elements tails
 
 -- the batching answer, where the polynomials go through the rows at the points from first on
-abbrev pub batchingOver : ℕ → ℕ → ℕ → List ℕ → List ℕ → ℕ → List ℕ
-batchingOver first n μ x mask γ = combination n γ (mask ∷ map (interpN (upFrom first n)) (pieces n μ x))
+abbrev pub batchingOver : ℕ → ℕ → List (List ℕ) → List ℕ → ℕ → List ℕ
+batchingOver first n es mask γ = combination n γ (mask ∷ map (interpN (upFrom first n)) es)
 
 -- of repetition k, with its mask and its challenge
-abbrev pub batchingAt : ℕ → ℕ → ℕ → List ℕ → List ℕ → List ℕ → ℕ → List ℕ
-batchingAt first n μ x masks challenges k = batchingOver first n μ x (piece n k masks) (getD challenges k 0)
+abbrev pub batchingAt : ℕ → ℕ → List (List ℕ) → List ℕ → List ℕ → ℕ → List ℕ
+batchingAt first n es masks challenges k = batchingOver first n es (piece n k masks) (getD challenges k 0)
 
 -- the evaluation answer to z
-abbrev pub answerAt : ℕ → ℕ → List ℕ → ℕ → List ℕ
-answerAt n μ x z = combination n z (pieces n μ x)
+abbrev pub answerAt : ℕ → List (List ℕ) → ℕ → List ℕ
+answerAt n es z = combination n z es
 
 -- the table and the nonces have a record for each index
 pub record CanRecord (s : Sizes) (table : List ℕ) (nonces : Bytes) (indices : List ℕ) : Type 0 where
@@ -54,13 +59,11 @@ pub record CanList (s : Sizes) (m : ℕ) (table : List ℕ) (nonces : Bytes) (in
   pub room : nodesAt s m + 32 * length (missing 2 (s .h) indices) ≤ length reply
   pub small : length reply ≤ 65536
 
--- the answers can be written: as many words as the sizes ask, the rows' words field elements, and the reply has room
+-- the answers can be written: the rows can be combined, the question and the masks have as many words as the sizes ask, and the reply has room
 pub record CanSum (question : Bytes) (s : Sizes) (m : ℕ) (coefficients tails masks : List ℕ) (reply : Bytes) : Type 0 where
   pub points : m ≤ 8
   pub long : length question ≡ questionLength s m
-  pub extend : CanExtend s coefficients tails
-  pub coefficients-below : Elements coefficients
-  pub tails-below : Elements tails
+  pub combine : CanCombine s coefficients tails
   pub masks-length : length masks ≡ s .η * width s
   pub room : recordsAt s m ≤ length reply
 
@@ -68,9 +71,9 @@ pub record CanSum (question : Bytes) (s : Sizes) (m : ℕ) (coefficients tails m
 abbrev pub written : ℕ → ℕ → Bytes → Bytes → Bytes
 written at n x buffer = take at buffer ++ (x ++ drop (at + n) buffer)
 
--- the first two parts of a reply, from the extended rows one after the other
-unfoldable pub sums : Question → List ℕ → List ℕ → Bytes
-sums u x masks =
+-- the first two parts of a reply, from the extended rows
+unfoldable pub sums : Question → List (List ℕ) → List ℕ → Bytes
+sums u es masks =
     let s : Sizes = u .sizes in
-    bytesOf (flatten (map (batchingAt (leaves s) (width s) (rows s) x masks (u .challenges)) (upFrom 0 (s .η))))
-    ++ bytesOf (flatten (map (answerAt (width s) (rows s) x) (u .evaluationPoints)))
+    bytesOf (flatten (map (batchingAt (leaves s) (width s) es masks (u .challenges)) (upFrom 0 (s .η))))
+    ++ bytesOf (flatten (map (answerAt (width s) es) (u .evaluationPoints)))

@@ -13,7 +13,7 @@ ghost use Rattle.lists.specs.Tests.{every, same};
 ghost use Rattle.scheme.specs.Layers.{lentOf, extendedRows, combination};
 ghost use Rattle.scheme.specs.Commit.{lentOk, filledOk, lentElements, lastDigest, leafRecord};
 ghost use Rattle.scheme.specs.Sizes.{sizesOk, width, elements, recordValues};
-ghost use Rattle.scheme.specs.Question.{headerLength, challengesAt, questionLength};
+ghost use Rattle.scheme.specs.Question.{headerLength, challengesAt};
 ghost use Rattle.scheme.specs.Reply.{recordLength, recordsAt, nodesAt, replyLength, replyBound};
 ghost use Rattle.scheme.specs.Open.{replyOf, openVerdict, opening};
 ghost use Rattle.tree.specs.Sets.{missing};
@@ -21,13 +21,14 @@ ghost use Rattle.tree.specs.Tree.{allParts, opened};
 ghost use Rattle.commitment.specs.Shape.{sizesIn};
 ghost use Rattle.commitment.specs.Questioned.{questioned};
 ghost use Rattle.commitment.specs.declared.Questioned.the-variants.{WellFormed};
-ghost use Rattle.opener.specs.Parts.{Lined, CanRecord, CanList, CanSum, batchingOver, batchingAt, answerAt, written, sums};
+ghost use Rattle.opener.specs.Parts.{Lined, CanCombine, CanRecord, CanList, CanSum, batchingOver, batchingAt, answerAt, written, sums};
 ghost use Rattle.opener.specs.Opened.{numberOf, lengthOf};
 ghost use Rattle.opener.specs.Ready.{questionOf, Ready};
 use commitment::Questioned;
 use commitment::Shape;
 use commitment::ask;
 use commitment::both;
+use commitment::column_count;
 use commitment::elements_ok;
 use commitment::leaf_count;
 use commitment::nodes_at;
@@ -39,9 +40,10 @@ use commitment::row_width;
 use commitment::same_bytes;
 use commitment::word;
 use field::Element;
+use field::dots;
 use field::fold;
+use field::powers;
 use interpolation::interpolate_from;
-use lent::extend;
 use lent::filled_ok;
 use lent::lent_elements;
 use lent::lent_ok;
@@ -71,23 +73,42 @@ fn combine(rows: &[u32], mu: usize, z: Element, out: &mut [u32])
     }
 }
 
+// The sums over the rows j of z^j times each entry, column by column, and then times each tail. A column's entries stand one after the other.
+fn combine_lent(s: Shape, coefficients: &[u32], tails: &[u32], z: Element, out: &mut [u32])
+    requires { ⌜ CanCombine (sizesIn s) (now coefficients) (now tails) × (length (now out) ≡ width (sizesIn s)) ⌝ }
+    ensures { λ _. ⌜ now (out .exit) ≡ combination (width (sizesIn s)) (z .0) (extendedRows (sizesIn s) (lentOf (now (coefficients .entry)) (now (tails .entry)) [] [])) ⌝ }
+{
+    let mu = s.mu as usize;
+    let columns = column_count(s);
+    let mut weights = blank_weights();
+    powers(z, &mut weights[..mu]);
+    dots(&weights[..mu], coefficients, &mut out[..columns]);
+    combine(tails, mu, z, &mut out[columns..]);
+}
+
 // The batching answer: the mask plus gamma times the polynomial through the rows' sum. One interpolation, since it is linear.
 fn batching_answer(
+    s: Shape,
     first: Element,
-    rows: &[u32],
-    mu: usize,
+    coefficients: &[u32],
+    tails: &[u32],
     mask: &[u32],
     gamma: Element,
     out: &mut [u32],
 )
-    requires { ⌜ Lined (length (now out)) mu (now rows) × (first .0 + length (now out) ≤ q) × (length (now mask) ≡ length (now out)) ⌝ }
-    ensures { λ _. ⌜ now (out .exit) ≡ batchingOver (first .0) (length (now (out .entry))) mu (now (rows .entry)) (now (mask .entry)) (gamma .0) ⌝ }
+    requires { ⌜ CanCombine (sizesIn s) (now coefficients) (now tails) × (length (now out) ≡ width (sizesIn s)) × (first .0 + length (now out) ≤ q) × (length (now mask) ≡ length (now out)) ⌝ }
+    ensures { λ _. ⌜ now (out .exit) ≡ batchingOver (first .0) (length (now (out .entry))) (extendedRows (sizesIn s) (lentOf (now (coefficients .entry)) (now (tails .entry)) [] [])) (now (mask .entry)) (gamma .0) ⌝ }
 {
     let n = out.len();
     let mut sum = blank();
-    combine(rows, mu, gamma, &mut sum[..n]);
+    combine_lent(s, coefficients, tails, gamma, &mut sum[..n]);
     interpolate_from(first, &sum[..n], out);
     fold(out, gamma, mask);
+}
+
+// Room for the powers that a column's entries are multiplied by.
+fn blank_weights() -> [u32; 64] {
+    [0u32; 64]
 }
 
 // Room for a row. A function of its own, so that a caller's goals do not show 320 zeros.
@@ -98,29 +119,38 @@ fn blank() -> [u32; 320] {
 // ---- single records of the reply
 
 fn put_batching(
+    s: Shape,
     first: Element,
-    rows: &[u32],
-    mu: usize,
+    coefficients: &[u32],
+    tails: &[u32],
     mask: &[u32],
     gamma: Element,
     out: &mut [u8],
     at: usize,
 )
-    requires { ⌜ Lined (length (now mask)) mu (now rows) × (first .0 + length (now mask) ≤ q) × (at + 4 * length (now mask) ≤ length (now out)) ⌝ }
-    ensures { λ _. ⌜ now (out .exit) ≡ written at (4 * length (now (mask .entry))) (bytesOf (batchingOver (first .0) (length (now (mask .entry))) mu (now (rows .entry)) (now (mask .entry)) (gamma .0))) (now (out .entry)) ⌝ }
+    requires { ⌜ CanCombine (sizesIn s) (now coefficients) (now tails) × (length (now mask) ≡ width (sizesIn s)) × (first .0 + length (now mask) ≤ q) × (at + 4 * length (now mask) ≤ length (now out)) ⌝ }
+    ensures { λ _. ⌜ now (out .exit) ≡ written at (4 * length (now (mask .entry))) (bytesOf (batchingOver (first .0) (length (now (mask .entry))) (extendedRows (sizesIn s) (lentOf (now (coefficients .entry)) (now (tails .entry)) [] [])) (now (mask .entry)) (gamma .0))) (now (out .entry)) ⌝ }
 {
     let n = mask.len();
     let mut answer = blank();
-    batching_answer(first, rows, mu, mask, gamma, &mut answer[..n]);
+    batching_answer(s, first, coefficients, tails, mask, gamma, &mut answer[..n]);
     put_words(out, at, &answer[..n]);
 }
 
-fn put_answer(rows: &[u32], mu: usize, n: usize, z: Element, out: &mut [u8], at: usize)
-    requires { ⌜ Lined n mu (now rows) × (at + 4 * n ≤ length (now out)) ⌝ }
-    ensures { λ _. ⌜ now (out .exit) ≡ written at (4 * n) (bytesOf (combination n (z .0) (pieces n mu (now (rows .entry))))) (now (out .entry)) ⌝ }
+fn put_answer(
+    s: Shape,
+    coefficients: &[u32],
+    tails: &[u32],
+    n: usize,
+    z: Element,
+    out: &mut [u8],
+    at: usize,
+)
+    requires { ⌜ CanCombine (sizesIn s) (now coefficients) (now tails) × (n ≡ width (sizesIn s)) × (at + 4 * n ≤ length (now out)) ⌝ }
+    ensures { λ _. ⌜ now (out .exit) ≡ written at (4 * n) (bytesOf (combination n (z .0) (extendedRows (sizesIn s) (lentOf (now (coefficients .entry)) (now (tails .entry)) [] [])))) (now (out .entry)) ⌝ }
 {
     let mut answer = blank();
-    combine(rows, mu, z, &mut answer[..n]);
+    combine_lent(s, coefficients, tails, z, &mut answer[..n]);
     put_words(out, at, &answer[..n]);
 }
 
@@ -153,46 +183,57 @@ fn put_records(s: Shape, table: &[u32], nonces: &[u8], indices: &[usize], out: &
 
 // An answer R_k for each challenge of the question.
 fn put_batchings(
+    s: Shape,
     question: &[u8],
-    eta: usize,
     first: Element,
-    rows: &[u32],
-    mu: usize,
+    coefficients: &[u32],
+    tails: &[u32],
     n: usize,
     masks: &[u32],
     out: &mut [u8],
     at: usize,
 )
-    requires { ⌜ Lined n mu (now rows) × (first .0 + n ≤ q) × (length (now masks) ≡ eta * n) × (challengesAt + 4 * eta ≤ length (now question)) × (at + 4 * n * eta ≤ length (now out)) ⌝ }
-    ensures { λ _. ⌜ now (out .exit) ≡ written at (4 * n * eta) (bytesOf (flatten (map (batchingAt (first .0) n mu (now (rows .entry)) (now (masks .entry)) (words eta (drop challengesAt (now (question .entry))))) (upFrom 0 eta)))) (now (out .entry)) ⌝ }
+    requires { ⌜ CanCombine (sizesIn s) (now coefficients) (now tails) × (n ≡ width (sizesIn s)) × (first .0 + n ≤ q) × (length (now masks) ≡ s .eta * n) × (challengesAt + 4 * s .eta ≤ length (now question)) × (at + 4 * n * s .eta ≤ length (now out)) ⌝ }
+    ensures { λ _. ⌜ now (out .exit) ≡ written at (4 * n * s .eta) (bytesOf (flatten (map (batchingAt (first .0) n (extendedRows (sizesIn s) (lentOf (now (coefficients .entry)) (now (tails .entry)) [] [])) (now (masks .entry)) (words (s .eta) (drop challengesAt (now (question .entry))))) (upFrom 0 (s .eta))))) (now (out .entry)) ⌝ }
 {
+    let eta = s.eta as usize;
     let size = 4 * n;
     for k in 0..eta {
         let gamma = Element(word(question, CHALLENGES + 4 * k));
         let from = n * k;
         let to = from + n;
-        put_batching(first, rows, mu, &masks[from..to], gamma, out, at + size * k);
+        put_batching(
+            s,
+            first,
+            coefficients,
+            tails,
+            &masks[from..to],
+            gamma,
+            out,
+            at + size * k,
+        );
     }
 }
 
 // An answer for each evaluation point of the question, where the points stand from `points` on.
 fn put_answers(
+    s: Shape,
     question: &[u8],
     points: usize,
     m: usize,
-    rows: &[u32],
-    mu: usize,
+    coefficients: &[u32],
+    tails: &[u32],
     n: usize,
     out: &mut [u8],
     at: usize,
 )
-    requires { ⌜ Lined n mu (now rows) × (points + 4 * m ≤ length (now question)) × (at + 4 * n * m ≤ length (now out)) ⌝ }
-    ensures { λ _. ⌜ now (out .exit) ≡ written at (4 * n * m) (bytesOf (flatten (map (answerAt n mu (now (rows .entry))) (words m (drop points (now (question .entry))))))) (now (out .entry)) ⌝ }
+    requires { ⌜ CanCombine (sizesIn s) (now coefficients) (now tails) × (n ≡ width (sizesIn s)) × (points + 4 * m ≤ length (now question)) × (at + 4 * n * m ≤ length (now out)) ⌝ }
+    ensures { λ _. ⌜ now (out .exit) ≡ written at (4 * n * m) (bytesOf (flatten (map (answerAt n (extendedRows (sizesIn s) (lentOf (now (coefficients .entry)) (now (tails .entry)) [] []))) (words m (drop points (now (question .entry))))))) (now (out .entry)) ⌝ }
 {
     let size = 4 * n;
     for p in 0..m {
         let z = Element(word(question, points + 4 * p));
-        put_answer(rows, mu, n, z, out, at + size * p);
+        put_answer(s, coefficients, tails, n, z, out, at + size * p);
     }
 }
 
@@ -278,19 +319,36 @@ fn lent_verdict(
 
 // ---- the parts of the reply
 
-// The batching answers and the evaluation answers, from the rows.
-fn put_sums(s: Shape, m: u32, question: &[u8], rows: &[u32], masks: &[u32], reply: &mut [u8])
-    requires { ⌜ (sizesOk (sizesIn s) ≡ true) × (m ≤ 8) × (length (now question) ≡ questionLength (sizesIn s) m) × (length (now masks) ≡ s .eta * width (sizesIn s)) × Lined (width (sizesIn s)) (s .mu) (now rows) × (recordsAt (sizesIn s) m ≤ length (now reply)) ⌝ }
-    ensures { λ _. ⌜ now (reply .exit) ≡ sums (questionOf (now (question .entry)) (sizesIn s) m) (now (rows .entry)) (now (masks .entry)) ++ drop (recordsAt (sizesIn s) m) (now (reply .entry)) ⌝ }
+// The batching answers and the evaluation answers.
+fn put_sums(
+    s: Shape,
+    m: u32,
+    question: &[u8],
+    coefficients: &[u32],
+    tails: &[u32],
+    masks: &[u32],
+    reply: &mut [u8],
+)
+    requires { ⌜ CanSum (now question) (sizesIn s) m (now coefficients) (now tails) (now masks) (now reply) ⌝ }
+    ensures { λ _. ⌜ now (reply .exit) ≡ sums (questionOf (now (question .entry)) (sizesIn s) m) (extendedRows (sizesIn s) (lentOf (now (coefficients .entry)) (now (tails .entry)) [] [])) (now (masks .entry)) ++ drop (recordsAt (sizesIn s) m) (now (reply .entry)) ⌝ }
 {
     let n = row_width(s);
-    let mu = s.mu as usize;
     let eta = s.eta as usize;
     let first = Element(leaf_count(s.h) as u32);
-    put_batchings(question, eta, first, rows, mu, n, masks, reply, 0);
+    put_batchings(s, question, first, coefficients, tails, n, masks, reply, 0);
     let points = CHALLENGES + 4 * eta;
     let answers = 4 * n * eta;
-    put_answers(question, points, m as usize, rows, mu, n, reply, answers);
+    put_answers(
+        s,
+        question,
+        points,
+        m as usize,
+        coefficients,
+        tails,
+        n,
+        reply,
+        answers,
+    );
 }
 
 // The leaf records and the missing nodes; returns the reply's length.
@@ -320,56 +378,6 @@ fn put_leaves(
     nodes + 32 * count
 }
 
-// Room for all rows with their tails, at the largest sizes, and where they have at most 512 elements.
-fn blank_rows() -> [u32; 20480] {
-    [0u32; 20480]
-}
-
-fn blank_few_rows() -> [u32; 512] {
-    [0u32; 512]
-}
-
-// The answers from what is lent; `rows` is room for all rows with their tails.
-fn sums_over(
-    s: Shape,
-    m: u32,
-    question: &[u8],
-    coefficients: &[u32],
-    tails: &[u32],
-    masks: &[u32],
-    rows: &mut [u32],
-    reply: &mut [u8],
-)
-    requires { ⌜ CanSum (now question) (sizesIn s) m (now coefficients) (now tails) (now masks) (now reply) × (s .mu * width (sizesIn s) ≤ length (now rows)) ⌝ }
-    ensures { λ _. ⌜ now (reply .exit) ≡ sums (questionOf (now (question .entry)) (sizesIn s) m) (flatten (extendedRows (sizesIn s) (lentOf (now (coefficients .entry)) (now (tails .entry)) [] []))) (now (masks .entry)) ++ drop (recordsAt (sizesIn s) m) (now (reply .entry)) ⌝ }
-{
-    let elements = s.mu as usize * row_width(s);
-    extend(s, coefficients, tails, rows);
-    put_sums(s, m, question, &rows[..elements], masks, reply);
-}
-
-// The same in room of its own, little where the rows are few, since each call clears all of it.
-fn put_lent_sums(
-    s: Shape,
-    m: u32,
-    question: &[u8],
-    coefficients: &[u32],
-    tails: &[u32],
-    masks: &[u32],
-    reply: &mut [u8],
-)
-    requires { ⌜ CanSum (now question) (sizesIn s) m (now coefficients) (now tails) (now masks) (now reply) ⌝ }
-    ensures { λ _. ⌜ now (reply .exit) ≡ sums (questionOf (now (question .entry)) (sizesIn s) m) (flatten (extendedRows (sizesIn s) (lentOf (now (coefficients .entry)) (now (tails .entry)) [] []))) (now (masks .entry)) ++ drop (recordsAt (sizesIn s) m) (now (reply .entry)) ⌝ }
-{
-    if s.mu as usize * row_width(s) <= 512 {
-        let mut rows = blank_few_rows();
-        sums_over(s, m, question, coefficients, tails, masks, &mut rows, reply);
-    } else {
-        let mut rows = blank_rows();
-        sums_over(s, m, question, coefficients, tails, masks, &mut rows, reply);
-    }
-}
-
 // Room for the indices.
 fn blank_indices() -> [usize; 64] {
     [0usize; 64]
@@ -392,7 +400,7 @@ fn write_reply(
     ensures { λ r. ⌜ r ≡ replyLength (questionOf (now (question .entry)) (sizesIn s) m) ⌝ }
     ensures { λ r. ⌜ now (reply .exit) ≡ replyOf (questionOf (now (question .entry)) (sizesIn s) m) (lentOf (now (coefficients .entry)) (now (tails .entry)) (now (masks .entry)) (now (nonces .entry))) (now (table .entry)) (now (tree .entry)) ++ drop r (now (reply .entry)) ⌝ }
 {
-    put_lent_sums(s, m, question, coefficients, tails, masks, reply);
+    put_sums(s, m, question, coefficients, tails, masks, reply);
     let l = s.l as usize;
     let from = CHALLENGES + 4 * s.eta as usize + 4 * m as usize;
     let mut indices = blank_indices();

@@ -1,21 +1,21 @@
 -- The honest side: what rows, answers and batching answers are worth at the leaves.
 use mathlib.Core.Path.{_≡_, refl, sym, ap, ap₂, _∙_, subst}
 use mathlib.Core.List.{List, [], _∷_, _++_, map, List·Memᴰ as Mem, List·Memᴰ·head as here, List·Memᴰ·tail as there}
-use Prim.Native.Nat.{ℕ, zero, suc, _+_, _-_, _*_, _≤_, _<_}
-use native.Mathlib.Nat.{not-suc-le-zero, le-of-suc-le-suc, zero-lt-suc, zero-add}
+use Prim.Native.Nat.{ℕ, zero, suc, _+_, _*_, _≤_, _<_}
+use native.Mathlib.Nat.{not-suc-le-zero, le-of-suc-le-suc, zero-lt-suc, zero-add, add-zero, suc-add, add-suc, mul-zero}
 use native.Mathlib.Omega.{arith}
 use lib.Dec.{lit<}
 use lib.ListN.{length, getD, take, drop, length-map, length-append, length-drop, List·getD-append}
-use lib.Seq.{length-take-le, ext-getD, getD-take, getD-drop, drop-drop, take-add}
+use lib.Seq.{length-take-le, ext-getD, getD-take, getD-drop, getD-append-add, drop-drop, take-add}
 use Rattle.lists.specs.Range.{upFrom, at-run, length-upFrom, upFrom-of}
-use Rattle.lists.specs.Maps.{getD-map-in}
+use Rattle.lists.specs.Maps.{map-cong, getD-map-in}
 use Rattle.algebra.specs.Prime.{q}
 use Rattle.lists.specs.All.{All, all-append, all-take, all-drop, all-each}
 use Rattle.algebra.specs.Numbers.{evalN, evalN-below, interpN, interpN-below, interpN-length, interpN-values, valuesAtN, Elements, Polys}
 use Rattle.algebra.specs.Columns.{powN, concatN, columns-value}
 use Rattle.algebra.specs.Batch.{columnN, batchN, batchN-at, batchN-length, evalN-batchN, honestN}
 use Rattle.lists.specs.Pieces.{pieces, piece, length-pieces, pieces-at, pieces-sized}
-use Rattle.scheme.specs.Sizes.{Sizes, leaves, columns, rows, width, points}
+use Rattle.scheme.specs.Sizes.{Sizes, columns, rows, width, points}
 use Rattle.scheme.specs.Layers.{Lent, column, entry, extended, extendedRows, rowPolynomials, combination, evaluationAnswer, maskPolynomial, batchingAnswer, polynomialValues}
 use Rattle.scheme.proofs.Lent.{Rights}
 use Rattle.scheme.proofs.Accepted.{Good, points-are-below, points-differ, points-count}
@@ -67,6 +67,23 @@ concat-pieces k zero x = let e : 0 ≡ k * 0 = omega arith in ap (λ (j : ℕ). 
 concat-pieces k (suc n) x =
     let e : k + k * n ≡ k * suc n = omega arith in
     ap (λ (t : List ℕ). take k x ++ t) (concat-pieces k n (drop k x)) ∙ sym (take-add k (k * n) x) ∙ ap (λ (j : ℕ). take j x) e
+
+-- pieces one by one
+pieces-run : (k a n : ℕ) (x : List ℕ) → map (λ j. piece k j x) (upFrom a n) ≡ pieces k n (drop (k * a) x)
+unfolding upFrom pieces
+pieces-run k a zero x = refl
+pieces-run k a (suc n) x =
+    let e : k * suc a ≡ k * a + k = omega arith in
+    ap (λ (t : List (List ℕ)). piece k a x ∷ t)
+    (pieces-run k (suc a) n x ∙ ap (λ (m : ℕ). pieces k n (drop m x)) e ∙ ap (pieces k n) (sym (drop-drop k (k * a) x)))
+
+run-parts : (f : ℕ → ℕ) (a n m : ℕ) → map f (upFrom a (n + m)) ≡ map f (upFrom a n) ++ map f (upFrom (a + n) m)
+unfolding upFrom
+run-parts f a zero m = rw (zero-add, add-zero)
+run-parts f a (suc n) m =
+    ap (λ (k : ℕ). map f (upFrom a k)) (suc-add n m)
+    ∙ ap (λ (r : List ℕ). f a ∷ r)
+    (run-parts f (suc a) n m ∙ ap (λ (k : ℕ). map f (upFrom (suc a) n) ++ map f (upFrom k m)) (suc-add a n ∙ sym (add-suc a n)))
 
 -- ---- a combination of rows
 
@@ -211,6 +228,47 @@ module _ (s : Sizes) (lent : Lent) (r : Rights s lent) where
       count : length (map (λ j. getD (extended s lent j) a 0) (upFrom 0 (rows s))) ≡ rows s
       count = length-map (upFrom 0 (rows s)) _ ∙ length-upFrom 0 (rows s)
 
+  tail-at : (j i : ℕ) → getD (extended s lent j) (columns s + i) 0 ≡ getD (piece (s .ℓ) j t) i 0
+  unfolding extended
+  tail-at j i =
+      let es : List ℕ = map (entry s lent j) (upFrom 0 (columns s)) in
+      ap (λ (k : ℕ). getD (es ++ piece (s .ℓ) j t) (k + i) 0) (sym (row-count j)) ∙ getD-append-add es (piece (s .ℓ) j t) i 0
+
+  -- after the columns the rows' entries are those of the tails
+  tail-entries : (i : ℕ) → columnN ext (columns s + i) ≡ columnN (pieces (s .ℓ) (rows s) t) i
+  tail-entries i =
+      column-map (extended s lent) (upFrom 0 (rows s)) (columns s + i)
+      ∙ map-cong (upFrom 0 (rows s)) (λ j m. tail-at j i)
+      ∙ sym (column-map (λ j. piece (s .ℓ) j t) (upFrom 0 (rows s)) i)
+      ∙ ap (λ (ps : List (List ℕ)). columnN ps i) (pieces-run (s .ℓ) 0 (rows s) t ∙ ap (λ (k : ℕ). pieces (s .ℓ) (rows s) (drop k t)) (mul-zero (s .ℓ)))
+
+  -- an answer without the rows: the values of the columns, and the combination of the tails
+  pub answer-parts : (z : ℕ) → evaluationAnswer s lent z ≡ valuesAtN (pieces (s .μ) (columns s) c) z ++ combination (s .ℓ) z (pieces (s .ℓ) (rows s) t)
+  unfolding combination
+  answer-parts z =
+      let f : ℕ → ℕ = λ i. evalN (columnN ext i) z in
+      let ps : List (List ℕ) = pieces (s .μ) (columns s) c in
+      let ts : List (List ℕ) = pieces (s .ℓ) (rows s) t in
+      let many : length ps ≡ columns s = length-pieces (s .μ) (columns s) c in
+      let n₁ : length (map f (upFrom 0 (columns s))) ≡ columns s = length-map (upFrom 0 (columns s)) f ∙ length-upFrom 0 (columns s) in
+      let n₂ : length (map f (upFrom (0 + columns s) (s .ℓ))) ≡ s .ℓ = length-map (upFrom (0 + columns s) (s .ℓ)) f ∙ length-upFrom (0 + columns s) (s .ℓ) in
+      run-parts f 0 (columns s) (s .ℓ)
+      ∙ ap₂ (λ (a b : List ℕ). a ++ b)
+      (ext-getD 0 (map f (upFrom 0 (columns s))) (valuesAtN ps z) (n₁ ∙ sym (length-values ps z ∙ many))
+      (λ i m.
+      let l : i < columns s = subst (λ (k : ℕ). i < k) n₁ m in
+      at-run f 0 (columns s) i 0 l
+      ∙ ap f (zero-add i)
+      ∙ ap (λ (x : List ℕ). evalN x z) (entries i l ∙ sym (pieces-at (s .μ) (columns s) i c l))
+      ∙ sym (values-at ps z i (subst (λ (k : ℕ). i < k) (sym many) l))))
+      (ext-getD 0 (map f (upFrom (0 + columns s) (s .ℓ))) (combination (s .ℓ) z ts) (n₂ ∙ sym (combination-length (s .ℓ) z ts))
+      (λ i m.
+      let l : i < s .ℓ = subst (λ (k : ℕ). i < k) n₂ m in
+      at-run f (0 + columns s) (s .ℓ) i 0 l
+      ∙ ap (λ (k : ℕ). f (k + i)) (zero-add (columns s))
+      ∙ ap (λ (x : List ℕ). evalN x z) (tail-entries i)
+      ∙ sym (combination-at (s .ℓ) z ts i l)))
+
   -- the columns of polynomial i in an honest answer: their values at z
   columns-honest : (z i : ℕ) → i < s .w → piece (s .ν) i (evaluationAnswer s lent z) ≡ valuesAtN (map (column s lent) (upFrom (s .ν * i) (s .ν))) z
   columns-honest z i l =
@@ -229,20 +287,11 @@ module _ (s : Sizes) (lent : Lent) (r : Rights s lent) where
       ∙ ap (λ (x : List ℕ). evalN x z) (entries (s .ν * i + k) (omega arith) ∙ sym (at-run (column s lent) (s .ν * i) (s .ν) k [] n))
       ∙ sym (values-at cs z k (subst (λ (x : ℕ). k < x) (sym many) n)))
 
-  -- they are the pieces of the polynomial
-  columns-are : (a n : ℕ) → map (column s lent) (upFrom a n) ≡ pieces (s .μ) n (drop (s .μ * a) c)
-  unfolding upFrom pieces
-  columns-are a zero = refl
-  columns-are a (suc n) =
-      let e : s .μ * suc a ≡ s .μ * a + s .μ = omega arith in
-      ap (λ (x : List (List ℕ)). column s lent a ∷ x)
-      (columns-are (suc a) n ∙ ap (λ (k : ℕ). pieces (s .μ) n (drop k c)) e ∙ ap (pieces (s .μ) n) (sym (drop-drop (s .μ) (s .μ * a) c)))
-
   value-honest : (z i : ℕ) → i < s .w → evalN (piece (s .ν) i (evaluationAnswer s lent z)) (powN z (s .μ)) ≡ evalN (piece (s .μ * s .ν) i c) z
   value-honest z i l =
       let D : List ℕ = drop (s .μ * (s .ν * i)) c in
       let e : s .μ * (s .ν * i) ≡ s .μ * s .ν * i = omega arith in
-      ap (λ (x : List ℕ). evalN x (powN z (s .μ))) (columns-honest z i l ∙ ap (λ (cs : List (List ℕ)). valuesAtN cs z) (columns-are (s .ν * i) (s .ν)))
+      ap (λ (x : List ℕ). evalN x (powN z (s .μ))) (columns-honest z i l ∙ ap (λ (cs : List (List ℕ)). valuesAtN cs z) (pieces-run (s .μ) (s .ν * i) (s .ν) c))
       ∙ columns-value (s .μ) (pieces (s .μ) (s .ν) D) z
       (pieces-sized (s .μ) (s .ν) D (omega (arith, length-drop (s .μ * (s .ν * i)) c, row-fits (s .μ * s .ν) i (s .w) l, r .c-length)))
       ∙ ap (λ (x : List ℕ). evalN x z) (concat-pieces (s .μ) (s .ν) D ∙ ap (λ (x : ℕ). take (s .μ * s .ν) (drop x c)) e)

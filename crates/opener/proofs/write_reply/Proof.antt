@@ -9,8 +9,8 @@ use native.Mathlib.Omega.{arith}
 use Rattle.opener.proofs.write_reply.Statement.{statement}
 use Rattle.opener.proofs.write_reply.Tie as tie
 
-put-lent-sums-requires : tie.Need-put-lent-sums-requires
-put-lent-sums-requires c κs =
+put-sums-requires : tie.Need-put-sums-requires
+put-sums-requires c κs =
     let s = c .before .before .before .before .before .before .before .before .before .args in
     can-sum (s .question .now) (sizesIn (s .s)) (s .m) (lentOf (s .coefficients .now) (s .tails .now) (s .masks .now) (s .nonces .now)) (s .table .now) (s .tree .now) (s .reply .now) (c .before .before .before .before .before .before .before .before .before .pre)
 
@@ -60,8 +60,8 @@ slice-aggregate-put-leaves c =
 put-leaves-requires : tie.Need-put-leaves-requires
 put-leaves-requires c κs =
     let s = c .before .before .before .before .before .before .before .before .before .before .before .before .before .before .before .before .before .before .before .before .args in
-    leaves-ask (s .question .now) (sizesIn (s .s)) (s .m) (lentOf (s .coefficients .now) (s .tails .now) (s .masks .now) (s .nonces .now)) (s .table .now) (s .tree .now) (s .reply .now) (c .before .before .before .before .before .before .before .before .before .before .before .before .before .before .before .before .before .before .before .before .pre) (take (s .s .l) (c .before .before .before .read-indices .last .1 .1 .1 .0)) (c .before .before .before .before .before .before .before .before .before .before .put-lent-sums .last .1 .1 .1 .1 .1 .1 .0)
-    (indices-front (s .question .now) (sizesIn (s .s)) (s .m) (lentOf (s .coefficients .now) (s .tails .now) (s .masks .now) (s .nonces .now)) (s .table .now) (s .tree .now) (s .reply .now) (c .before .before .before .before .before .before .before .before .before .before .before .before .before .before .before .before .before .before .before .before .pre) (c .before .before .before .before .before .blank-indices .result) (c .before .before .before .read-indices .last .1 .1 .1 .0) (c .before .before .before .read-indices .ensures)) (c .before .before .before .before .before .before .before .before .before .before .put-lent-sums .kept .1 .1 .1 .1 .1 .1 .0)
+    leaves-ask (s .question .now) (sizesIn (s .s)) (s .m) (lentOf (s .coefficients .now) (s .tails .now) (s .masks .now) (s .nonces .now)) (s .table .now) (s .tree .now) (s .reply .now) (c .before .before .before .before .before .before .before .before .before .before .before .before .before .before .before .before .before .before .before .before .pre) (take (s .s .l) (c .before .before .before .read-indices .last .1 .1 .1 .0)) (c .before .before .before .before .before .before .before .before .before .before .put-sums .last .1 .1 .1 .1 .1 .1 .0)
+    (indices-front (s .question .now) (sizesIn (s .s)) (s .m) (lentOf (s .coefficients .now) (s .tails .now) (s .masks .now) (s .nonces .now)) (s .table .now) (s .tree .now) (s .reply .now) (c .before .before .before .before .before .before .before .before .before .before .before .before .before .before .before .before .before .before .before .before .pre) (c .before .before .before .before .before .blank-indices .result) (c .before .before .before .read-indices .last .1 .1 .1 .0) (c .before .before .before .read-indices .ensures)) (c .before .before .before .before .before .before .before .before .before .before .put-sums .kept .1 .1 .1 .1 .1 .1 .0)
 
 same-length : tie.Need-same-length
 same-length c = search needs
@@ -70,15 +70,15 @@ returns : tie.Need-returns
 returns c =
     let s = c .before .before .before .before .before .before .before .before .before .before .before .before .before .before .before .before .before .before .before .before .before .before .before .args in
     reply-are (s .question .now) (sizesIn (s .s)) (s .m) (lentOf (s .coefficients .now) (s .tails .now) (s .masks .now) (s .nonces .now)) (s .table .now) (s .tree .now) (s .reply .now) (c .before .before .before .before .before .before .before .before .before .before .before .before .before .before .before .before .before .before .before .before .before .before .before .pre) (c .before .before .put-leaves .result) (take (s .s .l) (c .before .before .before .before .before .before .read-indices .last .1 .1 .1 .0))
-    (c .before .before .before .before .before .before .before .before .before .before .before .before .before .put-lent-sums .last .1 .1 .1 .1 .1 .1 .0) (c .before .before .put-leaves .last .1 .1 .1 .1 .1 .1 .0)
+    (c .before .before .before .before .before .before .before .before .before .before .before .before .before .put-sums .last .1 .1 .1 .1 .1 .1 .0) (c .before .before .put-leaves .last .1 .1 .1 .1 .1 .1 .0)
     (indices-front (s .question .now) (sizesIn (s .s)) (s .m) (lentOf (s .coefficients .now) (s .tails .now) (s .masks .now) (s .nonces .now)) (s .table .now) (s .tree .now) (s .reply .now) (c .before .before .before .before .before .before .before .before .before .before .before .before .before .before .before .before .before .before .before .before .before .before .before .pre) (c .before .before .before .before .before .before .before .before .blank-indices .result) (c .before .before .before .before .before .before .read-indices .last .1 .1 .1 .0) (c .before .before .before .before .before .before .read-indices .ensures))
-    (c .before .before .before .before .before .before .before .before .before .before .before .before .before .put-lent-sums .ensures) (c .before .before .put-leaves .ensures .0) (c .before .before .put-leaves .ensures .1)
+    (c .before .before .before .before .before .before .before .before .before .before .before .before .before .put-sums .ensures) (c .before .before .put-leaves .ensures .0) (c .before .before .put-leaves .ensures .1)
 
 pub write-reply-spec : {M : Type 1} → statement M
 write-reply-spec =
     tie.close
     (tie.spec
-    put-lent-sums-requires
+    put-sums-requires
     cast-l
     cast-from
     mul-from

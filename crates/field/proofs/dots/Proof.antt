@@ -1,17 +1,15 @@
--- `committer::dots` meets its contract. The invariant: the places below j have their products.
+-- `field::dots` meets its contract. The invariant: the places below j have their products.
 use mathlib.Core.Path.{_≡_, refl, subst}
 use mathlib.Core.List.{List}
 use Prim.Native.Nat.{ℕ, _+_, _-_, _*_, _≤_}
 use lib.ListN.{length, length-set}
 use Rattle.lists.specs.Fill.{Filled, entryOf, filled-none, fill-next}
-use Rattle.lists.specs.Parts.{row-fits}
-use Rattle.lent.proofs.Parts.{part-length}
-use Rattle.committer.specs.Clauses.{dotsOf}
-use Rattle.committer.proofs.Values.{dots-at, dots-done}
+use Rattle.lists.specs.Parts.{row-fits, span-length}
+use Rattle.algebra.specs.Dot.{dotsOf, dots-at, dots-done}
 use borrow.Author.Needs.{needs}
 use native.Mathlib.Omega.{arith}
-use Rattle.committer.proofs.dots.Statement.{statement}
-use Rattle.committer.proofs.dots.Tie as tie
+use Rattle.field.proofs.dots.Statement.{statement}
+use Rattle.field.proofs.dots.Tie as tie
 
 abbrev Inv-loop : tie.InvT-loop
 Inv-loop weights rows out₀ width n j₀ out j =
@@ -64,7 +62,8 @@ dot-requires c κs =
     let args = c .before .before .before .before .before .before .args in
     let w : ℕ = length (args .weights .now) in
     let b : w ≤ 65536 = omega (arith, c .before .before .before .before .before .before .pre .1) in
-    (part-length w (length (args .out .now)) (c .before .before .loop .j) (c .before .before .loop .j * w) (c .before .before .loop .j * w + w) (args .rows .now) (c .before .loop-test .taken) (c .before .before .before .before .before .before .pre .0) (omega arith) refl, b)
+    let r = row-fits w (c .before .before .loop .j) (length (args .out .now)) (c .before .loop-test .taken) in
+    (span-length (c .before .before .loop .j * w) w (args .rows .now) (omega (arith, r, c .before .before .before .before .before .before .pre .0)), b)
 
 mul-out : tie.Need-mul-out Inv-loop μ-loop
 mul-out c = search needs
