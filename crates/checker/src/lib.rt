@@ -10,7 +10,7 @@ ghost use Rattle.tree.specs.Sets.{missing};
 ghost use Rattle.tree.specs.Clauses.{IndexSet};
 ghost use Rattle.scheme.specs.Sizes.{elements, width, leafPoint};
 ghost use Rattle.scheme.specs.Question.{questionLength};
-ghost use Rattle.scheme.specs.Reply.{readReply, recordsAt, nodesAt};
+ghost use Rattle.scheme.specs.Reply.{readReply, recordsAt, nodesAt, replyLength};
 ghost use Rattle.scheme.specs.Check.{replyTests, checkValues, checking};
 ghost use Rattle.scheme.proofs.Accepted.{Good};
 ghost use Rattle.commitment.specs.Shape.{sizesIn};
@@ -398,11 +398,6 @@ fn blank_points() -> [u32; 8] {
     [0u32; 8]
 }
 
-// Room for 8 evaluation answers, 320 words each.
-fn blank_answers() -> [u32; 2560] {
-    [0u32; 2560]
-}
-
 // The values that an accepted reply gives.
 fn fill_values(question: &[u8], s: Shape, m: usize, reply: &[u8], values: &mut [u32])
     requires { ⌜ Good (sizesIn s) × (m ≤ 8) × (length (now question) ≡ questionLength (sizesIn s) m) × (recordsAt (sizesIn s) m ≤ length (now reply)) × (length (now values) ≡ s .w * m) ⌝ }
@@ -462,12 +457,56 @@ fn words_verdict(
     0
 }
 
-// Room for 4 batching answers, 320 words each.
+// The tests after that of the reply's length; `batching` and `answers` are room for the words of its answers.
+fn read_verdict(
+    s: Shape,
+    challenges: &[u32],
+    points: &[u32],
+    indices: &[usize],
+    root: &[u8],
+    reply: &[u8],
+    batching: &mut [u32],
+    answers: &mut [u32],
+) -> u32
+    requires { ⌜ Posed (sizesIn s) (now challenges) (now points) (now indices) × (length (now reply) ≡ replyLength (posed (sizesIn s) (now root) (now challenges) (now points) (now indices))) × (width (sizesIn s) * length (now challenges) ≤ length (now batching)) × (width (sizesIn s) * length (now points) ≤ length (now answers)) ⌝ }
+    ensures { λ r. ⌜ r ≡ verdictOf (laterTests (posed (sizesIn s) (now (root .entry)) (now (challenges .entry)) (now (points .entry)) (now (indices .entry))) (now (reply .entry))) ⌝ }
+{
+    let width = row_width(s);
+    let b = width * challenges.len();
+    commitment::read_words(reply, 0, b, batching);
+    let a = width * points.len();
+    commitment::read_words(reply, answers_at(s), a, answers);
+    words_verdict(
+        s,
+        challenges,
+        points,
+        indices,
+        root,
+        reply,
+        &batching[0..b],
+        &answers[0..a],
+    )
+}
+
+// Room for 4 batching answers, 320 words each, and 32 words each.
 fn blank_batching() -> [u32; 1280] {
     [0u32; 1280]
 }
 
-// The reply's tests: 7, 3, 8, 9, 10.
+fn blank_short_batching() -> [u32; 128] {
+    [0u32; 128]
+}
+
+// Room for 8 evaluation answers, 320 words each, and 32 words each.
+fn blank_answers() -> [u32; 2560] {
+    [0u32; 2560]
+}
+
+fn blank_short_answers() -> [u32; 256] {
+    [0u32; 256]
+}
+
+// The reply's tests: 7, 3, 8, 9, 10. Short answers take small arrays, since arrays are cleared.
 fn reply_verdict(
     s: Shape,
     challenges: &[u32],
@@ -479,27 +518,36 @@ fn reply_verdict(
     requires { ⌜ Posed (sizesIn s) (now challenges) (now points) (now indices) ⌝ }
     ensures { λ r. ⌜ r ≡ verdictOf (replyTests (posed (sizesIn s) (now (root .entry)) (now (challenges .entry)) (now (points .entry)) (now (indices .entry))) (now (reply .entry))) ⌝ }
 {
-    let m = points.len();
-    if reply.len() != reply_length(s, m, indices) {
+    if reply.len() != reply_length(s, points.len(), indices) {
         return 7;
     }
-    let width = row_width(s);
-    let b = width * challenges.len();
-    let mut batching = blank_batching();
-    commitment::read_words(reply, 0, b, &mut batching);
-    let a = width * m;
-    let mut answers = blank_answers();
-    commitment::read_words(reply, answers_at(s), a, &mut answers);
-    words_verdict(
-        s,
-        challenges,
-        points,
-        indices,
-        root,
-        reply,
-        &batching[0..b],
-        &answers[0..a],
-    )
+    if row_width(s) <= 32 {
+        let mut batching = blank_short_batching();
+        let mut answers = blank_short_answers();
+        read_verdict(
+            s,
+            challenges,
+            points,
+            indices,
+            root,
+            reply,
+            &mut batching,
+            &mut answers,
+        )
+    } else {
+        let mut batching = blank_batching();
+        let mut answers = blank_answers();
+        read_verdict(
+            s,
+            challenges,
+            points,
+            indices,
+            root,
+            reply,
+            &mut batching,
+            &mut answers,
+        )
+    }
 }
 
 // Room for 4 challenges.

@@ -81,9 +81,13 @@ pub extern "C" fn smallwood_open(
     }
 }
 
-// Room for the values as words. A function of its own, so that a caller's goals do not show 2,048 zeros.
+// Room for the values as words, and for at most 64 of them. Functions of their own, so that a caller's goals do not show the zeros.
 fn blank() -> [u32; 2048] {
     [0u32; 2048]
+}
+
+fn blank_few() -> [u32; 64] {
+    [0u32; 64]
 }
 
 // The check by way of lent words, which are written as bytes on verdict 0.
@@ -99,7 +103,7 @@ fn check_into(question: &[u8], reply: &[u8], words: &mut [u32], values: &mut [u8
     0
 }
 
-// Checks: writes the values, four bytes each, or returns the number of a refusal and leaves them as they were.
+// Checks: writes the values, four bytes each, or returns the number of a refusal and leaves them as they were. Few values take a small array, since arrays are cleared.
 #[no_mangle]
 pub extern "C" fn smallwood_check(question: &[u8], reply: &[u8], values: &mut [u8]) -> u32
     ensures { λ r. ⌜ (r, now (values .exit)) ≡ checkingC (now (question .entry)) (now (reply .entry)) (now (values .entry)) ⌝ }
@@ -111,8 +115,13 @@ pub extern "C" fn smallwood_check(question: &[u8], reply: &[u8], values: &mut [u
             if values.len() != 4 * n {
                 return 2;
             }
-            let mut words = blank();
-            check_into(question, reply, &mut words[0..n], values)
+            if n <= 64 {
+                let mut words = blank_few();
+                check_into(question, reply, &mut words[0..n], values)
+            } else {
+                let mut words = blank();
+                check_into(question, reply, &mut words[0..n], values)
+            }
         }
         Questioned::Refused(v) => v,
     }

@@ -1,12 +1,14 @@
--- `checker::reply_verdict` meets its contract: 7 where the length is not right, else the verdict on the reply's words.
-use mathlib.Core.Path.{_≡_, sym, _∙_, ap₂, subst}
-use Prim.Native.Nat.{ℕ, _*_, _≤_}
+-- `checker::reply_verdict` meets its contract: 7 where the length is not right, else the verdict on the reply's words, in room for short answers or for all.
+use mathlib.Core.Path.{_≡_, _∙_}
+use Prim.Native.Nat.{_*_, _≤_}
+use native.Mathlib.Nat.{mul-le-mul}
 use lib.ListN.{length}
+use Rattle.scheme.specs.Sizes.{width}
 use Rattle.scheme.specs.Reply.{replyLength}
 use Rattle.commitment.specs.Shape.{sizesIn}
+use Rattle.commitment.proofs.Places.{width-high}
 use Rattle.checker.specs.Posed.{posed}
-use Rattle.commitment.proofs.Places.{batching-high, evaluation-high}
-use Rattle.checker.proofs.Verdicts.{say-7, say-later, index-set, batching-fits, evaluation-fits, was-read}
+use Rattle.checker.proofs.Verdicts.{say-7, say-later, index-set}
 use borrow.Author.Needs.{needs}
 use native.Mathlib.Omega.{arith}
 use Rattle.checker.proofs.reply_verdict.Statement.{statement}
@@ -25,88 +27,65 @@ returns c =
 row-width-requires : tie.Need-row-width-requires
 row-width-requires c κs = search needs
 
-mul-b : tie.Need-mul-b
-mul-b c =
-    let s = c .before .before .before .before .before .before .before .before .args in
-    let h : c .row-width .result * length (s .challenges .now) ≤ 1280 = subst (λ (k : ℕ). k ≤ 1280) (sym (ap₂ _*_ (c .row-width .ensures) (c .before .before .before .before .before .before .before .before .pre .repetitions))) (batching-high (sizesIn (s .s)) (c .before .before .before .before .before .before .before .before .pre .sizes-good)) in
-    search needs
+blank-short-batching-requires : tie.Need-blank-short-batching-requires
+blank-short-batching-requires c κs = search needs
+
+blank-short-answers-requires : tie.Need-blank-short-answers-requires
+blank-short-answers-requires c κs = search needs
+
+slice-aggregate-read-verdict : tie.Need-slice-aggregate-read-verdict
+slice-aggregate-read-verdict c = search needs
+
+slice-aggregate-read-verdict-2 : tie.Need-slice-aggregate-read-verdict-2
+slice-aggregate-read-verdict-2 c = search needs
+
+read-verdict-requires : tie.Need-read-verdict-requires
+read-verdict-requires c κs =
+    let s = c .before .before .before .before .before .before .before .before .before .before .before .before .before .args in
+    let whole : length (s .reply .now) ≡ replyLength (posed (sizesIn (s .s)) (s .root .now) (s .challenges .now) (s .points .now) (s .indices .now)) = c .before .before .before .before .before .before .if1 .left ∙ c .before .before .before .before .before .before .before .reply-length .ensures in
+    let w : width (sizesIn (s .s)) ≤ 32 = omega (arith, c .before .before .before .before .before .row-width .ensures, c .before .before .before .before .if2 .taken) in
+    let k : length (s .challenges .now) ≤ 4 = omega (arith, c .before .before .before .before .before .before .before .before .before .before .before .before .before .pre .repetitions, c .before .before .before .before .before .before .before .before .before .before .before .before .before .pre .sizes-good .η-high) in
+    let g : width (sizesIn (s .s)) * length (s .challenges .now) ≤ 32 * 4 = mul-le-mul {n₂ = 32} {m₂ = 4} w k in
+    let h : width (sizesIn (s .s)) * length (s .points .now) ≤ 32 * 8 = mul-le-mul {n₂ = 32} {m₂ = 8} w (c .before .before .before .before .before .before .before .before .before .before .before .before .before .pre .few-points) in
+    let i : length (c .before .before .before .blank-short-batching .result) ≡ 128 = search needs in
+    let j : length (c .before .before .blank-short-answers .result) ≡ 256 = search needs in
+    (c .before .before .before .before .before .before .before .before .before .before .before .before .before .pre, whole, omega (arith, g, i), omega (arith, h, j))
 
 blank-batching-requires : tie.Need-blank-batching-requires
 blank-batching-requires c κs = search needs
 
-slice-aggregate-read-words : tie.Need-slice-aggregate-read-words
-slice-aggregate-read-words c = search needs
-
-read-words-requires : tie.Need-read-words-requires
-read-words-requires c κs =
-    let s = c .before .before .before .before .before .before .before .before .before .before .args in
-    let whole : length (s .reply .now) ≡ replyLength (posed (sizesIn (s .s)) (s .root .now) (s .challenges .now) (s .points .now) (s .indices .now)) = c .before .before .before .if1 .left ∙ c .before .before .before .before .reply-length .ensures in
-    let h : c .before .before .row-width .result * length (s .challenges .now) ≤ 1280 = subst (λ (k : ℕ). k ≤ 1280) (sym (ap₂ _*_ (c .before .before .row-width .ensures) (c .before .before .before .before .before .before .before .before .before .before .pre .repetitions))) (batching-high (sizesIn (s .s)) (c .before .before .before .before .before .before .before .before .before .before .pre .sizes-good)) in
-    let b : length (c .before .blank-batching .result) ≡ 1280 = search needs in
-    (batching-fits (sizesIn (s .s)) (s .root .now) (s .challenges .now) (s .points .now) (s .indices .now) (s .reply .now) (c .before .before .before .before .before .before .before .before .before .before .pre) whole (c .before .before .row-width .result) (c .before .before .row-width .ensures), omega arith)
-
-mul-a : tie.Need-mul-a
-mul-a c =
-    let s = c .before .before .before .before .before .before .before .before .before .before .before .before .args in
-    let h : c .before .before .before .before .row-width .result * length (s .points .now) ≤ 2560 = subst (λ (k : ℕ). k * length (s .points .now) ≤ 2560) (sym (c .before .before .before .before .row-width .ensures)) (evaluation-high (sizesIn (s .s)) (c .before .before .before .before .before .before .before .before .before .before .before .before .pre .sizes-good) (length (s .points .now)) (c .before .before .before .before .before .before .before .before .before .before .before .before .pre .few-points)) in
-    search needs
-
 blank-answers-requires : tie.Need-blank-answers-requires
 blank-answers-requires c κs = search needs
 
-answers-at-requires : tie.Need-answers-at-requires
-answers-at-requires c κs = search needs
+slice-aggregate-read-verdict-3 : tie.Need-slice-aggregate-read-verdict-3
+slice-aggregate-read-verdict-3 c = search needs
 
-slice-aggregate-read-words-2 : tie.Need-slice-aggregate-read-words-2
-slice-aggregate-read-words-2 c = search needs
+slice-aggregate-read-verdict-4 : tie.Need-slice-aggregate-read-verdict-4
+slice-aggregate-read-verdict-4 c = search needs
 
-read-words-requires-2 : tie.Need-read-words-requires-2
-read-words-requires-2 c κs =
-    let s = c .before .before .before .before .before .before .before .before .before .before .before .before .before .before .before .args in
-    let whole : length (s .reply .now) ≡ replyLength (posed (sizesIn (s .s)) (s .root .now) (s .challenges .now) (s .points .now) (s .indices .now)) = c .before .before .before .before .before .before .before .before .if1 .left ∙ c .before .before .before .before .before .before .before .before .before .reply-length .ensures in
-    let h : c .before .before .before .before .before .before .before .row-width .result * length (s .points .now) ≤ 2560 = subst (λ (k : ℕ). k * length (s .points .now) ≤ 2560) (sym (c .before .before .before .before .before .before .before .row-width .ensures)) (evaluation-high (sizesIn (s .s)) (c .before .before .before .before .before .before .before .before .before .before .before .before .before .before .before .pre .sizes-good) (length (s .points .now)) (c .before .before .before .before .before .before .before .before .before .before .before .before .before .before .before .pre .few-points)) in
-    let b : length (c .before .before .blank-answers .result) ≡ 2560 = search needs in
-    (evaluation-fits (sizesIn (s .s)) (s .root .now) (s .challenges .now) (s .points .now) (s .indices .now) (s .reply .now) (c .before .before .before .before .before .before .before .before .before .before .before .before .before .before .before .pre) whole (c .before .before .before .before .before .before .before .row-width .result) (c .before .answers-at .result) (c .before .before .before .before .before .before .before .row-width .ensures) (c .before .answers-at .ensures), omega arith)
-
-sub-words-verdict : tie.Need-sub-words-verdict
-sub-words-verdict c = search needs
-
-part-words-verdict-start : tie.Need-part-words-verdict-start
-part-words-verdict-start c = search needs
-
-part-words-verdict-end : tie.Need-part-words-verdict-end
-part-words-verdict-end c =
-    let s = c .before .before .before .before .before .before .before .before .before .before .before .before .before .before .before .before .before .before .args in
-    let h : c .before .before .before .before .before .before .before .before .before .before .row-width .result * length (s .challenges .now) ≤ 1280 = subst (λ (k : ℕ). k ≤ 1280) (sym (ap₂ _*_ (c .before .before .before .before .before .before .before .before .before .before .row-width .ensures) (c .before .before .before .before .before .before .before .before .before .before .before .before .before .before .before .before .before .before .pre .repetitions))) (batching-high (sizesIn (s .s)) (c .before .before .before .before .before .before .before .before .before .before .before .before .before .before .before .before .before .before .pre .sizes-good)) in
-    let b : length (c .before .before .before .before .before .before .before .before .before .blank-batching .result) ≡ 1280 = search needs in
-    let l : length (c .before .before .before .before .before .before .before .read-words .last .1 .1 .1 .0) ≡ length (c .before .before .before .before .before .before .before .before .before .blank-batching .result) = c .before .before .before .before .before .before .before .read-words .kept .1 .1 .1 .0 in
-    search needs
-
-sub-words-verdict-2 : tie.Need-sub-words-verdict-2
-sub-words-verdict-2 c = search needs
-
-part-words-verdict-start-2 : tie.Need-part-words-verdict-start-2
-part-words-verdict-start-2 c = search needs
-
-part-words-verdict-end-2 : tie.Need-part-words-verdict-end-2
-part-words-verdict-end-2 c =
-    let s = c .before .before .before .before .before .before .before .before .before .before .before .before .before .before .before .before .before .before .before .before .args in
-    let h : c .before .before .before .before .before .before .before .before .before .before .before .before .row-width .result * length (s .points .now) ≤ 2560 = subst (λ (k : ℕ). k * length (s .points .now) ≤ 2560) (sym (c .before .before .before .before .before .before .before .before .before .before .before .before .row-width .ensures)) (evaluation-high (sizesIn (s .s)) (c .before .before .before .before .before .before .before .before .before .before .before .before .before .before .before .before .before .before .before .before .pre .sizes-good) (length (s .points .now)) (c .before .before .before .before .before .before .before .before .before .before .before .before .before .before .before .before .before .before .before .before .pre .few-points)) in
-    let b : length (c .before .before .before .before .before .before .before .blank-answers .result) ≡ 2560 = search needs in
-    let l : length (c .before .before .before .before .read-words2 .last .1 .1 .1 .0) ≡ length (c .before .before .before .before .before .before .before .blank-answers .result) = c .before .before .before .before .read-words2 .kept .1 .1 .1 .0 in
-    search needs
-
-words-verdict-requires : tie.Need-words-verdict-requires
-words-verdict-requires c κs =
-    let s = c .before .before .before .before .before .before .before .before .before .before .before .before .before .before .before .before .before .before .before .before .before .args in
-    let whole : length (s .reply .now) ≡ replyLength (posed (sizesIn (s .s)) (s .root .now) (s .challenges .now) (s .points .now) (s .indices .now)) = c .before .before .before .before .before .before .before .before .before .before .before .before .before .before .if1 .left ∙ c .before .before .before .before .before .before .before .before .before .before .before .before .before .before .before .reply-length .ensures in
-    (c .before .before .before .before .before .before .before .before .before .before .before .before .before .before .before .before .before .before .before .before .before .pre, was-read (sizesIn (s .s)) (s .root .now) (s .challenges .now) (s .points .now) (s .indices .now) (s .reply .now) (c .before .before .before .before .before .before .before .before .before .before .before .before .before .before .before .before .before .before .before .before .before .pre) (c .before .before .before .before .before .before .before .before .before .before .before .before .before .row-width .result) (c .before .before .before .before .before .before .before .answers-at .result) (c .before .before .before .before .before .before .before .before .before .before .before .before .blank-batching .result) (c .before .before .before .before .before .before .before .before .blank-answers .result) (c .before .before .before .before .before .before .before .before .before .before .read-words .last .1 .1 .1 .0) (c .before .before .before .before .before .read-words2 .last .1 .1 .1 .0) whole (c .before .before .before .before .before .before .before .before .before .before .before .before .before .row-width .ensures) (c .before .before .before .before .before .before .before .answers-at .ensures) (c .before .before .before .before .before .before .before .before .before .before .read-words .ensures) (c .before .before .before .before .before .read-words2 .ensures))
+read-verdict-requires-2 : tie.Need-read-verdict-requires-2
+read-verdict-requires-2 c κs =
+    let s = c .before .before .before .before .before .before .before .before .before .before .before .before .before .args in
+    let whole : length (s .reply .now) ≡ replyLength (posed (sizesIn (s .s)) (s .root .now) (s .challenges .now) (s .points .now) (s .indices .now)) = c .before .before .before .before .before .before .if1 .left ∙ c .before .before .before .before .before .before .before .reply-length .ensures in
+    let w : width (sizesIn (s .s)) ≤ 320 = width-high (sizesIn (s .s)) (c .before .before .before .before .before .before .before .before .before .before .before .before .before .pre .sizes-good) in
+    let k : length (s .challenges .now) ≤ 4 = omega (arith, c .before .before .before .before .before .before .before .before .before .before .before .before .before .pre .repetitions, c .before .before .before .before .before .before .before .before .before .before .before .before .before .pre .sizes-good .η-high) in
+    let g : width (sizesIn (s .s)) * length (s .challenges .now) ≤ 320 * 4 = mul-le-mul {n₂ = 320} {m₂ = 4} w k in
+    let h : width (sizesIn (s .s)) * length (s .points .now) ≤ 320 * 8 = mul-le-mul {n₂ = 320} {m₂ = 8} w (c .before .before .before .before .before .before .before .before .before .before .before .before .before .pre .few-points) in
+    let i : length (c .before .before .before .blank-batching .result) ≡ 1280 = search needs in
+    let j : length (c .before .before .blank-answers .result) ≡ 2560 = search needs in
+    (c .before .before .before .before .before .before .before .before .before .before .before .before .before .pre, whole, omega (arith, g, i), omega (arith, h, j))
 
 returns-2 : tie.Need-returns-2
 returns-2 c =
-    let s = c .before .before .before .before .before .before .before .before .before .before .before .before .before .before .before .before .before .before .before .before .before .before .args in
-    let whole : length (s .reply .now) ≡ replyLength (posed (sizesIn (s .s)) (s .root .now) (s .challenges .now) (s .points .now) (s .indices .now)) = c .before .before .before .before .before .before .before .before .before .before .before .before .before .before .before .if1 .left ∙ c .before .before .before .before .before .before .before .before .before .before .before .before .before .before .before .before .reply-length .ensures in
-    c .words-verdict .ensures ∙ say-later (sizesIn (s .s)) (s .root .now) (s .challenges .now) (s .points .now) (s .indices .now) (s .reply .now) (c .before .before .before .before .before .before .before .before .before .before .before .before .before .before .before .before .before .before .before .before .before .before .pre) whole
+    let s = c .before .before .before .before .before .before .before .before .before .before .before .before .before .before .before .before .args in
+    let whole : length (s .reply .now) ≡ replyLength (posed (sizesIn (s .s)) (s .root .now) (s .challenges .now) (s .points .now) (s .indices .now)) = c .before .before .before .before .before .before .before .before .before .if1 .left ∙ c .before .before .before .before .before .before .before .before .before .before .reply-length .ensures in
+    c .before .before .read-verdict .ensures ∙ say-later (sizesIn (s .s)) (s .root .now) (s .challenges .now) (s .points .now) (s .indices .now) (s .reply .now) (c .before .before .before .before .before .before .before .before .before .before .before .before .before .before .before .before .pre) whole
+
+returns-3 : tie.Need-returns-3
+returns-3 c =
+    let s = c .before .before .before .before .before .before .before .before .before .before .before .before .before .before .before .before .args in
+    let whole : length (s .reply .now) ≡ replyLength (posed (sizesIn (s .s)) (s .root .now) (s .challenges .now) (s .points .now) (s .indices .now)) = c .before .before .before .before .before .before .before .before .before .if1 .left ∙ c .before .before .before .before .before .before .before .before .before .before .reply-length .ensures in
+    c .before .before .read-verdict2 .ensures ∙ say-later (sizesIn (s .s)) (s .root .now) (s .challenges .now) (s .points .now) (s .indices .now) (s .reply .now) (c .before .before .before .before .before .before .before .before .before .before .before .before .before .before .before .before .pre) whole
 
 pub reply-verdict-spec : {M : Type 1} → statement M
 reply-verdict-spec =
@@ -115,20 +94,15 @@ reply-verdict-spec =
     reply-length-requires
     returns
     row-width-requires
-    mul-b
+    blank-short-batching-requires
+    blank-short-answers-requires
+    slice-aggregate-read-verdict
+    slice-aggregate-read-verdict-2
+    read-verdict-requires
     blank-batching-requires
-    slice-aggregate-read-words
-    read-words-requires
-    mul-a
     blank-answers-requires
-    answers-at-requires
-    slice-aggregate-read-words-2
-    read-words-requires-2
-    sub-words-verdict
-    part-words-verdict-start
-    part-words-verdict-end
-    sub-words-verdict-2
-    part-words-verdict-start-2
-    part-words-verdict-end-2
-    words-verdict-requires
-    returns-2)
+    slice-aggregate-read-verdict-3
+    slice-aggregate-read-verdict-4
+    read-verdict-requires-2
+    returns-2
+    returns-3)
