@@ -4,15 +4,15 @@ use mathlib.Core.Logic.{_⊎_, inl, inr, ⊎-elim}
 use mathlib.Core.Bool.{Bool, true, false, not}
 use mathlib.Core.List.{List, []}
 use Prim.Native.Nat.{ℕ, _-_, _*_, _≤_, _<_, min}
-use native.Mathlib.Nat.{one-mul, not-suc-le-zero, min-eq-left, min-eq-right, le-min, le-of-eq, sub-zero, mul-le-mul, mul-le-mul-left}
+use native.Mathlib.Nat.{one-mul, not-suc-le-zero, min-eq-left, min-eq-right, le-min, le-of-eq, sub-zero, mul-le-mul-left}
 use native.Mathlib.Omega.{arith}
 use lib.Dec.{eqb, leb}
 use lib.ListN.{length, take, drop, length-drop, drop-of-length-le}
 use lib.Seq.{take-all, take-take, take-length, drop-length, getD-take}
 use borrow.Author.Tests.{eq-eqb, ne-eqb, eqb-false, ltb-false, leb-true, leb-false}
-use Rattle.lists.specs.Choice.{pick, tested, and-true}
+use Rattle.lists.specs.Choice.{pick, tested}
 use Rattle.lists.specs.Bytes.{Bytes}
-use Rattle.lists.specs.Tests.{passed, verdict-stop}
+use Rattle.lists.specs.Tests.{passed, verdict-stop, within-high}
 use Rattle.scheme.specs.Sizes.{Sizes}
 use Rattle.scheme.specs.Question.{Question, readQuestion, questionTests, headerTests, headerLength, headerSizes, headerPoints, questionLength}
 use Rattle.scheme.specs.Reply.{readReply}
@@ -28,6 +28,7 @@ use Rattle.commitment.specs.declared.Questioned.the-variants.{WellFormed, Refus
 use Rattle.commitment.proofs.Answer.{well-headed, header-refused}
 use Rattle.report.specs.Written.{written, checkedText}
 use Rattle.report.proofs.Text.{text-refused}
+use Rattle.commitment.proofs.Places.{buffer-high}
 
 -- ---- the text for two parts
 
@@ -146,11 +147,10 @@ pub few-values : (b : Bytes) (s : Shape) (m : ℕ) → headed b ≡ WellFormed s
 few-values b s m e =
     let h = well-headed b s m e in
     let g = good (sizesIn s) (h .sizes-ok) in
-    let hm : m ≤ 8 = leb-true m 8 (and-true (leb 1 m) (leb m 8) (h .points-ok) .1) in
+    let hm : m ≤ 8 = within-high 1 8 m (h .points-ok) in
     let one : s .w * 1 ≤ s .w * s .nu = mul-le-mul-left (s .w) (g .ν-low) in
     let hw : s .w ≤ 256 = omega (arith, g .columns-high) in
-    let all : s .w * m ≤ 256 * 8 = mul-le-mul hw hm in
-    (hm, hw, all)
+    (hm, hw, buffer-high (sizesIn s) g m hm)
 
 pub printed-split : (out b : Bytes) (s : Shape) (m k : ℕ) (buffer : List ℕ) (z : ℕ × Bytes) → length b ≤ inputLimit → headed b ≡ WellFormed s m
     → k ≡ min (questionLength (sizesIn s) m) (length b) → length buffer ≡ s .w * m

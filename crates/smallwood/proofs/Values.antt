@@ -3,7 +3,7 @@ use mathlib.Core.Path.{_≡_, refl, sym, ap, ap₂, _∙_, subst}
 use mathlib.Core.Bool.{Bool, true, false, not}
 use mathlib.Core.List.{List, [], _∷_, _++_, append-nil}
 use Prim.Native.Nat.{ℕ, _+_, _-_, _*_, _≤_, _<_}
-use native.Mathlib.Nat.{one-mul, zero-add, le-of-eq, mul-le-mul, mul-le-mul-left, not-suc-le-zero}
+use native.Mathlib.Nat.{one-mul, zero-add, le-of-eq, not-suc-le-zero}
 use native.Mathlib.Omega.{arith}
 use lib.Dec.{eqb}
 use lib.ListN.{length, take, drop, drop-of-length-le}
@@ -16,7 +16,9 @@ use Rattle.scheme.specs.Question.{Question, readQuestion, questionTests}
 use Rattle.scheme.specs.Reply.{readReply}
 use Rattle.scheme.specs.Commit.{after}
 use Rattle.scheme.specs.Check.{checkVerdict, checkValues, replyTests, checking, checkingC}
-use Rattle.scheme.proofs.Accepted.{well-formed, question-numbers}
+use Rattle.scheme.proofs.Accepted.{Good, well-formed, question-numbers}
+use Rattle.commitment.specs.Shape.{sizesIn}
+use Rattle.commitment.proofs.Places.{buffer-high}
 use Rattle.commitment.specs.Questioned.{questioned}
 use Rattle.commitment.specs.declared.Shape.{Shape}
 use Rattle.commitment.specs.declared.Questioned.the-variants.{WellFormed, Refused}
@@ -47,11 +49,7 @@ pub few-values : (b : Bytes) (s : Shape) (m : ℕ) → questioned b ≡ WellForm
 few-values b s m e =
     let a = well-asked b s m e in
     let h = well-formed b (a .0) in
-    let hm : m ≤ 8 = subst (λ (n : ℕ). n ≤ 8) (sym (a .2)) (h .m-high) in
-    let g = subst (λ (t : Sizes). (1 ≤ t .ν) × (t .w * t .ν ≤ 256)) (sym (a .1)) (h .sizes-good .ν-low, h .sizes-good .columns-high) in
-    let one : s .w * 1 ≤ s .w * s .nu = mul-le-mul-left (s .w) (g .0) in
-    let hw : s .w ≤ 256 = omega (arith, g .1) in
-    mul-le-mul hw hm
+    buffer-high (sizesIn s) (subst Good (sym (a .1)) (h .sizes-good)) m (subst (λ (n : ℕ). n ≤ 8) (sym (a .2)) (h .m-high))
 
 module _ (question reply before : Bytes) where
   -- a refusal changes nothing
