@@ -15,7 +15,7 @@ use Rattle.algebra.specs.Interp.{dot, dot-comm, interp, bases, length-ba
 use Rattle.algebra.specs.Lagrange.{sign, elementsFrom, downTo, weight, Weights, lsum, lagrange, weights, elementsFrom-distinct, from-zero}
 use Rattle.algebra.specs.Numbers.{evalN, evalN-below, of-evalN, of-injective, val-of-below, ofs, vals, ofs-vals, interpN}
 use Rattle.algebra.specs.Divided.{subN, of-subN, of-mod}
-use Rattle.algebra.specs.Table.{inverseFactorials, inverseFactorial, inverseFactorial-is, table}
+use Rattle.algebra.specs.Table.{tableSize, inverseFactorials, inverseFactorial, inverseFactorial-is, table}
 use Rattle.lists.specs.Range.{upFrom, length-upFrom}
 use Rattle.algebra.specs.Dot.{dotN, dotN-below, of-dotN}
 use Rattle.lists.specs.Fill.{Filled, entryOf}
@@ -157,7 +157,7 @@ upperN-below : (t : List ℕ) (e x n : ℕ) (s : List ℕ) (c : ℕ) → upperN 
 unfolding upperN
 upperN-below t e x n s c = mod-lt _ (lit< tt)
 
-entry : (a x n c : ℕ) → c < n → n ≤ 320 → a + n ≤ q → x ≤ q
+entry : (a x n c : ℕ) → c < n → n ≤ tableSize → a + n ≤ q → x ≤ q
     → of (upperN inverseFactorials (a + n) x n (tabulate n (lowerN inverseFactorials a x)) c)
     ≡ weight inverseFactorial c (n - suc c) ⊗ (prod (downTo a c) (of x) ⊗ prod (elementsFrom (suc (a + c)) (n - suc c)) (of x))
 unfolding upperN lowerN weight
@@ -181,18 +181,18 @@ unfolding upFrom elementsFrom
 ofs-points a zero = refl
 ofs-points a (suc n) = ap (λ (t : List K). of a ∷ t) (ofs-points (suc a) n)
 
-basis-at : (a x n c : ℕ) → c < n → n ≤ 320 → a + n ≤ q
+basis-at : (a x n c : ℕ) → c < n → n ≤ tableSize → a + n ≤ q
     → getD (map (λ (b : List K). eval b (of x)) (bases (ofs (upFrom a n)))) c 𝟎
     ≡ weight inverseFactorial c (n - suc c) ⊗ (prod (downTo a c) (of x) ⊗ prod (elementsFrom (suc (a + c)) (n - suc c)) (of x))
 unfolding downTo
 basis-at a x n c l u v =
     ap (λ (t : List K). getD (map (λ (b : List K). eval b (of x)) (bases t)) c 𝟎) (ofs-points a n)
-    ∙ ap (λ (t : List K). getD t c 𝟎) (basis-values (elementsFrom a n) (weights inverseFactorial 0 n) (of x) (elementsFrom-distinct a n v) (from-zero inverseFactorial 320 table a n u))
+    ∙ ap (λ (t : List K). getD t c 𝟎) (basis-values (elementsFrom a n) (weights inverseFactorial 0 n) (of x) (elementsFrom-distinct a n v) (from-zero inverseFactorial tableSize table a n u))
     ∙ ap (λ (p : ℕ). getD (lvals [] (elementsFrom p n) (weights inverseFactorial 0 n) (of x)) c 𝟎) (sym (add-zero a))
     ∙ lvals-at inverseFactorial a 0 n c (of x) c (n - suc c) (sym (zero-add c)) (omega arith)
 
 -- Both passes give the basis over the n points from a on.
-pub basis-passes : (a x n : ℕ) → n ≤ 320 → a + n ≤ q → x ≤ q
+pub basis-passes : (a x n : ℕ) → n ≤ tableSize → a + n ≤ q → x ≤ q
     → tabulate n (upperN inverseFactorials (a + n) x n (tabulate n (lowerN inverseFactorials a x))) ≡ basisN (upFrom a n) x
 unfolding basisN
 basis-passes a x n u v w = sym (tabulate-is n _ (basisN (upFrom a n) x) (length-basisN (upFrom a n) x ∙ length-upFrom a n) one)
@@ -238,7 +238,7 @@ upper-turn a n x c p y d r l u e f g h =
     let k : y ≡ a + n - suc (n - c) = omega arith in
     h ∙ ap₂ (λ (i j : ℕ). i * j % q) e (g ∙ ap (λ (i : ℕ). subN i x) k) ∙ ap (aboveN (a + n) x) m
 
-pub basis-done : (t : List ℕ) (a x n : ℕ) (mid r : List ℕ) → t ≡ inverseFactorials → a + n ≤ q → n ≤ 320 → x < q
+pub basis-done : (t : List ℕ) (a x n : ℕ) (mid r : List ℕ) → t ≡ inverseFactorials → a + n ≤ q → n ≤ tableSize → x < q
     → mid ≡ tabulate n (lowerN t a x) → r ≡ tabulate (length mid) (upperN t (a + length mid) x (length mid) mid) → r ≡ basisN (upFrom a n) x
 basis-done t a x n mid r e v u w f g =
     let l : length mid ≡ n = ap length f ∙ length-from 0 n (lowerN t a x) in

@@ -1,7 +1,7 @@
 -- The honest side: a batch P₀ + z P₁ + z² P₂ + .. of polynomials as numbers, coefficient by coefficient, and what it is worth at a point.
 use mathlib.Core.Path.{_≡_, refl, sym, _∙_, ap, ap₂}
 use mathlib.Core.List.{List, [], _∷_, map}
-use Prim.Native.Nat.{ℕ, _+_, _<_}
+use Prim.Native.Nat.{ℕ, zero, suc, _+_, _<_}
 use native.Mathlib.Omega.{arith}
 use lib.ListN.{length, getD, length-map, List·getD-map}
 use Rattle.lists.specs.All.{Distinct}
@@ -15,6 +15,17 @@ use Rattle.algebra.specs.Numbers.{evalN, evalN-below, of-evalN, of-injec
 unfoldable pub columnN : List (List ℕ) → ℕ → List ℕ
 columnN [] i = []
 columnN (p ∷ ps) i = getD p i 0 ∷ columnN ps i
+
+pub length-columnN : (ps : List (List ℕ)) (i : ℕ) → length (columnN ps i) ≡ length ps
+unfolding columnN
+length-columnN [] i = refl
+length-columnN (p ∷ ps) i = ap suc (length-columnN ps i)
+
+pub columnN-at : (ps : List (List ℕ)) (i j : ℕ) → getD (columnN ps i) j 0 ≡ getD (getD ps j []) i 0
+unfolding columnN
+columnN-at [] i j = refl
+columnN-at (p ∷ ps) i zero = refl
+columnN-at (p ∷ ps) i (suc j) = columnN-at ps i j
 
 column : List (List K) → ℕ → List K
 column [] i = []
@@ -61,5 +72,3 @@ honestN ps n l h z pts lp b d =
     ap vals
     (ap (λ (t : List K). interp (ofs pts) t) (sym (map-ofs-values ps z pts))
     ∙ answer-honest (map ofs ps) n (omega (arith, length-map ps ofs)) (sized-ofs n ps h) (of z) (ofs pts) (length-map pts of ∙ lp) (distinct-ofs pts b d))
-
--- ---- a step of Horner's rule over rows

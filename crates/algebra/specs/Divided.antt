@@ -287,6 +287,16 @@ unfolding linN
 linN-last x c [] = refl
 linN-last x c (a ∷ p) = linN-last x a p
 
+linN-end : (x c : ℕ) (p : List ℕ) → getD (linN x c p) (length p) 0 ≡ getD (c ∷ p) (length p) 0
+unfolding linN
+linN-end x c [] = refl
+linN-end x c (a ∷ p) = linN-end x a p
+
+pub sweepN-end : (x : ℕ) (s : List ℕ) (i : ℕ) → suc i ≡ length s → getD (sweepN x s) i 0 ≡ getD s i 0
+unfolding sweepN
+sweepN-end x [] i l = absurd (suc-ne-zero i l)
+sweepN-end x (c ∷ p) i l = subst (λ (k : ℕ). getD (linN x c p) k 0 ≡ getD (c ∷ p) k 0) (sym (suc-inj l)) (linN-end x c p)
+
 -- the part that a loop has passed is new, the rest old
 abbrev pub stage : List ℕ → List ℕ → ℕ → List ℕ
 stage r s i = take i r ++ drop i s
@@ -421,9 +431,6 @@ nevN-turn xs cs z i d p r m l u e f g =
     g ∙ ap₂ (λ (s t : ℕ). (getD cs (i - 1) 0 + s * t) % q) f e
     ∙ sym (add-mod-mod (getD cs (i - 1) 0) (subN z (getD xs (i - 1) 0) * nevN (drop i xs) (drop i cs) z) q)
     ∙ nevN-step xs cs z i (i - 1) m n (omega arith)
-
-pub below-at : (xs : List ℕ) → Elements xs → (i : ℕ) → i < length xs → getD xs i 0 < q
-below-at xs b i l = all-at (λ (a : ℕ). a < q) 0 xs b i l
 
 -- a - b c, reduced once
 expand-product : (a b c d m k r : ℕ) → b + d ≡ q → m ≡ b * c → q * k + r ≡ m → r ≤ q → a + d * c + q * (k + 1) ≡ a + (q - r) + q * c

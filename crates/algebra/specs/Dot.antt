@@ -2,7 +2,7 @@
 use mathlib.Core.Path.{_≡_, refl, sym, _∙_, ap, ap₂, subst}
 use mathlib.Core.List.{List, [], _∷_, map}
 use Prim.Native.Nat.{ℕ, zero, suc, _+_, _-_, _*_, _/_, _%_, _≤_, _<_}
-use native.Mathlib.Nat.{mod-lt, le-refl, suc-inj, suc-ne-zero, not-suc-le-zero, le-of-suc-le-suc, div-add-mod', mul-le-mul, div-lt-iff-lt-mul}
+use native.Mathlib.Nat.{mod-lt, le-refl, suc-inj, suc-ne-zero, not-suc-le-zero, le-of-suc-le-suc, div-add-mod', mul-le-mul, div-lt-iff-lt-mul, mul-suc}
 use native.Mathlib.Numerals.{add-one}
 use native.Mathlib.Omega.{arith}
 use lib.Dec.{lit<}
@@ -52,45 +52,78 @@ products-suc (a ∷ xs) [] i l m = absurd (not-suc-le-zero m)
 products-suc (a ∷ xs) (b ∷ ys) zero l m = omega arith
 products-suc (a ∷ xs) (b ∷ ys) (suc i) l m = omega (arith, products-suc xs ys i (le-of-suc-le-suc l) (le-of-suc-le-suc m))
 
--- The sums of the lower and the upper halves of the first i products. Shut, so that omega does not read its large numbers.
-unfoldable pub Halves : List ℕ → List ℕ → ℕ → ℕ → ℕ → Type 0
-Halves xs ys i low high = low + 8589934592 * high ≡ products (take i xs) (take i ys)
+-- where a product is split: at 2^33, which is 10 modulo q
+abbrev pub split : ℕ
+split = 8589934592
+
+-- so many products can be summed
+abbrev pub longest : ℕ
+longest = 65536
+
+-- 2^64
+abbrev pub wordEnd : ℕ
+wordEnd = 18446744073709551616
+
+-- 2^60: a sum below it can take one part more, and ten times it fits
+abbrev pub spare : ℕ
+spare = 1152921504606846976
+
+-- The sums of the lower and the upper parts of the first i products, and their bounds. Shut, so that omega does not read its large numbers.
+pub Halves : List ℕ → List ℕ → ℕ → ℕ → ℕ → Type 0
+Halves xs ys i low high = (low + split * high ≡ products (take i xs) (take i ys)) × (low ≤ 8589934591 * i) × (high ≤ 2147483647 * i)
 
 pub halves-none : (xs ys : List ℕ) → Halves xs ys 0 0 0
 unfolding Halves products
-halves-none xs ys = refl
-
--- one product more
-pub halves-turn : (xs ys : List ℕ) (i low high p : ℕ) → i < length xs → length ys ≡ length xs → p ≡ getD xs i 0 * getD ys i 0
-    → Halves xs ys i low high → Halves xs ys (i + 1) (low + p % 8589934592) (high + p / 8589934592)
-unfolding Halves
-halves-turn xs ys i low high p l m e h =
-    omega (arith, div-add-mod' p 8589934592)
-    ∙ sym (products-suc xs ys i l (omega arith))
-    ∙ ap (λ (k : ℕ). products (take k xs) (take k ys)) (sym (add-one i))
-
--- all products: 2^33 is 2 q + 10
-pub halves-done : (xs ys : List ℕ) (i low high : ℕ) → i ≡ length xs → length ys ≡ length xs → Halves xs ys i low high → (low + 10 * high) % q ≡ dotN xs ys
-unfolding dotN Halves
-halves-done xs ys i low high e m h =
-    same-mod (low + 10 * high) (low + 8589934592 * high) (2 * high) 0 (omega arith)
-    ∙ ap (λ (t : ℕ). t % q) (h ∙ ap₂ products (ap (λ (k : ℕ). take k xs) e ∙ take-length xs) (ap (λ (k : ℕ). take k ys) (e ∙ sym m) ∙ take-length ys))
+halves-none xs ys = (refl, omega arith, omega arith)
 
 -- a product of two 32-bit numbers
 pub product-bound : (a b : ℕ) → a < 4294967296 → b < 4294967296 → a * b ≤ 18446744065119617025
 product-bound a b l m = mul-le-mul {n₂ = 4294967295} {m₂ = 4294967295} (omega arith) (omega arith)
 
-pub low-turn : (low i p : ℕ) → low ≤ 8589934591 * i → low + p % 8589934592 ≤ 8589934591 * (i + 1)
-low-turn low i p h = let l : p % 8589934592 < 8589934592 = mod-lt p (lit< tt) in omega arith
+low-part : (p : ℕ) → p % split < split
+low-part p = mod-lt p (lit< tt)
 
-pub high-turn : (high i p : ℕ) → p < 18446744073709551616 → high ≤ 2147483647 * i → high + p / 8589934592 ≤ 2147483647 * (i + 1)
-high-turn high i p u h = let l : p / 8589934592 < 2147483648 = div-lt-iff-lt-mul {k = 8589934592} {x = p} {y = 2147483648} (lit< tt) .1 u in small high i (p / 8589934592) l h
+high-part : (p : ℕ) → p < wordEnd → p / split < 2147483648
+high-part p u = div-lt-iff-lt-mul {k = split} {x = p} {y = 2147483648} (lit< tt) .1 u
+
+one-more : (s i d m : ℕ) → d ≤ m → s ≤ m * i → s + d ≤ m * (i + 1)
+one-more s i d m l h = omega (arith, mul-suc m i)
+
+-- one product more
+pub halves-turn : (xs ys : List ℕ) (i low high p : ℕ) → i < length xs → length ys ≡ length xs → p ≡ getD xs i 0 * getD ys i 0 → p < wordEnd
+    → Halves xs ys i low high → Halves xs ys (i + 1) (low + p % split) (high + p / split)
+unfolding Halves
+halves-turn xs ys i low high p l m e u h = (
+  omega (arith, div-add-mod' p split, h .0)
+      ∙ sym (products-suc xs ys i l (omega arith))
+      ∙ ap (λ (k : ℕ). products (take k xs) (take k ys)) (sym (add-one i)),
+  one-more low i (p % split) 8589934591 (le-of-suc-le-suc (low-part p)) (h .1),
+  one-more high i (p / split) 2147483647 (le-of-suc-le-suc (high-part p u)) (h .2),
+)
+
+-- .. fits
+small : (s i : ℕ) → i ≤ longest → s ≤ 8589934591 * i → s < spare
+small s i l h = omega arith
+
+pub halves-spare : (xs ys : List ℕ) (i low high : ℕ) → i ≤ longest → Halves xs ys i low high → (low < spare) × (high < spare)
+unfolding Halves
+halves-spare xs ys i low high l h = (small low i l (h .1), let m : high ≤ 2147483647 * i = h .2 in small high i l (omega arith))
+
+pub low-fits : (s p : ℕ) → s < spare → s + p % split < wordEnd
+low-fits s p h = let l : p % split < split = low-part p in omega arith
+
+pub high-fits : (s p : ℕ) → s < spare → p < wordEnd → s + p / split < wordEnd
+high-fits s p h u = fits s (p / split) h (high-part p u)
   where
-    small : (high i d : ℕ) → d < 2147483648 → high ≤ 2147483647 * i → high + d ≤ 2147483647 * (i + 1)
-    small high i d l h = omega arith
+    fits : (s d : ℕ) → s < spare → d < 2147483648 → s + d < wordEnd
+    fits s d h l = omega arith
 
-pub sum-bound : (s i : ℕ) → i < 65536 → s ≤ 2147483647 * (i + 1) → s < 18446744073709551616
-sum-bound s i l h = omega arith
+-- all products: 2^33 is 2 q + 10
+pub halves-done : (xs ys : List ℕ) (i low high : ℕ) → i ≡ length xs → length ys ≡ length xs → Halves xs ys i low high → (low + 10 * high) % q ≡ dotN xs ys
+unfolding dotN Halves
+halves-done xs ys i low high e m h =
+    same-mod (low + 10 * high) (low + split * high) (2 * high) 0 (omega arith)
+    ∙ ap (λ (t : ℕ). t % q) (h .0 ∙ ap₂ products (ap (λ (k : ℕ). take k xs) e ∙ take-length xs) (ap (λ (k : ℕ). take k ys) (e ∙ sym m) ∙ take-length ys))
 
 -- ---- a row times c added, entry by entry
 unfoldable pub accumulateN : List ℕ → ℕ → List ℕ → List ℕ
@@ -98,15 +131,11 @@ accumulateN [] c row = []
 accumulateN (a ∷ acc) c [] = a ∷ acc
 accumulateN (a ∷ acc) c (b ∷ row) = ((a + c * b) % q) ∷ accumulateN acc c row
 
-pub accumulatedAt : List ℕ → ℕ → List ℕ → ℕ → ℕ
+abbrev pub accumulatedAt : List ℕ → ℕ → List ℕ → ℕ → ℕ
 accumulatedAt acc c row i = (getD acc i 0 + c * getD row i 0) % q
 
-pub accumulated-turn : (acc row now : List ℕ) (c i n v : ℕ) → i < n → Filled (entryOf acc) now i n → v ≡ (getD now i 0 + c * getD row i 0) % q → v ≡ accumulatedAt acc c row i
-unfolding accumulatedAt
-accumulated-turn acc row now c i n v l h e = e ∙ ap (λ (t : ℕ). (t + c * getD row i 0) % q) (h i (le-refl i) l)
-
-accumulateN-at : (acc row : List ℕ) (c i : ℕ) → length row ≡ length acc → i < length acc → getD (accumulateN acc c row) i 0 ≡ accumulatedAt acc c row i
-unfolding accumulateN accumulatedAt
+pub accumulateN-at : (acc row : List ℕ) (c i : ℕ) → length row ≡ length acc → i < length acc → getD (accumulateN acc c row) i 0 ≡ accumulatedAt acc c row i
+unfolding accumulateN
 accumulateN-at [] row c i e l = absurd (not-suc-le-zero l)
 accumulateN-at (a ∷ acc) [] c i e l = absurd (suc-ne-zero _ (sym e))
 accumulateN-at (a ∷ acc) (b ∷ row) c zero e l = refl
@@ -123,7 +152,6 @@ accumulateN-is acc row c e =
     sym (tabulate-is (length acc) (accumulatedAt acc c row) (accumulateN acc c row) (length-accumulateN acc row c) (λ (i : ℕ) (l : i < length acc). accumulateN-at acc row c i e l))
 
 pub folded-turn : (acc row now : List ℕ) (c i n v : ℕ) → i < n → Filled (entryOf acc) now i n → v ≡ (getD row i 0 + c * getD now i 0) % q → v ≡ accumulatedAt row c acc i
-unfolding accumulatedAt
 folded-turn acc row now c i n v l h e = e ∙ ap (λ (t : ℕ). (getD row i 0 + c * t) % q) (h i (le-refl i) l)
 
 -- ---- a polynomial's value is its dot product with the powers

@@ -1,11 +1,12 @@
 -- The field of q = 4294967291 elements: numbers below q. Every operation is shut, so that a proof goes by the laws.
 use mathlib.Core.Path.{_≡_, refl, sym, _∙_, ap}
 use mathlib.Core.Logic.{_≢_}
-use Prim.Native.Nat.{ℕ, zero, _+_, _*_, _-_, _/_, _%_, _<_}
+use Prim.Native.Nat.{ℕ, zero, suc, _+_, _*_, _-_, _/_, _%_, _<_}
 use native.Mathlib.Nat.{mod-lt, mod-eq-of-lt, add-mod, pos-of-ne-zero, zero-mul, mul-zero, zero-add, add-zero, add-mul-mod-self-left, mul-comm, div-add-mod}
 use mathlib.Core.HLevel.{isProp→PathP}
 use native.Mathlib.Bridge.{le-prop}
 use native.Mathlib.Decide.{ℕ-discrete}
+use native.Mathlib.Numerals.{add-one}
 use native.Mathlib.Omega.{arith}
 use lib.Dec.{lit<}
 use Rattle.algebra.specs.Prime.{q, inverse}
@@ -89,6 +90,9 @@ pub of-one : of 1 ≡ 𝟏
 unfolding 𝟏
 of-one = refl
 
+pub of-suc : (n : ℕ) → of (suc n) ≡ of n ⊕ 𝟏
+of-suc n = ap of (sym (add-one n)) ∙ sym (of-add n 1) ∙ ap (λ (t : K). of n ⊕ t) of-one
+
 -- ---- a ring tactic: an element is a difference of two numbers, and an identity becomes one of numbers, which omega multiplies out
 pub dif : ℕ → ℕ → K
 dif a b = of (a + 4294967290 * b)
@@ -159,13 +163,12 @@ infixl 6 _⊝_
 abbrev pub _⊝_ : K → K → K
 a ⊝ b = a ⊕ ⊖ b
 
-pub ⊝-eq : (a b : K) → a ⊝ b ≡ 𝟎 → a ≡ b
-⊝-eq a b e = back a b ∙ ap (λ (t : K). t ⊕ b) e ∙ ⊕-comm 𝟎 b ∙ ⊕-zero b
-  where
-    back : (a b : K) → a ≡ a ⊕ ⊖ b ⊕ b
-    back a b = rw (← dv a, ← dv b) (simp ring (dif-path _ _ _ _ (omega arith)))
+pub ⊕-⊝ : (a b : K) → a ⊕ (b ⊝ a) ≡ b
+⊕-⊝ a b = rw (← dv a, ← dv b) (simp ring (dif-path _ _ _ _ (omega arith)))
 
--- ---- equality is decided
+pub ⊝-eq : (a b : K) → a ⊝ b ≡ 𝟎 → a ≡ b
+⊝-eq a b e = sym (⊕-⊝ b a) ∙ ap (λ (t : K). b ⊕ t) e ∙ ⊕-zero b
+
 -- ---- inverses: inv 𝟎 is 𝟎
 unfoldable pub inv-at : (a : K) → Dec (a .val ≡ 0) → K
 inv-at a (yes e) = 𝟎

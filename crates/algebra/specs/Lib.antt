@@ -9,9 +9,12 @@ pub mod Table
 pub mod Inverse
 pub mod Columns
 pub mod Divided
-pub mod Consecutive
 pub mod Cases
 pub mod Batch
 pub mod Dot
+pub mod Sums
 pub mod Basis
 pub mod Weights
+pub mod Differences
+pub mod Forward
+pub mod Pairs

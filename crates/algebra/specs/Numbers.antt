@@ -2,11 +2,11 @@
 use mathlib.Core.Path.{_≡_, refl, sym, _∙_, ap, ap₂}
 use mathlib.Core.Logic.{_≢_}
 use mathlib.Core.List.{List, [], _∷_, _++_, map}
-use Prim.Native.Nat.{suc-le-suc, ℕ, suc, _+_, _*_, _-_, _%_, _≤_, _<_}
+use Prim.Native.Nat.{suc-le-suc, ℕ, zero, suc, _+_, _*_, _-_, _%_, _≤_, _<_}
 use native.Mathlib.Nat.{zero-lt-suc, suc-inj, suc-ne-zero, mod-lt, mod-eq-of-lt, mod-mod, add-mod-mod}
 use native.Mathlib.Omega.{arith}
 use lib.Dec.{lit<}
-use lib.ListN.{length, getD, drop, length-map}
+use lib.ListN.{length, getD, drop, set, length-map}
 use lib.Seq.{drop-cons, drop-length}
 use Rattle.lists.specs.All.{All, Below, Distinct, all-imp, all-map, Sized}
 use Rattle.algebra.specs.Prime.{q}
@@ -22,6 +22,16 @@ evalN (c ∷ cs) x = (c + x * evalN cs x) % q
 
 abbrev pub Elements : List ℕ → Type 0
 Elements p = Below q p
+
+pub elements-at : (p : List ℕ) → Elements p → (i : ℕ) → getD p i 0 < q
+elements-at [] b i = lit< tt
+elements-at (a ∷ p) b zero = b .0
+elements-at (a ∷ p) b (suc i) = elements-at p (b .1) i
+
+pub elements-set : (p : List ℕ) (i v : ℕ) → v < q → Elements p → Elements (set p i v)
+elements-set [] i v l b = tt
+elements-set (a ∷ p) zero v l b = (l, b .1)
+elements-set (a ∷ p) (suc i) v l b = (b .0, elements-set p i v l (b .1))
 
 abbrev pub ofs : List ℕ → List K
 ofs p = map of p

@@ -37,14 +37,17 @@ pub inverseFactorial-is : (t : ℕ) → inverseFactorial t ≡ of (getD inverseF
 unfolding inverseFactorial
 inverseFactorial-is t = refl
 
-rule : (k : ℕ) → suc k < 320 → getD inverseFactorials (suc k) 0 * suc k % q ≡ getD inverseFactorials k 0
+abbrev pub tableSize : ℕ
+tableSize = 320
+
+rule : (k : ℕ) → suc k < tableSize → getD inverseFactorials (suc k) 0 * suc k % q ≡ getD inverseFactorials k 0
 unfolding inverseFactorials
 rule k l = ap (λ (m : ℕ). getD inverseFactorials (suc k) 0 * m % q) (sym (one-add k)) ∙ follows-at (drop 1 inverseFactorials) 1 1 table-test k (le-of-suc-le-suc l)
 
 reduce : (x y : ℕ) → x % q ≡ y → x % q ≡ y % q
 reduce x y e = sym (mod-mod x q) ∙ ap (λ (m : ℕ). m % q) e
 
-table-next : (t : ℕ) → suc t < 320 → inverseFactorial (suc t) ⊗ of (suc t) ≡ inverseFactorial t
+table-next : (t : ℕ) → suc t < tableSize → inverseFactorial (suc t) ⊗ of (suc t) ≡ inverseFactorial t
 unfolding inverseFactorial
 table-next t l = of-mul (getD inverseFactorials (suc t) 0) (suc t) ∙ of-path _ (getD inverseFactorials t 0) (reduce _ _ (rule t l))
 
@@ -52,5 +55,5 @@ table-first : inverseFactorial 0 ≡ 𝟏
 unfolding inverseFactorial inverseFactorials
 table-first = of-one
 
-pub table : Table inverseFactorial 320
+pub table : Table inverseFactorial tableSize
 table = record { first = table-first; next = table-next }

@@ -1,14 +1,17 @@
-// The field of q = 4294967291 elements: single operations, sums over rows, the basis of interpolation over consecutive points.
+// The field of q = 4294967291 elements: single operations, dot products, sums of rows, the basis of interpolation over consecutive points.
 ghost use mathlib.Core.Path.{_≡_};
 ghost use Prim.Native.Nat.{_+_, _-_, _*_, _%_, _<_, _≤_};
-ghost use lib.ListN.{length};
+ghost use lib.ListN.{length, replicate};
 ghost use Rattle.algebra.specs.Prime.{q};
 ghost use Rattle.algebra.specs.Numbers.{evalN};
 ghost use Rattle.algebra.specs.Columns.{powN};
 ghost use Rattle.algebra.specs.Inverse.{invN};
-ghost use Rattle.algebra.specs.Table.{inverseFactorials};
+ghost use Rattle.algebra.specs.Table.{tableSize, inverseFactorials};
 ghost use Rattle.lists.specs.Tabulate.{tabulate};
-ghost use Rattle.algebra.specs.Dot.{dotN, dotsOf, accumulateN};
+ghost use Rattle.algebra.specs.Dot.{longest, spare, dotN, dotsOf, accumulateN};
+ghost use Rattle.algebra.specs.Sums.{sumsOf, lowAdded, highAdded, SmallProducts, Spare, Summed, reducedAt};
+ghost use Rattle.lists.specs.All.{All};
+ghost use Rattle.lists.specs.Fill.{Filled};
 ghost use Rattle.lists.specs.Range.{upFrom};
 ghost use Rattle.algebra.specs.Basis.{lowerN, upperN, basisN};
 
@@ -17,19 +20,13 @@ const Q: u64 = 4294967291;
 
 const Q32: u32 = 4294967291;
 
-// Where `dot` splits a product: at 2^33, which is 10 modulo q. (At 2^32 the compiler makes a slow multiply-high of it.)
+// Where a product is split: at 2^33, which is 10 modulo q. (At 2^32 the compiler makes a slow multiply-high of it.)
 const SPLIT: u64 = 8589934592;
 
 // An element of the field, and a point of it.
 pub struct Element(pub u32);
 
 // ---- single operations
-
-pub fn add(a: Element, b: Element) -> Element
-    ensures { λ r. ⌜ r .0 ≡ (a .0 + b .0) % q ⌝ }
-{
-    Element(((a.0 as u64 + b.0 as u64) % Q) as u32)
-}
 
 pub fn subtract(a: Element, b: Element) -> Element
     requires { ⌜ b .0 ≤ q ⌝ }
@@ -95,9 +92,17 @@ fn product(a: u32, b: u32) -> u64
     a as u64 * b as u64
 }
 
+// The sums of the lower and the upper parts of products together, reduced.
+fn reduce_sum(low: u64, high: u64) -> u32
+    requires { ⌜ (low < spare) × (high < spare) ⌝ }
+    ensures { λ r. ⌜ r ≡ (low + 10 * high) % q ⌝ }
+{
+    ((low + 10 * high) % Q) as u32
+}
+
 // The sum of the products of the entries. The lower and the upper parts of the products are summed apart, and reduced once at the end.
 pub fn dot(a: &[u32], b: &[u32]) -> Element
-    requires { ⌜ (length (now b) ≡ length (now a)) × (length (now a) ≤ 65536) ⌝ }
+    requires { ⌜ (length (now b) ≡ length (now a)) × (length (now a) ≤ longest) ⌝ }
     ensures { λ r. ⌜ r .0 ≡ dotN (now (a .entry)) (now (b .entry)) ⌝ }
 {
     let n = a.len();
@@ -110,7 +115,7 @@ pub fn dot(a: &[u32], b: &[u32]) -> Element
         high += p / SPLIT;
         i += 1;
     }
-    Element(((low + 10 * high) % Q) as u32)
+    Element(reduce_sum(low, high))
 }
 
 // The dot products of the weights with rows that stand one after the other.
@@ -130,18 +135,67 @@ pub fn dots(weights: &[u32], rows: &[u32], out: &mut [u32])
     }
 }
 
-// acc + c row, entry by entry.
-pub fn accumulate(acc: &mut [u32], c: Element, row: &[u32])
-    requires { ⌜ length (now row) ≡ length (now acc) ⌝ }
-    ensures { λ _. ⌜ now (acc .exit) ≡ accumulateN (now (acc .entry)) (c .0) (now (row .entry)) ⌝ }
+// c times the row, added: the lower parts of the products to `low`, the upper parts to `high`.
+fn add_multiple(c: u32, row: &[u32], low: &mut [u64], high: &mut [u64])
+    requires { ⌜ (length (now low) ≡ length (now row)) × (length (now high) ≡ length (now row)) × Spare (now low) × Spare (now high) ⌝ }
+    ensures { λ _. ⌜ Filled (lowAdded c (now (row .entry)) (now (low .entry))) (now (low .exit)) 0 (length (now (row .entry))) × Filled (highAdded c (now (row .entry)) (now (high .entry))) (now (high .exit)) 0 (length (now (row .entry))) × SmallProducts c (now (row .entry)) (length (now (row .entry))) ⌝ }
 {
-    let n = acc.len();
+    let n = row.len();
     let mut i = 0;
     while i < n {
-        let v = multiply_add(Element(acc[i]), c, Element(row[i]));
-        acc[i] = v.0;
+        let p = product(c, row[i]);
+        low[i] += p % SPLIT;
+        high[i] += p / SPLIT;
         i += 1;
     }
+}
+
+// The rows, each times its weight, added to sums that are 0 at first.
+fn add_rows(weights: &[u32], rows: &[u32], low: &mut [u64], high: &mut [u64])
+    requires { ⌜ (length (now high) ≡ length (now low)) × (length (now low) * length (now weights) ≤ length (now rows)) × (length (now weights) ≤ longest) × All (λ x. x ≡ 0) (now low) × All (λ x. x ≡ 0) (now high) ⌝ }
+    ensures { λ _. ⌜ Summed (now (weights .entry)) (length (now (low .entry))) (now (rows .entry)) (length (now (weights .entry))) (now (low .exit)) (now (high .exit)) × Spare (now (low .exit)) × Spare (now (high .exit)) ⌝ }
+{
+    let n = low.len();
+    let count = weights.len();
+    let mut j = 0;
+    while j < count {
+        let from = n * j;
+        let to = from + n;
+        add_multiple(weights[j], &rows[from..to], low, high);
+        j += 1;
+    }
+}
+
+// The sums of the lower and the upper parts together, reduced.
+fn reduce_sums(low: &[u64], high: &[u64], out: &mut [u32])
+    requires { ⌜ (length (now low) ≡ length (now out)) × (length (now high) ≡ length (now out)) × Spare (now low) × Spare (now high) ⌝ }
+    ensures { λ _. ⌜ now (out .exit) ≡ tabulate (length (now (out .entry))) (reducedAt (now (low .entry)) (now (high .entry))) ⌝ }
+{
+    let n = out.len();
+    let mut i = 0;
+    while i < n {
+        out[i] = reduce_sum(low[i], high[i]);
+        i += 1;
+    }
+}
+
+// Room for sums. A function of its own, so that a caller's goals do not show 64 zeros.
+fn blank_sums() -> [u64; 64]
+    ensures { λ r. ⌜ r ≡ replicate 64 0 ⌝ }
+{
+    [0u64; 64]
+}
+
+// The sum of the rows, each times its weight, where the rows stand one after the other. Each entry is reduced once, as in `dot`.
+pub fn sum_rows(weights: &[u32], rows: &[u32], out: &mut [u32])
+    requires { ⌜ (length (now out) * length (now weights) ≤ length (now rows)) × (length (now weights) ≤ longest) × (length (now out) ≤ 64) ⌝ }
+    ensures { λ _. ⌜ now (out .exit) ≡ sumsOf (now (weights .entry)) (length (now (out .entry))) (now (rows .entry)) ⌝ }
+{
+    let n = out.len();
+    let mut low = blank_sums();
+    let mut high = blank_sums();
+    add_rows(weights, rows, &mut low[..n], &mut high[..n]);
+    reduce_sums(&low[..n], &high[..n], out);
 }
 
 // row + c acc, entry by entry: a step of Horner's rule over rows.
@@ -187,7 +241,9 @@ pub fn powers(x: Element, out: &mut [u32])
 
 // ---- consecutive points
 
-const INVERSE_FACTORIALS: [u32; 320] = [
+const TABLE_SIZE: usize = 320;
+
+const INVERSE_FACTORIALS: [u32; TABLE_SIZE] = [
     1,
     1,
     2147483646,
@@ -511,7 +567,7 @@ const INVERSE_FACTORIALS: [u32; 320] = [
 ];
 
 // The inverses of 0!, 1!, .., 319!. Reading the table copies it: read it once, and lend it on.
-pub fn inverse_factorials() -> [u32; 320]
+pub fn inverse_factorials() -> [u32; TABLE_SIZE]
     ensures { λ r. ⌜ r ≡ inverseFactorials ⌝ }
 {
     INVERSE_FACTORIALS
@@ -563,7 +619,7 @@ fn upper_factors(table: &[u32], first: Element, x: Element, out: &mut [u32])
 // The values at x of the basis of interpolation over the points first, first + 1, ..:
 // their dot product with values at these points is the value at x of the polynomial through them.
 pub fn basis(first: Element, x: Element, out: &mut [u32])
-    requires { ⌜ (first .0 + length (now out) ≤ q) × (length (now out) ≤ 320) × (x .0 < q) ⌝ }
+    requires { ⌜ (first .0 + length (now out) ≤ q) × (length (now out) ≤ tableSize) × (x .0 < q) ⌝ }
     ensures { λ _. ⌜ now (out .exit) ≡ basisN (upFrom (first .0) (length (now (out .entry)))) (x .0) ⌝ }
 {
     let table = inverse_factorials();

@@ -4,7 +4,7 @@ use mathlib.Core.Logic.{_≢_, ⊎-elim}
 use mathlib.Core.List.{List, [], _∷_, _++_, map, flatten, List·Memᴰ as Mem, List·Memᴰ·head as here, List·Memᴰ·tail as there, List·Memᴰ·not-nil as not-nil, List·Memᴰ·cases-cons as in-cons}
 use Prim.Native.Nat.{ℕ, zero, suc, _<_, suc-le-suc}
 use native.Mathlib.Nat.{not-suc-le-zero, le-of-suc-le-suc, zero-lt-suc}
-use lib.ListN.{length, getD, take, drop}
+use lib.ListN.{length, getD, take, drop, replicate}
 
 abbrev pub All : {A : Type 0} → (A → Type 0) → List A → Type 0
 All P [] = Unit {0}
@@ -21,6 +21,10 @@ all-map f P (x ∷ xs) h = (h .0, all-map f P xs (h .1))
 pub all-each : {A B : Type 0} (P : B → Type 0) (f : A → B) (xs : List A) → ((x : A) → P (f x)) → All P (map f xs)
 all-each P f [] h = tt
 all-each P f (x ∷ xs) h = (h x, all-each P f xs h)
+
+pub all-replicate : {A : Type 0} (P : A → Type 0) (n : ℕ) (a : A) → P a → All P (replicate n a)
+all-replicate P zero a h = tt
+all-replicate P (suc n) a h = (h, all-replicate P n a h)
 
 -- ---- by places
 
@@ -99,13 +103,6 @@ mem-sized {A} n xs h = mem-all (λ (y : List A). length y ≡ n) xs h
 abbrev pub Distinct : {A : Type 0} → List A → Type 0
 Distinct [] = Unit {0}
 Distinct {A} (x ∷ xs) = All (λ (y : A). y ≢ x) xs × Distinct xs
-
-pub distinct-from : {A : Type 0} (d : A) (xs : List A) → ((i j : ℕ) → i < j → j < length xs → getD xs j d ≢ getD xs i d) → Distinct xs
-distinct-from d [] h = tt
-distinct-from {A} d (x ∷ xs) h = (
-  all-from (λ (y : A). y ≢ x) d xs (λ (i : ℕ) (l : i < length xs). h 0 (suc i) (zero-lt-suc i) (suc-le-suc l)),
-  distinct-from d xs (λ (i j : ℕ) (l : i < j) (m : j < length xs). h (suc i) (suc j) (suc-le-suc l) (suc-le-suc m)),
-)
 
 pub distinct-at : {A : Type 0} (d : A) (xs : List A) → Distinct xs → (i j : ℕ) → i < j → j < length xs → getD xs j d ≢ getD xs i d
 distinct-at d [] h i j l m = absurd (not-suc-le-zero m)
