@@ -1,4 +1,2 @@
-pub mod Lane
-pub mod Keccak
 pub mod Shake
 pub mod Digest

@@ -6,7 +6,7 @@ use lib.Bits.{bitXor}
 use lib.ListN.{length, getD, take, drop, replicate}
 use Rattle.lists.specs.Tabulate.{tabulate}
 use Rattle.lists.specs.Number.{number}
-use Rattle.sponge.specs.Keccak.{keccakF}
+use Rattle.keccak.specs.Keccak.{keccakF}
 
 -- ---- sections 5.1 and 6.2: the bits after the message
 

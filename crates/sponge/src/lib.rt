@@ -1,13 +1,22 @@
 // SHAKE256 of FIPS 202, cut to 32 bytes.
 ghost use mathlib.Core.Path.{_≡_};
-ghost use Prim.Native.Nat.{_+_, _/_, _%_, _<_, _≤_};
+ghost use Prim.Native.Nat.{_+_, _*_, _/_, _%_, _<_, _≤_};
 ghost use lib.Bits.{bitXor};
 ghost use lib.ListN.{length, getD, set, take};
+ghost use Rattle.lists.specs.Tabulate.{filled};
 ghost use Rattle.sponge.specs.Shake as S;
 ghost use Rattle.sponge.specs.Digest as D;
 
-mod keccak; // keccak.rt: the permutation
 mod words; // words.rt: bytes as lanes
+
+// One lane ⊕ the eight bytes from `at` on.
+fn xor_full_word(a: &mut [u64; 25], lane: usize, s: &[u8], at: usize)
+    requires { ⌜ (lane < 25) × (at + 8 ≤ length (now s)) ⌝ }
+    ensures { λ _. ⌜ now (a .exit) ≡ set (now (a .entry)) lane (bitXor (getD (now (a .entry)) lane 0) (S.word (now (s .entry)) at)) ⌝ }
+{
+    let w = words::full_word(s, at);
+    a[lane] = a[lane] ^ w;
+}
 
 // One lane ⊕ the eight bytes from `at` on, or those left.
 fn xor_word(a: &mut [u64; 25], lane: usize, s: &[u8], at: usize)
@@ -18,14 +27,22 @@ fn xor_word(a: &mut [u64; 25], lane: usize, s: &[u8], at: usize)
     a[lane] = a[lane] ^ w;
 }
 
-// The lanes of the rate ⊕ the 136 bytes from `at` on, or those left.
+// The first n lanes ⊕ the 8 n bytes from `at` on.
+fn xor_words(a: &mut [u64; 25], s: &[u8], at: usize, n: usize)
+    requires { ⌜ (length (now a) ≡ 25) × (n ≤ 17) × (at + 8 * n ≤ length (now s)) ⌝ }
+    ensures { λ _. ⌜ now (a .exit) ≡ filled (λ j. bitXor (getD (now (a .entry)) j 0) (S.word (now (s .entry)) (at + 8 * j))) n (now (a .entry)) ⌝ }
+{
+    for j in 0..n {
+        xor_full_word(a, j, s, at + 8 * j);
+    }
+}
+
+// The lanes of the rate ⊕ the 136 bytes from `at` on.
 fn xor_block(a: &mut [u64; 25], s: &[u8], at: usize)
-    requires { ⌜ (length (now a) ≡ 25) × (at ≤ length (now s)) ⌝ }
+    requires { ⌜ (length (now a) ≡ 25) × (at + 136 ≤ length (now s)) ⌝ }
     ensures { λ _. ⌜ now (a .exit) ≡ S.xorBlock (now (a .entry)) (now (s .entry)) at ⌝ }
 {
-    for j in 0..17 {
-        xor_word(a, j, s, at + 8 * j);
-    }
+    xor_words(a, s, at, 17);
 }
 
 // The lanes of the rate ⊕ the last block of the padded string, of which the string itself fills fewer than 136 bytes. The padding goes straight into
@@ -34,9 +51,10 @@ fn xor_last_block(a: &mut [u64; 25], s: &[u8], at: usize)
     requires { ⌜ (length (now a) ≡ 25) × (at ≤ length (now s)) × (length (now s) < at + 136) × (at % 136 ≡ 0) ⌝ }
     ensures { λ _. ⌜ now (a .exit) ≡ S.xorBlock (now (a .entry)) (S.padded (now (s .entry))) at ⌝ }
 {
-    xor_block(a, s, at);
     let n = s.len() - at;
     let lane = n / 8;
+    xor_words(a, s, at, lane);
+    xor_word(a, lane, s, at + 8 * lane);
     let shift = n % 8 * 8;
     a[lane] = a[lane] ^ (0x1f << shift);
     a[16] = a[16] ^ 0x8000_0000_0000_0000;
@@ -50,12 +68,12 @@ fn absorb(s: &[u8]) -> [u64; 25]
     let mut at: usize = 0;
     while 136 <= s.len() - at {
         xor_block(&mut a, s, at);
-        let b = keccak::keccak_f(a);
-        a = b;
+        keccak::keccak_f(&mut a);
         at += 136;
     }
     xor_last_block(&mut a, s, at);
-    keccak::keccak_f(a)
+    keccak::keccak_f(&mut a);
+    a
 }
 
 // The first 32 bytes of a state.

@@ -27,7 +27,7 @@ fn pair(lo: u8, hi: u8) -> u64
 }
 
 // The eight bytes from `at` on as one number.
-fn full_word(s: &[u8], at: usize) -> u64
+pub fn full_word(s: &[u8], at: usize) -> u64
     requires { ⌜ at + 8 ≤ length (now s) ⌝ }
     ensures { λ r. ⌜ r ≡ S.word (now (s .entry)) at ⌝ }
 {

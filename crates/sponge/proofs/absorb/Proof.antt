@@ -3,11 +3,11 @@ use mathlib.Core.Path.{_≡_, refl, ap, _∙_}
 use mathlib.Core.List.{List}
 use Prim.Native.Nat.{ℕ, suc, _+_, _-_, _*_, _/_, _%_, _≤_}
 use native.Mathlib.Omega.{arith}
-use borrow.Author.Needs.{needs}
 use lib.ListN.{length}
-use Rattle.sponge.specs.Keccak.{keccakF}
+use Rattle.keccak.specs.Keccak.{keccakF}
+use Rattle.keccak.specs.State.{length-keccakF}
 use Rattle.sponge.specs.Shake.{xorBlock, padded, absorbed}
-use Rattle.sponge.proofs.LastBlock.{full-block}
+use Rattle.sponge.proofs.LastBlock.{length-xorBlock, full-block}
 use Rattle.sponge.proofs.Padding.{length-padded}
 use Rattle.sponge.proofs.absorb.Statement.{statement}
 use Rattle.sponge.proofs.absorb.Tie as tie
@@ -37,7 +37,10 @@ xor-block-requires : tie.Need-xor-block-requires Inv-loop μ-loop
 xor-block-requires c κs = (omega arith, omega arith)
 
 keccak-f-requires : tie.Need-keccak-f-requires Inv-loop μ-loop
-keccak-f-requires c κs = search needs
+keccak-f-requires c κs =
+    let l = c .before .before .before .before .loop in
+    let e = c .before .before .before .before .before .before .args in
+    ap length (c .before .xor-block .ensures) ∙ length-xorBlock (l .a) (e .s .now) (l .at) (l .inv .0)
 
 add-at : tie.Need-add-at Inv-loop μ-loop
 add-at c = omega arith
@@ -47,13 +50,13 @@ loop-less c = omega arith
 
 loop-again : tie.Need-loop-again Inv-loop μ-loop
 loop-again c =
-    let l = c .before .before .before .before .loop in
-    let s = c .before .before .before .before .before .before .args .s .now in (
-      c .keccak-f .ok .1 .0 .1,
+    let l = c .before .before .before .before .before .loop in
+    let s = c .before .before .before .before .before .before .before .args .s .now in (
+      ap length (c .keccak-f .ensures) ∙ length-keccakF (c .before .before .xor-block .last .0),
       omega arith,
       omega arith,
       c .keccak-f .ensures
-          ∙ ap keccakF (c .before .xor-block .ensures ∙ full-block (l .a) s (l .at) (omega arith) ∙ ap (λ (x : List ℕ). xorBlock x (padded s) (l .at)) (l .inv .3))
+          ∙ ap keccakF (c .before .before .xor-block .ensures ∙ full-block (l .a) s (l .at) (omega arith) ∙ ap (λ (x : List ℕ). xorBlock x (padded s) (l .at)) (l .inv .3))
           ∙ next (padded s) (l .at) (l .inv .2),
     )
 
@@ -61,15 +64,18 @@ xor-last-block-requires : tie.Need-xor-last-block-requires Inv-loop μ-loop
 xor-last-block-requires c κs = (omega arith, omega arith, omega arith, omega arith)
 
 keccak-f-requires-2 : tie.Need-keccak-f-requires-2 Inv-loop μ-loop
-keccak-f-requires-2 c κs = search needs
+keccak-f-requires-2 c κs =
+    let l = c .before .before .before .before .loop in
+    let e = c .before .before .before .before .before .before .args in
+    ap length (c .before .xor-last-block .ensures) ∙ length-xorBlock (l .a) (padded (e .s .now)) (l .at) (l .inv .0)
 
 returns : tie.Need-returns Inv-loop μ-loop
 returns c =
-    let l = c .before .before .before .before .loop in
-    let s = c .before .before .before .before .before .before .args .s .now in
+    let l = c .before .before .before .before .before .loop in
+    let s = c .before .before .before .before .before .before .before .args .s .now in
     let count : (l .at + 136) / 136 ≡ length (padded s) / 136 = omega (arith, length-padded s) in
     c .keccak-f2 .ensures
-    ∙ ap keccakF (c .before .xor-last-block .ensures ∙ ap (λ (x : List ℕ). xorBlock x (padded s) (l .at)) (l .inv .3))
+    ∙ ap keccakF (c .before .before .xor-last-block .ensures ∙ ap (λ (x : List ℕ). xorBlock x (padded s) (l .at)) (l .inv .3))
     ∙ next (padded s) (l .at) (l .inv .2)
     ∙ ap (absorbed (padded s)) count
 

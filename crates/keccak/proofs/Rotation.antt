@@ -8,7 +8,7 @@ use lib.Bits.{bitOr, bitAnd, or-shifted, or-self, and-mask}
 use lib.Pow.{mod-pow-add, shr-shr, shl-shr, shr-lt}
 use Rattle.lists.specs.Tabulate.{tabulateFrom, length-from, split-from}
 use Rattle.lists.specs.Number.{number, number-append}
-use Rattle.sponge.specs.Lane.{bit, rotl}
+use Rattle.keccak.specs.Lane.{bit, rotl}
 
 -- k bits of x, from bit s on
 bits-from : (x : ℕ) (f : ℕ → ℕ) (k i s : ℕ) → ((j : ℕ) → j < k → f (i + j) ≡ bit x (s + j)) → number 2 (tabulateFrom i k f) ≡ x / 2 ^ s % 2 ^ k

@@ -6,7 +6,7 @@ use lib.Bits.{bitXor, bitAnd}
 use lib.Dec.{eqb}
 use lib.ListN.{getD, set, take}
 use Rattle.lists.specs.Tabulate.{tabulate}
-use Rattle.sponge.specs.Lane.{rotl, complement}
+use Rattle.keccak.specs.Lane.{rotl, complement}
 
 -- ---- section 3.1: the state array A, as the list of its 25 lanes. Lane (x, y) stands at 5 y + x, in the order of section 3.1.2:
 -- A[x, y, z] = S[64 (5 y + x) + z]

@@ -1,12 +1,12 @@
--- `sponge::keccak::rotate` meets its contract.
+-- `keccak::rotate` meets its contract.
 use mathlib.Core.Path.{_≡_}
 use Prim.Native.Nat.{ℕ, _%_}
 use native.Mathlib.Omega.{arith}
 use borrow.Author.Needs.{needs}
 use lib.Bits.{bitAnd, and-mask}
-use Rattle.sponge.proofs.Rotation.{shifts}
-use Rattle.sponge.proofs.keccak.rotate.Statement.{statement}
-use Rattle.sponge.proofs.keccak.rotate.Tie as tie
+use Rattle.keccak.proofs.Rotation.{shifts}
+use Rattle.keccak.proofs.rotate.Statement.{statement}
+use Rattle.keccak.proofs.rotate.Tie as tie
 
 masked : (k : ℕ) → bitAnd k 63 ≡ k % 64
 masked k = and-mask k 6

@@ -1,11 +1,11 @@
--- `sponge::keccak::theta_effect` meets its contract.
+-- `keccak::theta_effect` meets its contract.
 use mathlib.Core.Path.{refl, ap}
 use lib.Bits.{bitXor}
-use Rattle.sponge.specs.Keccak.{parity}
-use Rattle.sponge.proofs.Literal.{cons}
+use Rattle.keccak.specs.Keccak.{parity}
+use Rattle.keccak.proofs.Literal.{cons}
 use borrow.Author.Needs.{needs}
-use Rattle.sponge.proofs.keccak.theta_effect.Statement.{statement}
-use Rattle.sponge.proofs.keccak.theta_effect.Tie as tie
+use Rattle.keccak.proofs.theta_effect.Statement.{statement}
+use Rattle.keccak.proofs.theta_effect.Tie as tie
 
 returns : tie.Need-returns
 returns c =

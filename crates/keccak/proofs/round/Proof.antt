@@ -1,14 +1,16 @@
--- `sponge::keccak::theta_rho_pi` meets its contract: each entry by its rotation, then each D[x] by the contract of `theta_effect`.
+-- `keccak::round` meets its contract: each lane that π leaves by its rotation, then each D[x] by the contract of `theta_effect`, then χ and ι on
+-- the lanes that are complemented.
 use mathlib.Core.Path.{refl, ap, _∙_}
 use mathlib.Core.List.{List}
 use Prim.Native.Nat.{ℕ}
 use lib.Bits.{bitXor}
 use lib.ListN.{getD}
-use Rattle.sponge.specs.Keccak.{state, lane, rho, pi}
-use Rattle.sponge.proofs.Literal.{cons}
+use Rattle.keccak.specs.Keccak.{state, lane, rho, pi}
+use Rattle.keccak.proofs.Literal.{cons}
+use Rattle.keccak.proofs.Chi.{fewComplements, round-held}
 use borrow.Author.Needs.{needs}
-use Rattle.sponge.proofs.keccak.theta_rho_pi.Statement.{statement}
-use Rattle.sponge.proofs.keccak.theta_rho_pi.Tie as tie
+use Rattle.keccak.proofs.round.Statement.{statement}
+use Rattle.keccak.proofs.round.Tie as tie
 
 returns : tie.Need-returns
 returns c =
@@ -39,7 +41,9 @@ returns c =
     let c1 = c2 .before in
     let c0 = c1 .before in
     let a = c0 .before .args .t1 in
-    (cons (c1 .rotate .ensures)
+    let k = c0 .before .args .k in
+    ap (λ (b : List ℕ). fewComplements b k)
+    ((cons (c1 .rotate .ensures)
     (cons (c2 .rotate2 .ensures)
     (cons (c3 .rotate3 .ensures)
     (cons (c4 .rotate4 .ensures)
@@ -65,10 +69,11 @@ returns c =
     (cons (c24 .rotate24 .ensures)
     (cons (c25 .rotate25 .ensures)
     refl)))))))))))))))))))))))))
-    ∙ ap (λ (d : List ℕ). pi (rho (state (λ x y. bitXor (lane a x y) (getD d x 0))))) (c0 .theta-effect .ensures)
+    ∙ ap (λ (d : List ℕ). pi (rho (state (λ x y. bitXor (lane a x y) (getD d x 0))))) (c0 .theta-effect .ensures))
+    ∙ round-held a k
 
-pub theta-rho-pi-spec : {M : Type 1} → statement M
-theta-rho-pi-spec =
+pub round-spec : {M : Type 1} → statement M
+round-spec =
     tie.close
     (tie.spec
     (λ c κs. search needs) (λ c. search needs) (λ c. search needs) (λ c. search needs)

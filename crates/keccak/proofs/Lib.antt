@@ -1,0 +1,5 @@
+pub mod Literal
+pub mod Rotation
+pub mod Complement
+pub mod Linear
+pub mod Chi

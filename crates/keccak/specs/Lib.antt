@@ -1,0 +1,5 @@
+pub mod Lane
+pub mod Keccak
+pub mod Held
+pub mod State
+pub mod Xor
