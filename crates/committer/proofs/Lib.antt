@@ -1,5 +1,6 @@
-pub mod Values
-pub mod Table
+pub mod Gathering
+pub mod Masks
+pub mod Columns
 pub mod Digests
 pub mod Filled
 pub mod Verdicts

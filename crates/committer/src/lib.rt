@@ -1,31 +1,38 @@
 // Committing: the tests, the table of leaf values, the tree over the leaves.
 ghost use mathlib.Core.Path.{_≡_};
-ghost use mathlib.Core.List.{_++_, map, flatten};
-ghost use Prim.Native.Nat.{_+_, _*_, _<_, _≤_};
+ghost use mathlib.Core.List.{[], _++_, flatten};
+ghost use Prim.Native.Nat.{ℕ, _+_, _*_, _<_, _≤_};
 ghost use lib.ListN.{length, drop};
 ghost use Rattle.lists.specs.Bytes.{bytesOf};
-ghost use Rattle.lists.specs.Range.{upFrom};
-ghost use Rattle.lists.specs.Pieces.{pieces};
+ghost use Rattle.lists.specs.Pieces.{pieces, piece};
 ghost use Rattle.algebra.specs.Prime.{q};
-ghost use Rattle.algebra.specs.Numbers.{interpN, valuesAtN};
+ghost use Rattle.algebra.specs.Numbers.{valuesAtN};
 ghost use Rattle.sponge.specs.Digest.{digest};
 ghost use Rattle.tree.specs.Leaf.{leafString};
-ghost use Rattle.scheme.specs.Sizes.{sizesOf, leaves, width, leafPoint, recordValues};
-ghost use Rattle.scheme.specs.Layers.{lentOf};
+ghost use Rattle.extrapolation.specs.Lanes.{Small, KeptLanes, KeptColumns};
+ghost use Rattle.extrapolation.specs.Extrapolated.{Columns};
+ghost use Rattle.scheme.specs.Sizes.{sizesOf, leaves, rows, width, recordValues};
+ghost use Rattle.scheme.specs.Layers.{lentOf, extended};
 ghost use Rattle.scheme.specs.Commit.{tableOf, leafDigests, treeOf, commitVerdict, committing};
+ghost use Rattle.scheme.proofs.Accepted.{Good};
 ghost use Rattle.commitment.specs.Shape.{sizesIn};
-ghost use Rattle.committer.specs.Clauses.{Evaluable, valuesOf, Hashable, Committable};
+ghost use Rattle.lent.specs.Rows.{CanExtend, strided};
+ghost use Rattle.committer.specs.Values.{Gathered, Lane, RowLanes, MaskLanes, rowPolynomial};
+ghost use Rattle.committer.specs.Clauses.{Room, Evaluable, Hashable, Committable};
 use commitment::Shape;
+use commitment::column_count;
 use commitment::leaf_count;
 use commitment::put_bytes;
 use commitment::put_words;
+use commitment::record_values;
 use commitment::row_width;
 use commitment::sizes_ok;
+use extrapolation::extrapolate;
+use extrapolation::least;
 use field::Element;
-use field::basis;
 use field::dots;
+use field::point;
 use field::powers;
-use lent::extend;
 use lent::filled_ok;
 use lent::lent_elements;
 use lent::lent_ok;
@@ -33,80 +40,222 @@ use tree::LeafIndex;
 use tree::fill_tree;
 use tree::leaf_digest;
 
-// ---- leaf values
+// The widest row, and up to which width rows take small arrays.
+const WIDEST: usize = 320;
 
-// e_i, the point of leaf i: the one place where an index becomes a point.
-fn leaf_point(index: LeafIndex) -> Element
-    ensures { λ r. ⌜ r .0 ≡ leafPoint (index .0) ⌝ }
-{
-    Element(index.0)
-}
+const FEW: usize = 40;
 
-// Room for the weights of a row. A function of its own, so that a caller's goals do not show its zeros.
-fn blank_weights() -> [u32; 320] {
-    [0u32; 320]
-}
+// ---- values at N, N + 1, .., four lanes side by side: place 4t + j is lane j at the point N + t
 
-// The values at x of the polynomials through the rows at the points first, first + 1, ..
-fn row_values(first: Element, x: Element, rows: &[u32], width: usize, out: &mut [u32])
-    requires { ⌜ (first .0 + width ≤ q) × (width ≤ 320) × (x .0 < q) × (width * length (now out) ≤ length (now rows)) ⌝ }
-    ensures { λ _. ⌜ now (out .exit) ≡ valuesAtN (map (interpN (upFrom (first .0) width)) (pieces width (length (now (out .entry))) (now (rows .entry)))) (x .0) ⌝ }
-{
-    let mut weights = blank_weights();
-    basis(first, x, &mut weights[..width]);
-    dots(&weights[..width], rows, out);
-}
-
-// The values at x of the masks, whose coefficients stand one after the other.
-fn mask_values(x: Element, masks: &[u32], width: usize, out: &mut [u32])
-    requires { ⌜ (width ≤ 320) × (width * length (now out) ≤ length (now masks)) ⌝ }
-    ensures { λ _. ⌜ now (out .exit) ≡ valuesAtN (pieces width (length (now (out .entry))) (now (masks .entry))) (x .0) ⌝ }
-{
-    let mut weights = blank_weights();
-    powers(x, &mut weights[..width]);
-    dots(&weights[..width], masks, out);
-}
-
-// The values of a leaf: of each row's polynomial, then of each mask. The first value point is N.
-fn leaf_values(
-    s: Shape,
-    first: Element,
-    index: LeafIndex,
-    rows: &[u32],
-    masks: &[u32],
-    out: &mut [u32],
+// Every step-th element from the first on, as `count` values of lane j from place `to` on.
+fn gather_lane(
+    elements: &[u32],
+    first: usize,
+    step: usize,
+    count: usize,
+    to: usize,
+    j: usize,
+    values: &mut [u32],
 )
-    requires { ⌜ Evaluable (sizesIn s) (now rows) (now masks) × (first .0 ≡ leaves (sizesIn s)) × (index .0 < leaves (sizesIn s)) × (length (now out) ≡ recordValues (sizesIn s)) ⌝ }
-    ensures { λ _. ⌜ now (out .exit) ≡ valuesOf (sizesIn s) (now (rows .entry)) (now (masks .entry)) (index .0) ⌝ }
+    requires { ⌜ (j < 4) × (first + step * count < length (now elements) + step) × (4 * (to + count) ≤ length (now values)) ⌝ }
+    ensures { λ _. ⌜ KeptLanes (now (values .entry)) j (now (values .exit)) × Gathered (strided (now (elements .entry)) first step) count to j (now (values .entry)) (now (values .exit)) ⌝ }
 {
-    let mu = s.mu as usize;
-    let width = row_width(s);
-    let x = leaf_point(index);
-    row_values(first, x, rows, width, &mut out[..mu]);
-    mask_values(x, masks, width, &mut out[mu..]);
+    let mut i = 0;
+    while i < count {
+        values[4 * (to + i) + j] = elements[first + step * i];
+        i += 1;
+    }
 }
 
-// The table, leaf by leaf.
-fn fill_table(s: Shape, rows: &[u32], masks: &[u32], table: &mut [u32])
-    requires { ⌜ Evaluable (sizesIn s) (now rows) (now masks) × (length (now table) ≡ leaves (sizesIn s) * recordValues (sizesIn s)) ⌝ }
-    ensures { λ _. ⌜ now (table .exit) ≡ flatten (map (valuesOf (sizesIn s) (now (rows .entry)) (now (masks .entry))) (upFrom 0 (leaves (sizesIn s)))) ⌝ }
+// A row with its tails, as lane j. A row's entries stand one column apart, its tails one after the other.
+fn gather_row(
+    s: Shape,
+    coefficients: &[u32],
+    tails: &[u32],
+    row: usize,
+    j: usize,
+    values: &mut [u32],
+)
+    requires { ⌜ CanExtend (sizesIn s) (now coefficients) (now tails) × (row < rows (sizesIn s)) × (j < 4) × (4 * width (sizesIn s) ≤ length (now values)) ⌝ }
+    ensures { λ _. ⌜ KeptLanes (now (values .entry)) j (now (values .exit)) × Lane (extended (sizesIn s) (lentOf (now (coefficients .entry)) (now (tails .entry)) [] []) row) (width (sizesIn s)) j (now (values .exit)) ⌝ }
+{
+    let columns = column_count(s);
+    let l = s.l as usize;
+    gather_lane(coefficients, row, s.mu as usize, columns, 0, j, values);
+    gather_lane(tails, row * l, 1, l, columns, j, values);
+}
+
+// The rows from lo on, a lane each.
+fn gather_rows(
+    s: Shape,
+    coefficients: &[u32],
+    tails: &[u32],
+    lo: usize,
+    lanes: usize,
+    values: &mut [u32],
+)
+    requires { ⌜ CanExtend (sizesIn s) (now coefficients) (now tails) × (lo + lanes ≤ rows (sizesIn s)) × (lanes ≤ 4) × (4 * width (sizesIn s) ≤ length (now values)) ⌝ }
+    ensures { λ _. ⌜ RowLanes (sizesIn s) (lentOf (now (coefficients .entry)) (now (tails .entry)) [] []) lo lanes (now (values .exit)) ⌝ }
+{
+    let mut j = 0;
+    while j < lanes {
+        gather_row(s, coefficients, tails, lo + j, j, values);
+        j += 1;
+    }
+}
+
+// The values at x of the masks, whose coefficients stand one after the other. `weights` is room for the powers of x.
+fn mask_values(x: Element, masks: &[u32], weights: &mut [u32], out: &mut [u32])
+    requires { ⌜ (length (now weights) ≤ 320) × (length (now weights) * length (now out) ≤ length (now masks)) ⌝ }
+    ensures { λ _. ⌜ now (out .exit) ≡ valuesAtN (pieces (length (now (weights .entry))) (length (now (out .entry))) (now (masks .entry))) (x .0) ⌝ }
+{
+    powers(x, weights);
+    dots(weights, masks, out);
+}
+
+// The values of the masks at the points first, first + 1, .., a lane each.
+fn gather_masks(first: Element, masks: &[u32], eta: usize, weights: &mut [u32], values: &mut [u32])
+    requires { ⌜ (first .0 + length (now weights) ≤ q) × (length (now weights) ≤ 320) × (length (now weights) * eta ≤ length (now masks)) × (eta ≤ 4) × (4 * length (now weights) ≤ length (now values)) ⌝ }
+    ensures { λ _. ⌜ MaskLanes (first .0) (now (masks .entry)) (length (now (weights .entry))) eta (length (now (weights .entry))) (now (values .exit)) ⌝ }
+{
+    let width = weights.len();
+    let mut t = 0;
+    while t < width {
+        let start = 4 * t;
+        let end = start + eta;
+        mask_values(point(first, t), masks, weights, &mut values[start..end]);
+        t += 1;
+    }
+}
+
+// ---- the table
+
+// The columns of the rows, four at a time.
+fn fill_rows(
+    s: Shape,
+    coefficients: &[u32],
+    tails: &[u32],
+    values: &mut [u32],
+    lines: &mut [u64],
+    table: &mut [u32],
+)
+    requires { ⌜ CanExtend (sizesIn s) (now coefficients) (now tails) × Room (width (sizesIn s)) (now values) (now lines) × (length (now table) ≡ leaves (sizesIn s) * recordValues (sizesIn s)) ⌝ }
+    ensures { λ _. ⌜ Small (now (lines .exit)) × Columns (rowPolynomial (sizesIn s) (lentOf (now (coefficients .entry)) (now (tails .entry)) [] [])) (rows (sizesIn s)) (leaves (sizesIn s)) 0 (recordValues (sizesIn s)) (now (table .exit)) ⌝ }
 {
     let n = leaf_count(s.h);
-    let values = s.mu as usize + s.eta as usize;
-    let first = Element(n as u32);
-    let mut i = 0;
-    while i < n {
-        let start = i * values;
-        let end = start + values;
-        leaf_values(
+    let width = row_width(s);
+    let stride = record_values(s);
+    let mu = s.mu as usize;
+    let mut lo = 0;
+    while lo < mu {
+        let lanes = least(4, mu - lo);
+        gather_rows(s, coefficients, tails, lo, lanes, values);
+        extrapolate(values, width, lanes, n, lines, lo, stride, table);
+        lo += lanes;
+    }
+}
+
+// The columns of the masks, after those of the rows.
+fn fill_masks(
+    s: Shape,
+    masks: &[u32],
+    weights: &mut [u32],
+    values: &mut [u32],
+    lines: &mut [u64],
+    table: &mut [u32],
+)
+    requires { ⌜ Good (sizesIn s) × (length (now masks) ≡ s .eta * width (sizesIn s)) × (width (sizesIn s) ≤ length (now weights)) × Room (width (sizesIn s)) (now values) (now lines) × (length (now table) ≡ leaves (sizesIn s) * recordValues (sizesIn s)) ⌝ }
+    ensures { λ _. ⌜ KeptColumns (recordValues (sizesIn s)) (rows (sizesIn s)) (s .eta) (now (table .entry)) (now (table .exit)) × Columns (λ (k : ℕ). piece (width (sizesIn s)) k (now (masks .entry))) (s .eta) (leaves (sizesIn s)) (rows (sizesIn s)) (recordValues (sizesIn s)) (now (table .exit)) ⌝ }
+{
+    let n = leaf_count(s.h);
+    let width = row_width(s);
+    let stride = record_values(s);
+    let mu = s.mu as usize;
+    let eta = s.eta as usize;
+    gather_masks(Element(n as u32), masks, eta, &mut weights[..width], values);
+    extrapolate(values, width, eta, n, lines, mu, stride, table);
+}
+
+// The columns of the rows, then those of the masks.
+fn fill_columns(
+    s: Shape,
+    coefficients: &[u32],
+    tails: &[u32],
+    masks: &[u32],
+    weights: &mut [u32],
+    values: &mut [u32],
+    lines: &mut [u64],
+    table: &mut [u32],
+)
+    requires { ⌜ Evaluable (sizesIn s) (now coefficients) (now tails) (now masks) (now table) × (width (sizesIn s) ≤ length (now weights)) × Room (width (sizesIn s)) (now values) (now lines) ⌝ }
+    ensures { λ _. ⌜ now (table .exit) ≡ tableOf (sizesIn s) (lentOf (now (coefficients .entry)) (now (tails .entry)) (now (masks .entry)) []) ⌝ }
+{
+    fill_rows(s, coefficients, tails, values, lines, table);
+    fill_masks(s, masks, weights, values, lines, table);
+}
+
+// Room for the powers of a point, for the values of four lanes, and for a table of differences: for the widest rows, and for narrow ones.
+fn blank_weights() -> [u32; WIDEST] {
+    [0u32; WIDEST]
+}
+
+fn blank_few_weights() -> [u32; FEW] {
+    [0u32; FEW]
+}
+
+fn blank_values() -> [u32; 4 * WIDEST] {
+    [0u32; 4 * WIDEST]
+}
+
+fn blank_few_values() -> [u32; 4 * FEW] {
+    [0u32; 4 * FEW]
+}
+
+fn blank_lines() -> [u64; 4 * WIDEST]
+    ensures { λ r. ⌜ Small r ⌝ }
+{
+    [0u64; 4 * WIDEST]
+}
+
+fn blank_few_lines() -> [u64; 4 * FEW]
+    ensures { λ r. ⌜ Small r ⌝ }
+{
+    [0u64; 4 * FEW]
+}
+
+// The table: all leaves' values. Narrow rows take small arrays, since arrays are cleared.
+fn fill_table(s: Shape, coefficients: &[u32], tails: &[u32], masks: &[u32], table: &mut [u32])
+    requires { ⌜ Evaluable (sizesIn s) (now coefficients) (now tails) (now masks) (now table) ⌝ }
+    ensures { λ _. ⌜ now (table .exit) ≡ tableOf (sizesIn s) (lentOf (now (coefficients .entry)) (now (tails .entry)) (now (masks .entry)) []) ⌝ }
+{
+    if row_width(s) <= FEW {
+        let mut weights = blank_few_weights();
+        let mut values = blank_few_values();
+        let mut lines = blank_few_lines();
+        fill_columns(
             s,
-            first,
-            LeafIndex(i as u32),
-            rows,
+            coefficients,
+            tails,
             masks,
-            &mut table[start..end],
+            &mut weights,
+            &mut values,
+            &mut lines,
+            table,
         );
-        i += 1;
+    } else {
+        let mut weights = blank_weights();
+        let mut values = blank_values();
+        let mut lines = blank_lines();
+        fill_columns(
+            s,
+            coefficients,
+            tails,
+            masks,
+            &mut weights,
+            &mut values,
+            &mut lines,
+            table,
+        );
     }
 }
 
@@ -155,37 +304,7 @@ fn hash_leaves(s: Shape, table: &[u32], nonces: &[u8], tree: &mut [u8])
 
 // ---- committing
 
-// Room for all rows with their tails, at the largest sizes, and where they have at most 512 elements.
-fn blank_rows() -> [u32; 20480] {
-    [0u32; 20480]
-}
-
-fn blank_few_rows() -> [u32; 512] {
-    [0u32; 512]
-}
-
-// The table, and the tree over it; `rows` is room for all rows with their tails.
-fn fill_over(
-    s: Shape,
-    coefficients: &[u32],
-    tails: &[u32],
-    masks: &[u32],
-    nonces: &[u8],
-    rows: &mut [u32],
-    table: &mut [u32],
-    tree: &mut [u8],
-)
-    requires { ⌜ Committable (sizesIn s) (lentOf (now coefficients) (now tails) (now masks) (now nonces)) (now table) (now tree) × (s .mu * width (sizesIn s) ≤ length (now rows)) ⌝ }
-    ensures { λ _. ⌜ now (table .exit) ≡ tableOf (sizesIn s) (lentOf (now (coefficients .entry)) (now (tails .entry)) (now (masks .entry)) (now (nonces .entry))) ⌝ }
-    ensures { λ _. ⌜ now (tree .exit) ≡ treeOf (sizesIn s) (lentOf (now (coefficients .entry)) (now (tails .entry)) (now (masks .entry)) (now (nonces .entry))) ⌝ }
-{
-    extend(s, coefficients, tails, rows);
-    fill_table(s, rows, masks, table);
-    hash_leaves(s, table, nonces, tree);
-    fill_tree(s.h as usize, leaf_count(s.h), tree);
-}
-
-// The table, and the tree over it. Few rows take a small array, since arrays are cleared.
+// The table, and the tree over it.
 fn fill(
     s: Shape,
     coefficients: &[u32],
@@ -199,31 +318,9 @@ fn fill(
     ensures { λ _. ⌜ now (table .exit) ≡ tableOf (sizesIn s) (lentOf (now (coefficients .entry)) (now (tails .entry)) (now (masks .entry)) (now (nonces .entry))) ⌝ }
     ensures { λ _. ⌜ now (tree .exit) ≡ treeOf (sizesIn s) (lentOf (now (coefficients .entry)) (now (tails .entry)) (now (masks .entry)) (now (nonces .entry))) ⌝ }
 {
-    if s.mu as usize * row_width(s) <= 512 {
-        let mut rows = blank_few_rows();
-        fill_over(
-            s,
-            coefficients,
-            tails,
-            masks,
-            nonces,
-            &mut rows,
-            table,
-            tree,
-        );
-    } else {
-        let mut rows = blank_rows();
-        fill_over(
-            s,
-            coefficients,
-            tails,
-            masks,
-            nonces,
-            &mut rows,
-            table,
-            tree,
-        );
-    }
+    fill_table(s, coefficients, tails, masks, table);
+    hash_leaves(s, table, nonces, tree);
+    fill_tree(s.h as usize, leaf_count(s.h), tree);
 }
 
 // The number of the first test that holds, or 0.

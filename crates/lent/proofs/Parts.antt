@@ -5,36 +5,13 @@ use Prim.Native.Nat.{ℕ, zero, suc, _+_, _-_, _*_, _≤_, _<_}
 use native.Mathlib.Nat.{add-zero, zero-add, suc-add, add-suc}
 use native.Mathlib.Numerals.{add-one}
 use native.Mathlib.Omega.{arith}
-use lib.ListN.{length, take, drop, length-map, length-append, length-drop, drop-of-length-le}
-use lib.Seq.{take-at, drop-at, drop-drop, take-all, length-take-le}
+use lib.ListN.{length, take, drop, length-map, length-append, length-drop}
+use lib.Seq.{take-at, drop-at, drop-drop, length-take-le}
 use borrow.Rule.Slice.PartMut.{putMid}
 use Rattle.lists.specs.Range.{upFrom, length-upFrom}
 use Rattle.lists.specs.Pieces.{length-flatten}
 use Rattle.scheme.proofs.Row.{all-run}
 use Rattle.lists.specs.Parts.{row-fits}
-
--- ---- two parts: ys fills the first n places, zs all others
-
-module _ (n m : ℕ) (old ys : List ℕ) (e : length ys ≡ n) (f : length old ≡ n + m) where
-  abbrev pub front : List ℕ
-  front = ys ++ drop n old
-
-  pub front-length : length front ≡ n + m
-  front-length = length-append ys (drop n old) ∙ omega (arith, length-drop n old)
-
-  rest-all : take (length front - n) (drop n front) ≡ drop n old
-  rest-all =
-      ap (take (length front - n)) (drop-at ys (drop n old) n e)
-      ∙ take-all (length front - n) (drop n old) (omega (arith, front-length, length-drop n old))
-
-  pub rest-length : length (take (length front - n) (drop n front)) ≡ m
-  rest-length = ap length rest-all ∙ omega (arith, length-drop n old)
-
-  pub two-parts : (zs : List ℕ) → putMid n (length front - n) front zs ≡ ys ++ zs
-  two-parts zs =
-      ap₂ (λ (a b : List ℕ). a ++ (zs ++ b)) (take-at ys (drop n old) n e)
-      (ap (drop (length front - n)) (drop-at ys (drop n old) n e) ∙ drop-of-length-le (drop n old) {i = length front - n} (omega (arith, front-length, length-drop n old)))
-      ∙ ap (λ (a : List ℕ). ys ++ a) (append-nil zs)
 
 -- ---- many parts of k places each: f 0, f 1, .. fill the first i, and the others are as they were
 

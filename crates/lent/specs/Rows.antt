@@ -1,4 +1,4 @@
--- Clauses of the functions that write the rows.
+-- Rows as they stand in what is lent.
 use mathlib.Core.Path.{_≡_}
 use mathlib.Core.Bool.{true}
 use mathlib.Core.List.{List}

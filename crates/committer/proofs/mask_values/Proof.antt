@@ -1,88 +1,31 @@
--- `committer::mask_values` meets its contract: the front of the room has the weights.
-use mathlib.Core.Path.{_≡_, sym, ap, _∙_}
-use mathlib.Core.List.{List, _++_}
-use Prim.Native.Nat.{ℕ, _+_, _≤_}
-use lib.ListN.{length, take, drop, length-append}
-use Rattle.committer.proofs.Values.{room-is, weights-are, dots-room, powers-count, mask-values}
+-- `committer::mask_values` meets its contract: dot products with the powers.
+use mathlib.Core.Path.{_≡_}
+use Prim.Native.Nat.{ℕ, _*_, _≤_}
+use lib.ListN.{length}
+use Rattle.committer.proofs.Masks.{dots-room, mask-values}
 use borrow.Author.Needs.{needs}
-use native.Mathlib.Omega.{arith}
 use Rattle.committer.proofs.mask_values.Statement.{statement}
 use Rattle.committer.proofs.mask_values.Tie as tie
-
-blank-weights-requires : tie.Need-blank-weights-requires
-blank-weights-requires c κs = search needs
-
-array-borrow-prefix-weights : tie.Need-array-borrow-prefix-weights
-array-borrow-prefix-weights c = search needs
-
-slice-aggregate-powers : tie.Need-slice-aggregate-powers
-slice-aggregate-powers c =
-    let args = c .before .before .before .before .args in
-    let k : ℕ = args .width in
-    let old : List ℕ = c .before .blank-weights .result in
-    let l : length old ≡ 320 = search needs in
-    let h : k ≤ length old = omega (arith, c .before .before .before .before .pre) in
-    sym (room-is k old old h)
 
 powers-requires : tie.Need-powers-requires
 powers-requires c κs = search needs
 
-array-share-prefix-weights : tie.Need-array-share-prefix-weights
-array-share-prefix-weights c =
-    let args = c .before .before .before .before .before .before .args in
-    let k : ℕ = args .width in
-    let old : List ℕ = c .before .before .before .blank-weights .result in
-    let l : length old ≡ 320 = search needs in
-    let h : k ≤ length old = omega (arith, c .before .before .before .before .before .before .pre) in
-    let ws : List ℕ = c .before .powers .last .1 .0 in
-    let m : length ws ≡ k = powers-count k old ws h (args .x .0) (c .before .powers .ensures) in
-    omega (arith, m, length-append ws (drop k old))
-
-slice-aggregate-dots : tie.Need-slice-aggregate-dots
-slice-aggregate-dots c =
-    let args = c .before .before .before .before .before .before .before .args in
-    let k : ℕ = args .width in
-    let old : List ℕ = c .before .before .before .before .blank-weights .result in
-    let l : length old ≡ 320 = search needs in
-    let h : k ≤ length old = omega (arith, c .before .before .before .before .before .before .before .pre) in
-    let ws : List ℕ = c .before .before .powers .last .1 .0 in
-    let m : length ws ≡ k = powers-count k old ws h (args .x .0) (c .before .before .powers .ensures) in
-    sym (ap length (weights-are k old ws h m) ∙ m)
-
 dots-requires : tie.Need-dots-requires
 dots-requires c κs =
-    let args = c .before .before .before .before .before .before .before .before .args in
-    let k : ℕ = args .width in
-    let old : List ℕ = c .before .before .before .before .before .blank-weights .result in
-    let l : length old ≡ 320 = search needs in
-    let h : k ≤ length old = omega (arith, c .before .before .before .before .before .before .before .before .pre) in
-    let ws : List ℕ = c .before .before .before .powers .last .1 .0 in
-    let m : length ws ≡ k = powers-count k old ws h (args .x .0) (c .before .before .before .powers .ensures) in
-    let e : length (take k (ws ++ drop k old)) ≡ k = ap length (weights-are k old ws h m) ∙ m in
-    dots-room k (length (take k (ws ++ drop k old))) (length (args .out .now)) (length (args .masks .now)) e (omega (arith, c .before .before .before .before .before .before .before .before .pre)) (c .before .before .before .before .before .before .before .before .pre .1)
+    let s = c .before .before .before .before .before .before .before .before .before .args in
+    dots-room (s .x .0) (length (s .weights .now)) (c .before .before .before .before .powers .last .1 .0) (c .before .before .before .before .powers .ensures) (length (s .out .now)) (length (s .masks .now)) (c .before .before .before .before .before .before .before .before .before .pre .0) (c .before .before .before .before .before .before .before .before .before .pre .1)
 
 same-length : tie.Need-same-length
 same-length c = search needs
 
+same-length-2 : tie.Need-same-length-2
+same-length-2 c = search needs
+
 returns : tie.Need-returns
 returns c =
-    let args = c .before .before .before .before .before .before .before .before .before .before .before .args in
-    let k : ℕ = args .width in
-    let old : List ℕ = c .before .before .before .before .before .before .before .before .blank-weights .result in
-    let l : length old ≡ 320 = search needs in
-    let h : k ≤ length old = omega (arith, c .before .before .before .before .before .before .before .before .before .before .before .pre) in
-    mask-values k old (c .before .before .before .before .before .before .powers .last .1 .0) h (args .x .0) (length (args .out .now)) (args .masks .now) (c .before .before .dots .last .1 .1 .0) (c .before .before .before .before .before .before .before .before .before .before .before .pre .1) (c .before .before .before .before .before .before .powers .ensures) (c .before .before .dots .ensures)
+    let s = c .before .before .before .before .before .before .before .before .before .before .before .before .args in
+    mask-values (s .x .0) (length (s .weights .now)) (c .before .before .before .before .before .before .before .powers .last .1 .0) (c .before .before .before .before .before .before .before .powers .ensures) (length (s .out .now)) (s .masks .now) (c .before .before .dots .last .1 .1 .0) (c .before .before .before .before .before .before .before .before .before .before .before .before .pre .1) (c .before .before .dots .ensures)
 
 pub mask-values-spec : {M : Type 1} → statement M
 mask-values-spec =
-    tie.close
-    (tie.spec
-    blank-weights-requires
-    array-borrow-prefix-weights
-    slice-aggregate-powers
-    powers-requires
-    array-share-prefix-weights
-    slice-aggregate-dots
-    dots-requires
-    same-length
-    returns)
+    tie.close (tie.spec powers-requires dots-requires same-length same-length-2 returns)

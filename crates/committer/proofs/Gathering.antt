@@ -1,0 +1,83 @@
+-- Rows with their tails, gathered as lanes.
+use mathlib.Core.Path.{_≡_, refl, sym, ap, _∙_, subst}
+use mathlib.Core.Bool.{true, false}
+use mathlib.Core.Logic.{_⊎_, inl, inr}
+use mathlib.Core.List.{List}
+use Prim.Native.Nat.{ℕ, _+_, _-_, _*_, _≤_, _<_}
+use native.Mathlib.Nat.{not-suc-le-zero, zero-add}
+use native.Mathlib.Decide.{ℕ-discrete}
+use native.Mathlib.Omega.{arith}
+use lib.Dec.{ltb}
+use lib.ListN.{length, set}
+use borrow.Author.Tests.{ltb-true, ltb-false}
+use Rattle.lists.specs.Choice.{tested}
+use Rattle.extrapolation.specs.Lanes.{entry, KeptLanes}
+use Rattle.extrapolation.proofs.Kernel.{put-here, put-else, put-lane}
+use Rattle.scheme.specs.Sizes.{Sizes, rows, columns, width}
+use Rattle.scheme.specs.Layers.{Lent, extended}
+use Rattle.lent.specs.Rows.{CanExtend, strided}
+use Rattle.lent.proofs.Rows.{extended-entry, extended-tail}
+use Rattle.committer.specs.Values.{Gathered, Lane, RowLanes}
+
+-- ---- a lane, value by value
+
+pub record GatherInv (f : ℕ → ℕ) (to j : ℕ) (old values : List ℕ) (i : ℕ) : Type 0 where
+  pub kept : KeptLanes old j values
+  pub gathered : Gathered f i to j old values
+
+pub gather-none : (f : ℕ → ℕ) (to j : ℕ) (values : List ℕ) → GatherInv f to j values values 0
+unfolding KeptLanes Gathered
+gather-none f to j values = record { kept = λ n i l h. refl; gathered = (λ i l. absurd (not-suc-le-zero l), λ t l. refl) }
+
+pub gather-turn : (f : ℕ → ℕ) (to j : ℕ) (old values : List ℕ) (i v : ℕ) → j < 4 → 4 * (to + i) + j < length values → GatherInv f to j old values i → v ≡ f i
+    → GatherInv f to j old (set values (4 * (to + i) + j) v) (i + 1)
+unfolding KeptLanes Gathered
+gather-turn f to j old values i v b inside inv e = record {
+  kept = λ n k a h. put-lane values (to + i) j v inside b n k a h ∙ inv .kept n k a h;
+  gathered = (λ m l. one m l (ℕ-discrete m i), λ t l. put-else values (to + i) j v inside b t (λ d. not-suc-le-zero {n = 0} (omega arith)) ∙ inv .gathered .1 t l);
+}
+  where
+    one : (m : ℕ) → m < i + 1 → Dec (m ≡ i) → entry (set values (4 * (to + i) + j) v) (4 * (to + m) + j) ≡ f m
+    one m l (yes d) = put-here values (to + i) j v inside b (to + m) (ap (λ (k : ℕ). to + k) d) ∙ e ∙ ap f (sym d)
+    one m l (no d) = put-else values (to + i) j v inside b (to + m) (λ h. d (omega arith)) ∙ inv .gathered .0 m (omega arith)
+
+-- ---- a row: its entries, and then its tails
+
+pub row-lane : (s : Sizes) (l : Lent) → CanExtend s (l .coefficients) (l .tails) → (row n j : ℕ) (v₀ v₁ v₂ : List ℕ) → row < rows s → n ≡ columns s
+    → Gathered (strided (l .coefficients) row (s .μ)) n 0 j v₀ v₁ → Gathered (strided (l .tails) (row * s .ℓ) 1) (s .ℓ) n j v₁ v₂ → Lane (extended s l row) (width s) j v₂
+unfolding Gathered Lane
+row-lane s l can row n j v₀ v₁ v₂ h e first second t u = go (tested (ltb t n))
+  where
+    go : (ltb t n ≡ true) ⊎ (ltb t n ≡ false) → entry v₂ (4 * t + j) ≡ entry (extended s l row) t
+    go (inl z) =
+        let a : t < n = ltb-true t n z in
+        second .1 t a
+        ∙ ap (λ (k : ℕ). entry v₁ (4 * k + j)) (sym (zero-add t))
+        ∙ first .0 t a
+        ∙ sym (extended-entry s l can row t h (omega arith))
+    go (inr z) =
+        let a : n ≤ t = ltb-false t n z in
+        let b : t ≡ n + (t - n) = omega arith in
+        let d : columns s + (t - n) ≡ t = omega arith in
+        ap (λ (k : ℕ). entry v₂ (4 * k + j)) b
+        ∙ second .0 (t - n) (omega arith)
+        ∙ sym (extended-tail s l can row (t - n) h (omega arith))
+        ∙ ap (entry (extended s l row)) d
+
+pub both-kept : (j : ℕ) (v₀ v₁ v₂ : List ℕ) → KeptLanes v₀ j v₁ → KeptLanes v₁ j v₂ → KeptLanes v₀ j v₂
+unfolding KeptLanes
+both-kept j v₀ v₁ v₂ a b n i l h = b n i l h ∙ a n i l h
+
+-- ---- rows, a lane each
+
+pub rows-none : (s : Sizes) (l : Lent) (lo : ℕ) (values : List ℕ) → RowLanes s l lo 0 values
+unfolding RowLanes
+rows-none s l lo values j h = absurd (not-suc-le-zero h)
+
+pub rows-turn : (s : Sizes) (l : Lent) (lo j : ℕ) (v v′ : List ℕ) → j < 4 → RowLanes s l lo j v → KeptLanes v j v′ → Lane (extended s l (lo + j)) (width s) j v′ → RowLanes s l lo (j + 1) v′
+unfolding RowLanes Lane KeptLanes
+rows-turn s l lo j v v′ b old kept own i h = go (ℕ-discrete i j)
+  where
+    go : Dec (i ≡ j) → Lane (extended s l (lo + i)) (width s) i v′
+    go (yes e) = subst (λ (m : ℕ). Lane (extended s l (lo + m)) (width s) m v′) (sym e) own
+    go (no e) = λ t u. kept t i (omega arith) e ∙ old i (omega arith) t u
