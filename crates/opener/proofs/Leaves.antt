@@ -10,14 +10,15 @@ use borrow.Rule.Slice.PartMut.{putMid}
 use Rattle.lists.specs.Bytes.{Bytes}
 use Rattle.tree.specs.Sets.{missing, treeSize}
 use Rattle.tree.specs.Clauses.{IndexSet}
-use Rattle.interpolation.proofs.Parts.{put-tail}
+use Rattle.lists.specs.Parts.{put-tail}
 use Rattle.scheme.specs.Sizes.{Sizes, leaves}
 use Rattle.scheme.specs.Reply.{recordLength, recordsAt, nodesAt}
 use Rattle.scheme.specs.Commit.{leafRecord}
 use Rattle.commitment.proofs.Splice.{spliced-more}
-use Rattle.opener.specs.Parts.{CanRecord, CanList, written}
+use Rattle.answers.specs.Answers.{written}
+use Rattle.opener.specs.Parts.{CanRecord, CanList}
 use Rattle.opener.proofs.Records.{record-sized}
-use Rattle.opener.proofs.Writing.{all-length}
+use Rattle.answers.proofs.Writing.{all-length}
 
 -- bytes written from n on, through the part of the buffer that begins there
 through-part : (n k : ℕ) (x o out : Bytes) → out ≡ x ++ drop k (take (length o - n) (drop n o)) → putMid n (length o - n) o out ≡ written n k x o

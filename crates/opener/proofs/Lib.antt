@@ -1,12 +1,7 @@
-pub mod Combining
-pub mod Room
-pub mod Writing
 pub mod Records
-pub mod Answers
 pub mod Places
 pub mod Order
 pub mod Given
-pub mod Rows
 pub mod Sums
 pub mod Leaves
 pub mod Replying

@@ -9,7 +9,7 @@ use Rattle.lists.specs.All.{all-each}
 use Rattle.lists.specs.Bytes.{Bytes, words, bytesOf, length-bytesOf, length-words}
 use Rattle.lists.specs.Pieces.{length-flatten}
 use Rattle.lists.specs.Range.{upFrom, length-upFrom}
-use Rattle.algebra.specs.Prime.{q}
+use Rattle.algebra.specs.Pairs.{pointsEnd}
 use Rattle.scheme.specs.Sizes.{Sizes, leaves, width}
 use Rattle.scheme.specs.Layers.{Lent, lentOf, extendedRows}
 use Rattle.scheme.specs.Question.{Question, challengesAt, pointsAt}
@@ -18,7 +18,8 @@ use Rattle.scheme.specs.Open.{openedBatching, openedAnswers}
 use Rattle.scheme.proofs.Accepted.{Good, good, leaves-high}
 use Rattle.scheme.proofs.Row.{combination-length}
 use Rattle.commitment.proofs.Splice.{spliced-more}
-use Rattle.opener.specs.Parts.{CanCombine, CanSum, batchingAt, answerAt, written, sums}
+use Rattle.answers.specs.Answers.{CanCombine, batchingAt, answerAt, written}
+use Rattle.opener.specs.Parts.{CanSum, sums}
 use Rattle.opener.specs.Ready.{questionOf}
 use Rattle.commitment.proofs.Places.{width-high}
 
@@ -44,9 +45,9 @@ module _ (t : Sizes) (m : ℕ) (question : Bytes) (coefficients tails masks : Li
   g = good t (can .combine .extend .sizes)
 
   pub batchings-ask : (n first : ℕ) → n ≡ width t → first ≡ leaves t
-      → CanCombine t coefficients tails × (n ≡ width t) × (first + n ≤ q) × (length masks ≡ t .η * n) × (challengesAt + 4 * t .η ≤ length question) × (0 + 4 * n * t .η ≤ length o)
+      → CanCombine t coefficients tails × (n ≡ width t) × (first + n ≤ pointsEnd) × (length masks ≡ t .η * n) × (challengesAt + 4 * t .η ≤ length question) × (0 + 4 * n * t .η ≤ length o)
   batchings-ask n first e f =
-      subst (λ (k : ℕ). CanCombine t coefficients tails × (k ≡ width t) × (first + k ≤ q) × (length masks ≡ t .η * k) × (challengesAt + 4 * t .η ≤ length question) × (0 + 4 * k * t .η ≤ length o)) (sym e)
+      subst (λ (k : ℕ). CanCombine t coefficients tails × (k ≡ width t) × (first + k ≤ pointsEnd) × (length masks ≡ t .η * k) × (challengesAt + 4 * t .η ≤ length question) × (0 + 4 * k * t .η ≤ length o)) (sym e)
       (can .combine, refl, omega (arith, f, leaves-high t g, width-high t g), can .masks-length, omega (arith, can .long), omega (arith, can .room))
 
   pub answers-ask : (n : ℕ) (o₁ : Bytes) → n ≡ width t → length o₁ ≡ length o

@@ -1,46 +1,18 @@
 -- The parts of a reply, over the extended rows.
 use mathlib.Core.Path.{_≡_}
 use mathlib.Core.Bool.{true}
-use mathlib.Core.List.{List, _∷_, _++_, map, flatten}
-use Prim.Native.Nat.{ℕ, _+_, _*_, _≤_, _<_}
-use lib.ListN.{length, getD, take, drop}
+use mathlib.Core.List.{List, _++_, map, flatten}
+use Prim.Native.Nat.{ℕ, _+_, _*_, _≤_}
+use lib.ListN.{length}
 use Rattle.lists.specs.All.{Below}
 use Rattle.lists.specs.Bytes.{Bytes, bytesOf}
-use Rattle.lists.specs.Pieces.{piece}
 use Rattle.lists.specs.Range.{upFrom}
-use Rattle.algebra.specs.Numbers.{Elements, interpN}
 use Rattle.tree.specs.Sets.{missing, treeSize}
 use Rattle.tree.specs.Clauses.{IndexSet}
 use Rattle.scheme.specs.Sizes.{Sizes, leaves, width, recordValues, sizesOk}
-use Rattle.scheme.specs.Layers.{combination}
 use Rattle.scheme.specs.Question.{Question, questionLength}
 use Rattle.scheme.specs.Reply.{recordsAt, nodesAt}
-use Rattle.lent.specs.Rows.{CanExtend}
-
--- x is μ rows of n elements each
-pub record Lined (n μ : ℕ) (x : List ℕ) : Type 0 where
-  pub whole : length x ≡ n * μ
-  pub some : 0 < μ
-  pub few : μ ≤ 64
-  pub narrow : n ≤ 320
-
--- the rows can be combined: as many words as the sizes ask, and each a field element
-pub record CanCombine (s : Sizes) (coefficients tails : List ℕ) : Type 0 where
-  pub extend : CanExtend s coefficients tails
-  pub coefficients-below : Elements coefficients
-  pub tails-below : Elements tails
-
--- the batching answer, where the polynomials go through the rows at the points from first on
-abbrev pub batchingOver : ℕ → ℕ → List (List ℕ) → List ℕ → ℕ → List ℕ
-batchingOver first n es mask γ = combination n γ (mask ∷ map (interpN (upFrom first n)) es)
-
--- of repetition k, with its mask and its challenge
-abbrev pub batchingAt : ℕ → ℕ → List (List ℕ) → List ℕ → List ℕ → ℕ → List ℕ
-batchingAt first n es masks challenges k = batchingOver first n es (piece n k masks) (getD challenges k 0)
-
--- the evaluation answer to z
-abbrev pub answerAt : ℕ → List (List ℕ) → ℕ → List ℕ
-answerAt n es z = combination n z es
+use Rattle.answers.specs.Answers.{CanCombine, batchingAt, answerAt}
 
 -- the table and the nonces have a record for each index
 pub record CanRecord (s : Sizes) (table : List ℕ) (nonces : Bytes) (indices : List ℕ) : Type 0 where
@@ -66,10 +38,6 @@ pub record CanSum (question : Bytes) (s : Sizes) (m : ℕ) (coefficients tails m
   pub combine : CanCombine s coefficients tails
   pub masks-length : length masks ≡ s .η * width s
   pub room : recordsAt s m ≤ length reply
-
--- a buffer after n bytes x were written from `at` on
-abbrev pub written : ℕ → ℕ → Bytes → Bytes → Bytes
-written at n x buffer = take at buffer ++ (x ++ drop (at + n) buffer)
 
 -- the first two parts of a reply, from the extended rows
 unfoldable pub sums : Question → List (List ℕ) → List ℕ → Bytes

@@ -1,6 +1,6 @@
 -- `opener::put_record` meets its contract: the values, and the nonce after them.
 use Rattle.commitment.specs.Shape.{sizesIn}
-use Rattle.opener.proofs.Writing.{put-record}
+use Rattle.opener.proofs.Records.{put-record}
 use borrow.Author.Needs.{needs}
 use Rattle.opener.proofs.put_record.Statement.{statement}
 use Rattle.opener.proofs.put_record.Tie as tie

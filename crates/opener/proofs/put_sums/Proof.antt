@@ -45,7 +45,7 @@ mul-answers-2 c =
 put-answers-requires : tie.Need-put-answers-requires
 put-answers-requires c κs =
     let s = c .before .before .before .before .before .before .before .before .before .before .before .before .before .args in
-    answers-ask (sizesIn (s .s)) (s .m) (s .question .now) (s .coefficients .now) (s .tails .now) (s .masks .now) (s .reply .now) (c .before .before .before .before .before .before .before .before .before .before .before .before .before .pre) (c .before .before .before .before .before .before .before .row-width .result) (c .before .before .before .put-batchings .last .1 .1 .1 .1 .1 .1 .1 .0) (c .before .before .before .before .before .before .before .row-width .ensures) (c .before .before .before .put-batchings .kept .1 .1 .1 .1 .1 .1 .1 .0)
+    answers-ask (sizesIn (s .s)) (s .m) (s .question .now) (s .coefficients .now) (s .tails .now) (s .masks .now) (s .reply .now) (c .before .before .before .before .before .before .before .before .before .before .before .before .before .pre) (c .before .before .before .before .before .before .before .row-width .result) (c .before .before .before .put-batchings .last .1 .1 .1 .1 .1 .1 .1 .1 .0) (c .before .before .before .before .before .before .before .row-width .ensures) (c .before .before .before .put-batchings .kept .1 .1 .1 .1 .1 .1 .1 .1 .0)
 
 same-length : tie.Need-same-length
 same-length c = search needs
@@ -54,7 +54,7 @@ returns : tie.Need-returns
 returns c =
     let s = c .before .before .before .before .before .before .before .before .before .before .before .before .before .before .before .before .args in
     sums-are (sizesIn (s .s)) (s .m) (s .question .now) (s .coefficients .now) (s .tails .now) (s .masks .now) (s .reply .now) (c .before .before .before .before .before .before .before .before .before .before .before .before .before .before .before .before .pre) (c .before .before .before .before .before .before .before .before .before .before .row-width .result) (c .before .before .before .before .before .before .before .before .leaf-count .result)
-    (c .before .before .before .before .before .before .put-batchings .last .1 .1 .1 .1 .1 .1 .1 .0) (c .before .before .put-answers .last .1 .1 .1 .1 .1 .1 .1 .0) (c .before .before .before .before .before .before .before .before .before .before .row-width .ensures) (c .before .before .before .before .before .before .before .before .leaf-count .ensures) (c .before .before .before .before .before .before .put-batchings .ensures) (c .before .before .put-answers .ensures)
+    (c .before .before .before .before .before .before .put-batchings .last .1 .1 .1 .1 .1 .1 .1 .1 .0) (c .before .before .put-answers .last .1 .1 .1 .1 .1 .1 .1 .0) (c .before .before .before .before .before .before .before .before .before .before .row-width .ensures) (c .before .before .before .before .before .before .before .before .leaf-count .ensures) (c .before .before .before .before .before .before .put-batchings .ensures) (c .before .before .put-answers .ensures)
 
 pub put-sums-spec : {M : Type 1} → statement M
 put-sums-spec =

@@ -1,31 +1,30 @@
 -- The rows with their tails: they are field elements, and what is lent gives their combinations.
 use mathlib.Core.Path.{_≡_, sym, ap, ap₂, _∙_, subst}
 use mathlib.Core.List.{List, [], _++_}
-use Prim.Native.Nat.{ℕ, zero, suc, _+_, _-_, _*_, _≤_, _<_}
+use Prim.Native.Nat.{ℕ, _+_, _-_, _*_, _≤_, _<_}
 use native.Mathlib.Nat.{mul-comm}
 use native.Mathlib.Omega.{arith}
+use lib.Dec.{lit<}
 use lib.ListN.{length, take, drop, replicate, length-map, length-replicate, length-append}
 use lib.Seq.{length-take-le, take-at}
 use borrow.Rule.Slice.PartMut.{putMid}
 use Rattle.lists.specs.Pieces.{pieces}
+use Rattle.lists.specs.All.{all-replicate}
 use Rattle.lists.specs.Range.{upFrom, length-upFrom}
 use Rattle.lists.specs.Tabulate.{tabulate, length-from}
+use Rattle.algebra.specs.Prime.{q}
 use Rattle.algebra.specs.Columns.{powN}
 use Rattle.algebra.specs.Dot.{dotsOf, dots-length, dots-powersN}
-use Rattle.algebra.specs.Numbers.{Elements, Polys}
+use Rattle.algebra.specs.Numbers.{Polys}
 use Rattle.scheme.specs.Sizes.{Sizes, leaves, rows, columns, width}
 use Rattle.scheme.specs.Layers.{Lent, lentOf, extended, extendedRows, combination}
 use Rattle.scheme.proofs.Accepted.{Good, good}
 use Rattle.scheme.proofs.Lent.{Rights}
-use Rattle.scheme.proofs.Row.{combination-length, ext-polys, answer-parts}
-use Rattle.lent.proofs.Parts.{rest-length, two-parts}
+use Rattle.scheme.proofs.Row.{ext-polys, answer-parts}
+use Rattle.lists.specs.Parts.{rest-length, two-parts}
 use Rattle.lent.proofs.Rows.{rows-lent}
-use Rattle.opener.specs.Parts.{Lined, CanCombine}
+use Rattle.answers.specs.Answers.{Lined, CanCombine}
 use Rattle.commitment.proofs.Places.{width-high}
-
-zeros-below : (n : ℕ) → Elements (replicate n 0)
-zeros-below zero = tt
-zeros-below (suc n) = (omega arith, zeros-below n)
 
 module _ (t : Sizes) (coefficients tails : List ℕ) (can : CanCombine t coefficients tails) where
   abbrev ext : List (List ℕ)
@@ -47,7 +46,7 @@ module _ (t : Sizes) (coefficients tails : List ℕ) (can : CanCombine t coeffic
     n-length = length-replicate (32 * leaves t) 0;
     c-below = can .coefficients-below;
     t-below = can .tails-below;
-    m-below = zeros-below (t .η * width t);
+    m-below = all-replicate (λ (x : ℕ). x < q) (t .η * width t) 0 (lit< tt);
   }
 
   same-rows : ext ≡ extendedRows t lent
@@ -62,7 +61,7 @@ module _ (t : Sizes) (coefficients tails : List ℕ) (can : CanCombine t coeffic
   -- ---- a combination, its columns first
 
   tails-lined : Lined (t .ℓ) (t .μ) tails
-  tails-lined = record { whole = can .extend .tails-length ∙ mul-comm (t .μ) (t .ℓ); some = g .μ-low; few = g .μ-high; narrow = omega (arith, g .ℓ-high) }
+  tails-lined = record { whole = can .extend .tails-length ∙ mul-comm (t .μ) (t .ℓ); some = g .μ-low; few = g .μ-high; narrow = g .ℓ-high }
 
   columns-fit : t .μ * columns t ≤ length coefficients
   columns-fit = omega (arith, can .extend .coefficients-length)
@@ -88,6 +87,9 @@ module _ (t : Sizes) (coefficients tails : List ℕ) (can : CanCombine t coeffic
       weights-are : take (t .μ) (ws ++ drop (t .μ) b) ≡ ws
       weights-are = take-at ws (drop (t .μ) b) (t .μ) weights-count
 
+      weights-powers : take (t .μ) (ws ++ drop (t .μ) b) ≡ tabulate (t .μ) (powN z)
+      weights-powers = weights-are ∙ hw ∙ ap (λ (k : ℕ). tabulate k (powN z)) (sym weights-room)
+
       pub weights-kept : t .μ ≤ length (ws ++ drop (t .μ) b)
       weights-kept = omega (arith, length-append ws (drop (t .μ) b), weights-count)
 
@@ -108,18 +110,24 @@ module _ (t : Sizes) (coefficients tails : List ℕ) (can : CanCombine t coeffic
         out-parts : length out ≡ n + t .ℓ
         out-parts = room ∙ ap (λ (k : ℕ). k + t .ℓ) (sym hn)
 
-        pub rest-ask : Lined (length (take (length (ys ++ drop n out) - n) (drop n (ys ++ drop n out)))) (t .μ) tails
-        rest-ask = subst (λ (k : ℕ). Lined k (t .μ) tails) (sym (rest-length n (t .ℓ) out ys columns-count out-parts)) tails-lined
+        pub rest-ask : Lined (length (take (length (ys ++ drop n out) - n) (drop n (ys ++ drop n out)))) (length (take (t .μ) (ws ++ drop (t .μ) b))) tails
+            × (take (t .μ) (ws ++ drop (t .μ) b) ≡ tabulate (length (take (t .μ) (ws ++ drop (t .μ) b))) (powN z))
+        rest-ask = (
+          subst (λ (k : ℕ). Lined (length (take (length (ys ++ drop n out) - n) (drop n (ys ++ drop n out)))) k tails) weights-length
+              (subst (λ (k : ℕ). Lined k (t .μ) tails) (sym (rest-length n (t .ℓ) out ys columns-count out-parts)) tails-lined),
+          weights-powers ∙ ap (λ (k : ℕ). tabulate k (powN z)) weights-length,
+        )
 
-        pub combined : (zs : List ℕ) → (let k : ℕ = length (take (length (ys ++ drop n out) - n) (drop n (ys ++ drop n out))) in zs ≡ combination k z (pieces k (t .μ) tails))
+        pub combined : (zs : List ℕ)
+            → (let k : ℕ = length (take (length (ys ++ drop n out) - n) (drop n (ys ++ drop n out))) in zs ≡ combination k z (pieces k (length (take (t .μ) (ws ++ drop (t .μ) b))) tails))
             → putMid n (length (ys ++ drop n out) - n) (ys ++ drop n out) zs ≡ combination (width t) z ext
         combined zs hz =
             two-parts n (t .ℓ) out ys columns-count out-parts zs
             ∙ ap₂ (λ (x y : List ℕ). x ++ y)
             (hy
-            ∙ ap₂ (λ (w : List ℕ) (k : ℕ). dotsOf w k coefficients) (weights-are ∙ hw ∙ ap (λ (k : ℕ). tabulate k (powN z)) (sym weights-room)) (sym columns-length ∙ hn)
+            ∙ ap₂ (λ (w : List ℕ) (k : ℕ). dotsOf w k coefficients) weights-powers (sym columns-length ∙ hn)
             ∙ dots-powersN (t .μ) (columns t) coefficients z columns-fit)
-            (hz ∙ ap (λ (k : ℕ). combination k z (pieces k (t .μ) tails)) (rest-length n (t .ℓ) out ys columns-count out-parts))
+            (hz ∙ ap₂ (λ (k m : ℕ). combination k z (pieces k m tails)) (rest-length n (t .ℓ) out ys columns-count out-parts) (sym weights-length))
             ∙ sym (answer-parts t lent r z)
             ∙ ap (combination (width t) z) (sym same-rows)
 
@@ -128,22 +136,12 @@ module _ (t : Sizes) (coefficients tails : List ℕ) (can : CanCombine t coeffic
   pub answer-narrow : (n : ℕ) → n ≡ width t → n ≤ 320
   answer-narrow n e = omega (arith, e, width-high t g)
 
+  pub answer-some : (n : ℕ) → n ≡ width t → 0 < n
+  answer-some n e = omega (arith, e, g .ℓ-low)
+
   module _ (n : ℕ) (b : List ℕ) (e : n ≡ width t) (wide : length b ≡ 320) where
     pub answer-fits : n ≤ length b
     answer-fits = omega (arith, wide, answer-narrow n e)
 
     pub answer-room : n ≡ length (take n b)
     answer-room = sym (length-take-le n b answer-fits)
-
-    module _ (z : ℕ) (p : List ℕ) (h : p ≡ combination (width t) z ext) where
-      answer-count : length p ≡ n
-      answer-count = ap length h ∙ combination-length (width t) z ext ∙ sym e
-
-      pub answer-kept : n ≤ length (p ++ drop n b)
-      answer-kept = omega (arith, length-append p (drop n b), answer-count)
-
-      pub answer-is : take n (p ++ drop n b) ≡ combination n z ext
-      answer-is = take-at p (drop n b) n answer-count ∙ h ∙ ap (λ (k : ℕ). combination k z ext) (sym e)
-
-      pub answer-length : length (take n (p ++ drop n b)) ≡ n
-      answer-length = ap length answer-is ∙ combination-length n z ext

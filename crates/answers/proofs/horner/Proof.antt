@@ -1,14 +1,14 @@
--- `opener::combine` meets its contract. The invariant: the rows from j on are combined.
+-- `answers::horner` meets its contract. The invariant: the rows from j on are combined.
 use mathlib.Core.Path.{_≡_, refl, _∙_, ap}
 use Prim.Native.Nat.{ℕ, _+_, _*_, _-_, _<_}
 use lib.ListN.{length, take, drop}
 use Rattle.algebra.specs.Dot.{accumulateN}
 use Rattle.lists.specs.Parts.{row-fits}
-use Rattle.opener.proofs.Combining.{combinedFrom, combined-length, combined-last, combined-next, combined-all, last-length}
+use Rattle.answers.proofs.Combining.{combinedFrom, combined-length, combined-last, combined-next, combined-all, last-length}
 use borrow.Author.Needs.{needs}
 use native.Mathlib.Omega.{arith}
-use Rattle.opener.proofs.combine.Statement.{statement}
-use Rattle.opener.proofs.combine.Tie as tie
+use Rattle.answers.proofs.horner.Statement.{statement}
+use Rattle.answers.proofs.horner.Tie as tie
 
 abbrev Inv-loop : tie.InvT-loop
 Inv-loop rows mu z out₀ n j₀ last out j = (length out₀ ≡ n) × (j < mu) × (out ≡ combinedFrom n mu (z .0) rows j) × (length out ≡ n)
@@ -114,8 +114,8 @@ returns c =
     let e : c .before .loop .j ≡ 0 = omega arith in
     c .before .loop .inv .2 ∙ ap (combinedFrom n (s .mu) (s .z .0) (s .rows .now)) e ∙ combined-all n (s .mu) (s .z .0) (s .rows .now)
 
-pub combine-spec : {M : Type 1} → statement M
-combine-spec =
+pub horner-spec : {M : Type 1} → statement M
+horner-spec =
     tie.close
     (tie.spec
     Inv-loop

@@ -3,14 +3,11 @@ use mathlib.Core.Path.{_≡_, sym, ap, ap₂, _∙_, subst}
 use mathlib.Core.List.{List, map, flatten}
 use Prim.Native.Nat.{ℕ, _+_, _-_, _*_, _≤_, _<_}
 use native.Mathlib.Nat.{mul-comm}
-use native.Mathlib.Omega.{arith}
-use lib.ListN.{length, getD, take, drop, length-drop}
-use lib.Seq.{length-take-le}
+use lib.ListN.{length, getD, take, drop}
 use Rattle.lists.specs.Bytes.{Bytes, bytesOf, length-bytesOf}
-use Rattle.lists.specs.Pieces.{piece}
-use Rattle.lists.specs.Parts.{row-fits}
-use Rattle.opener.specs.Parts.{written}
-use Rattle.opener.proofs.Writing.{upTo, upTo-none, upTo-all, upTo-room, upTo-turn, bytesOf-flatten}
+use Rattle.lists.specs.Parts.{row-fits, span-length}
+use Rattle.answers.specs.Answers.{written}
+use Rattle.answers.proofs.Writing.{upTo, upTo-none, upTo-all, upTo-room, upTo-turn, bytesOf-flatten}
 
 module _ (f : ℕ → List ℕ) (xs : List ℕ) (n at : ℕ) (o : Bytes) where
   -- the buffer with the first k of them
@@ -46,8 +43,5 @@ module _ (n k η : ℕ) (masks : List ℕ) (whole : length masks ≡ η * n) (l 
   pub mask-room : n * k + n ≤ length masks
   mask-room = subst (λ (j : ℕ). n * k + n ≤ j) (mul-comm n η ∙ sym whole) (row-fits n k η l)
 
-  pub mask-is : take (n * k + n - n * k) (drop (n * k) masks) ≡ piece n k masks
-  mask-is = let e : n * k + n - n * k ≡ n = omega arith in ap (λ (j : ℕ). take j (drop (n * k) masks)) e
-
   pub mask-length : length (take (n * k + n - n * k) (drop (n * k) masks)) ≡ n
-  mask-length = ap length mask-is ∙ length-take-le n (drop (n * k) masks) (omega (arith, length-drop (n * k) masks, mask-room))
+  mask-length = span-length (n * k) n masks mask-room

@@ -1,4 +1,4 @@
--- `opener::put_answers` meets its contract. The invariant: the first p answers are written.
+-- `answers::put_answers` meets its contract. The invariant: the first p answers are written.
 use mathlib.Core.Path.{_≡_, refl, sym, _∙_, ap, subst}
 use mathlib.Core.List.{List, []}
 use Prim.Native.Nat.{ℕ, _+_, _*_, _-_, _≤_}
@@ -7,13 +7,13 @@ use Rattle.lists.specs.Bytes.{words, length-words, word-from, bytesOf}
 use Rattle.scheme.specs.Layers.{lentOf, extendedRows}
 use Rattle.scheme.proofs.Row.{combination-length}
 use Rattle.commitment.specs.Shape.{sizesIn}
-use Rattle.opener.specs.Parts.{answerAt, written}
-use Rattle.opener.proofs.Answers.{answersTo, answers-none, answers-all, answers-room, answers-turn}
-use Rattle.opener.proofs.Rows.{answer-narrow}
+use Rattle.answers.specs.Answers.{answerAt, written}
+use Rattle.answers.proofs.Answers.{answersTo, answers-none, answers-all, answers-room, answers-turn}
+use Rattle.answers.proofs.Rows.{answer-narrow}
 use borrow.Author.Needs.{needs}
 use native.Mathlib.Omega.{arith}
-use Rattle.opener.proofs.put_answers.Statement.{statement}
-use Rattle.opener.proofs.put_answers.Tie as tie
+use Rattle.answers.proofs.put_answers.Statement.{statement}
+use Rattle.answers.proofs.put_answers.Tie as tie
 
 abbrev Inv-loop : tie.InvT-loop
 Inv-loop s question points m coefficients tails n out₀ at size p₀ out p =

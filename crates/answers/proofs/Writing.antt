@@ -5,49 +5,20 @@ use Prim.Native.Nat.{ℕ, zero, suc, _+_, _-_, _*_, _≤_, _<_}
 use native.Mathlib.Nat.{mul-zero, mul-suc, add-assoc, mul-le-mul-left, le-of-lt, le-refl}
 use native.Mathlib.Numerals.{add-one}
 use native.Mathlib.Omega.{arith}
-use lib.ListN.{length, getD, take, drop, length-append, length-drop}
-use lib.Seq.{length-take-le, take-suc, take-length}
-use Rattle.lists.specs.Bytes.{Bytes, bytesOf, bytesOf-append, length-bytesOf}
-use Rattle.lists.specs.Pieces.{piece, flatten-append}
-use Rattle.scheme.specs.Sizes.{Sizes, recordValues}
-use Rattle.scheme.specs.Reply.{recordLength}
-use Rattle.scheme.specs.Commit.{leafRecord}
+use lib.ListN.{length, getD, take, length-append}
+use lib.Seq.{take-suc, take-length}
+use Rattle.lists.specs.Bytes.{Bytes, bytesOf, bytesOf-append}
+use Rattle.lists.specs.Pieces.{flatten-append}
 use Rattle.commitment.proofs.Splice.{spliced-none, spliced-more, length-spliced}
-use Rattle.opener.specs.Parts.{written}
+use Rattle.answers.specs.Answers.{written}
 
--- ---- one answer, one record
+-- ---- one answer
 
 pub put-answer : (at n : ℕ) (w answer : List ℕ) (buffer : Bytes) → w ≡ answer → length answer ≡ n
     → written at (4 * length w) (bytesOf w) buffer ≡ written at (4 * n) (bytesOf answer) buffer
 put-answer at n w answer buffer e l = ap₂ (λ (k : ℕ) (x : List ℕ). written at (4 * k) (bytesOf x) buffer) (ap length e ∙ l) e
 
-part-length : (n a : ℕ) (x : List ℕ) → a + n ≤ length x → length (take n (drop a x)) ≡ n
-part-length n a x l = length-take-le n (drop a x) (omega (arith, length-drop a x))
-
--- the values of a leaf, then its nonce
-pub put-record : (s : Sizes) (table : List ℕ) (nonces o o₁ o₂ : Bytes) (i at : ℕ)
-    → recordValues s * i + recordValues s ≤ length table → 32 * i + 32 ≤ length nonces → at + recordLength s ≤ length o
-    → o₁ ≡ (let w : List ℕ = take (recordValues s * i + recordValues s - recordValues s * i) (drop (recordValues s * i) table) in written at (4 * length w) (bytesOf w) o)
-    → o₂ ≡ (let v : Bytes = take (32 * i + 32 - 32 * i) (drop (32 * i) nonces) in written (at + 4 * recordValues s) (length v) v o₁)
-    → o₂ ≡ written at (recordLength s) (leafRecord s table nonces i) o
-unfolding leafRecord
-put-record s table nonces o o₁ o₂ i at lt ln lo e₁ e₂ =
-    let n : ℕ = recordValues s in
-    let w : List ℕ = piece n i table in
-    let v : Bytes = piece 32 i nonces in
-    let kw : n * i + n - n * i ≡ n = omega arith in
-    let kv : 32 * i + 32 - 32 * i ≡ 32 = omega arith in
-    let lw : length w ≡ n = part-length n (n * i) table lt in
-    let lv : length v ≡ 32 = part-length 32 (32 * i) nonces ln in
-    let lb : length (bytesOf w) ≡ 4 * n = length-bytesOf w ∙ ap (λ (k : ℕ). 4 * k) lw in
-    let f₁ : o₁ ≡ written at (4 * n) (bytesOf w) o =
-    e₁ ∙ ap (λ (k : ℕ). written at (4 * length (take k (drop (n * i) table))) (bytesOf (take k (drop (n * i) table))) o) kw
-    ∙ ap (λ (k : ℕ). written at (4 * k) (bytesOf w) o) lw in
-    e₂ ∙ ap (λ (k : ℕ). written (at + 4 * n) (length (take k (drop (32 * i) nonces))) (take k (drop (32 * i) nonces)) o₁) kv
-    ∙ ap₂ (λ (k : ℕ) (b : Bytes). written (at + 4 * n) k v b) lv f₁
-    ∙ spliced-more at (4 * n) (bytesOf w) o lb (omega arith) 32 v
-
--- ---- a part of the reply: for each of some numbers its record, all of one size
+-- ---- for each of some numbers its record, all of one size
 
 module _ (g : ℕ → Bytes) (xs : List ℕ) (size at : ℕ) (o : Bytes) where
   -- the buffer with the first k of them

@@ -1,28 +1,29 @@
--- `opener::put_batchings` meets its contract. The invariant: the first k answers are written.
+-- `answers::put_batchings` meets its contract. The invariant: the first k answers are written.
 use mathlib.Core.Path.{_≡_, refl, sym, _∙_, ap, ap₂, subst}
 use mathlib.Core.List.{List, []}
 use Prim.Native.Nat.{ℕ, _+_, _*_, _-_, _≤_}
 use native.Mathlib.Nat.{zero-add}
 use lib.ListN.{length, take, drop, getD}
-use Rattle.algebra.specs.Prime.{q}
 use Rattle.lists.specs.Bytes.{words, word-from, bytesOf}
+use Rattle.lists.specs.Parts.{part-is}
 use Rattle.lists.specs.Range.{upFrom, length-upFrom, upFrom-at}
 use Rattle.scheme.specs.Layers.{lentOf, extendedRows}
 use Rattle.scheme.proofs.Row.{combination-length}
 use Rattle.commitment.specs.Shape.{sizesIn}
-use Rattle.opener.specs.Parts.{batchingOver, batchingAt, written}
-use Rattle.opener.proofs.Answers.{answersTo, answers-none, answers-all, answers-room, answers-turn, mask-room, mask-is, mask-length}
+use Rattle.algebra.specs.Pairs.{pointsEnd}
+use Rattle.answers.specs.Answers.{batchingOver, batchingAt, written}
+use Rattle.answers.proofs.Answers.{answersTo, answers-none, answers-all, answers-room, answers-turn, mask-room, mask-length}
 use borrow.Author.Needs.{needs}
 use native.Mathlib.Omega.{arith}
-use Rattle.opener.proofs.put_batchings.Statement.{statement}
-use Rattle.opener.proofs.put_batchings.Tie as tie
+use Rattle.answers.proofs.put_batchings.Statement.{statement}
+use Rattle.answers.proofs.put_batchings.Tie as tie
 
 abbrev Inv-loop : tie.InvT-loop
-Inv-loop s question first coefficients tails n masks out₀ at eta size k₀ out k =
-    (eta ≡ s .eta) × (size ≡ 4 * n) × (k ≤ eta) × (out ≡ answersTo (batchingAt (first .0) n (extendedRows (sizesIn s) (lentOf coefficients tails [] [])) masks (words (s .eta) (drop 46 question))) (upFrom 0 (s .eta)) n at out₀ k) × (length out ≡ length out₀)
+Inv-loop s question challenges first coefficients tails n masks out₀ at eta size k₀ out k =
+    (eta ≡ s .eta) × (size ≡ 4 * n) × (k ≤ eta) × (out ≡ answersTo (batchingAt (first .0) n (extendedRows (sizesIn s) (lentOf coefficients tails [] [])) masks (words (s .eta) (drop challenges question))) (upFrom 0 (s .eta)) n at out₀ k) × (length out ≡ length out₀)
 
 abbrev μ-loop : tie.MeasureT-loop
-μ-loop s question first coefficients tails n masks out₀ at eta size k₀ out k = eta - k
+μ-loop s question challenges first coefficients tails n masks out₀ at eta size k₀ out k = eta - k
 
 cast-eta : tie.Need-cast-eta Inv-loop μ-loop
 cast-eta c = search needs
@@ -34,7 +35,7 @@ loop-holds : tie.Need-loop-holds Inv-loop μ-loop
 loop-holds c =
     let s = c .before .before .before .before .before .before .args in
     let es : List (List ℕ) = extendedRows (sizesIn (s .s)) (lentOf (s .coefficients .now) (s .tails .now) [] []) in
-    (refl, refl, omega arith, answers-none (batchingAt (s .first .0) (s .n) es (s .masks .now) (words (s .s .eta) (drop 46 (s .question .now)))) (upFrom 0 (s .s .eta)) (s .n) (s .at) (s .out .now), refl)
+    (refl, refl, omega arith, answers-none (batchingAt (s .first .0) (s .n) es (s .masks .now) (words (s .s .eta) (drop (s .challenges) (s .question .now)))) (upFrom 0 (s .s .eta)) (s .n) (s .at) (s .out .now), refl)
 
 mul-word : tie.Need-mul-word Inv-loop μ-loop
 mul-word c = search needs
@@ -76,8 +77,8 @@ mul-put-batching-2 c =
     let s = c .before .before .before .before .before .before .before .before .before .before .before .args in
     let es : List (List ℕ) = extendedRows (sizesIn (s .s)) (lentOf (s .coefficients .now) (s .tails .now) [] []) in
     let h : s .at + 4 * s .n * c .before .before .before .before .loop .k + 4 * s .n ≤ length (s .out .now) =
-    answers-room (batchingAt (s .first .0) (s .n) es (s .masks .now) (words (s .s .eta) (drop 46 (s .question .now)))) (upFrom 0 (s .s .eta)) (s .n) (s .at) (s .out .now) (s .s .eta) (length-upFrom 0 (s .s .eta))
-    (λ k. combination-length (s .n) (getD (words (s .s .eta) (drop 46 (s .question .now))) k 0) _) (c .before .before .before .before .before .before .before .before .before .before .before .pre .5) (c .before .before .before .before .loop .k) (omega arith) in
+    answers-room (batchingAt (s .first .0) (s .n) es (s .masks .now) (words (s .s .eta) (drop (s .challenges) (s .question .now)))) (upFrom 0 (s .s .eta)) (s .n) (s .at) (s .out .now) (s .s .eta) (length-upFrom 0 (s .s .eta))
+    (λ k. combination-length (s .n) (getD (words (s .s .eta) (drop (s .challenges) (s .question .now))) k 0) _) (c .before .before .before .before .before .before .before .before .before .before .before .pre .5) (c .before .before .before .before .loop .k) (omega arith) in
     search needs
 
 add-put-batching : tie.Need-add-put-batching Inv-loop μ-loop
@@ -85,8 +86,8 @@ add-put-batching c =
     let s = c .before .before .before .before .before .before .before .before .before .before .before .args in
     let es : List (List ℕ) = extendedRows (sizesIn (s .s)) (lentOf (s .coefficients .now) (s .tails .now) [] []) in
     let h : s .at + 4 * s .n * c .before .before .before .before .loop .k + 4 * s .n ≤ length (s .out .now) =
-    answers-room (batchingAt (s .first .0) (s .n) es (s .masks .now) (words (s .s .eta) (drop 46 (s .question .now)))) (upFrom 0 (s .s .eta)) (s .n) (s .at) (s .out .now) (s .s .eta) (length-upFrom 0 (s .s .eta))
-    (λ k. combination-length (s .n) (getD (words (s .s .eta) (drop 46 (s .question .now))) k 0) _) (c .before .before .before .before .before .before .before .before .before .before .before .pre .5) (c .before .before .before .before .loop .k) (omega arith) in
+    answers-room (batchingAt (s .first .0) (s .n) es (s .masks .now) (words (s .s .eta) (drop (s .challenges) (s .question .now)))) (upFrom 0 (s .s .eta)) (s .n) (s .at) (s .out .now) (s .s .eta) (length-upFrom 0 (s .s .eta))
+    (λ k. combination-length (s .n) (getD (words (s .s .eta) (drop (s .challenges) (s .question .now))) k 0) _) (c .before .before .before .before .before .before .before .before .before .before .before .pre .5) (c .before .before .before .before .loop .k) (omega arith) in
     search needs
 
 put-batching-requires : tie.Need-put-batching-requires Inv-loop μ-loop
@@ -94,13 +95,13 @@ put-batching-requires c κs =
     let s = c .before .before .before .before .before .before .before .before .before .before .before .args in
     let es : List (List ℕ) = extendedRows (sizesIn (s .s)) (lentOf (s .coefficients .now) (s .tails .now) [] []) in
     let h : s .at + 4 * s .n * c .before .before .before .before .loop .k + 4 * s .n ≤ length (s .out .now) =
-    answers-room (batchingAt (s .first .0) (s .n) es (s .masks .now) (words (s .s .eta) (drop 46 (s .question .now)))) (upFrom 0 (s .s .eta)) (s .n) (s .at) (s .out .now) (s .s .eta) (length-upFrom 0 (s .s .eta))
-    (λ k. combination-length (s .n) (getD (words (s .s .eta) (drop 46 (s .question .now))) k 0) _) (c .before .before .before .before .before .before .before .before .before .before .before .pre .5) (c .before .before .before .before .loop .k) (omega arith) in
+    answers-room (batchingAt (s .first .0) (s .n) es (s .masks .now) (words (s .s .eta) (drop (s .challenges) (s .question .now)))) (upFrom 0 (s .s .eta)) (s .n) (s .at) (s .out .now) (s .s .eta) (length-upFrom 0 (s .s .eta))
+    (λ k. combination-length (s .n) (getD (words (s .s .eta) (drop (s .challenges) (s .question .now))) k 0) _) (c .before .before .before .before .before .before .before .before .before .before .before .pre .5) (c .before .before .before .before .loop .k) (omega arith) in
     let k : ℕ = c .before .before .before .before .loop .k in
     let l : length (take (s .n * k + s .n - s .n * k) (drop (s .n * k) (s .masks .now))) ≡ s .n = mask-length (s .n) k (s .s .eta) (s .masks .now) (c .before .before .before .before .before .before .before .before .before .before .before .pre .3) (omega arith) in (
       c .before .before .before .before .before .before .before .before .before .before .before .pre .0,
       l ∙ c .before .before .before .before .before .before .before .before .before .before .before .pre .1,
-      subst (λ (j : ℕ). s .first .0 + j ≤ q) (sym l) (c .before .before .before .before .before .before .before .before .before .before .before .pre .2),
+      subst (λ (j : ℕ). s .first .0 + j ≤ pointsEnd) (sym l) (c .before .before .before .before .before .before .before .before .before .before .before .pre .2),
       subst (λ (j : ℕ). s .at + 4 * s .n * k + 4 * j ≤ length (c .before .before .before .before .loop .out)) (sym l) (subst (λ (j : ℕ). s .at + 4 * s .n * k + 4 * s .n ≤ j) (sym (c .before .before .before .before .loop .inv .4)) h),
     )
 
@@ -115,17 +116,17 @@ loop-again c =
     let s = c .before .before .before .before .before .before .before .before .before .before .before .before .before .before .args in
     let k : ℕ = c .before .before .before .before .before .before .before .loop .k in
     let es : List (List ℕ) = extendedRows (sizesIn (s .s)) (lentOf (s .coefficients .now) (s .tails .now) [] []) in
-    let γs : List ℕ = (words (s .s .eta) (drop 46 (s .question .now))) in
+    let γs : List ℕ = (words (s .s .eta) (drop (s .challenges) (s .question .now))) in
     let f : ℕ → List ℕ = batchingAt (s .first .0) (s .n) es (s .masks .now) γs in
     let mask : List ℕ = take (s .n * k + s .n - s .n * k) (drop (s .n * k) (s .masks .now)) in
     let l : length mask ≡ s .n = mask-length (s .n) k (s .s .eta) (s .masks .now) (c .before .before .before .before .before .before .before .before .before .before .before .before .before .before .pre .3) (omega arith) in
-    let γ : c .before .before .before .before .before .word .result ≡ getD γs k 0 = c .before .before .before .before .before .word .ensures ∙ sym (word-from (s .s .eta) 46 k (s .question .now) (omega arith)) in
+    let γ : c .before .before .before .before .before .word .result ≡ getD γs k 0 = c .before .before .before .before .before .word .ensures ∙ sym (word-from (s .s .eta) (s .challenges) k (s .question .now) (omega arith)) in
     let i : k ≡ getD (upFrom 0 (s .s .eta)) k 0 = sym (upFrom-at 0 (s .s .eta) k (omega arith) ∙ zero-add k) in
     let r = answers-turn f (upFrom 0 (s .s .eta)) (s .n) (s .at) (s .out .now) (s .s .eta) (length-upFrom 0 (s .s .eta))
     (λ k. combination-length (s .n) (getD γs k 0) _) (c .before .before .before .before .before .before .before .before .before .before .before .before .before .before .pre .5) k (c .before .before .before .before .before .before .before .loop .out) (c .before .before .put-batching .last .1 .1 .1 .1 .1 .1 .0) (omega arith) (c .before .before .before .before .before .before .before .loop .inv .3)
     (c .before .before .put-batching .ensures
     ∙ ap (λ (j : ℕ). written (s .at + 4 * s .n * k) (4 * j) (bytesOf (batchingOver (s .first .0) j es mask (c .before .before .before .before .before .word .result))) (c .before .before .before .before .before .before .before .loop .out)) l
-    ∙ ap₂ (λ (x : List ℕ) (y : ℕ). written (s .at + 4 * s .n * k) (4 * s .n) (bytesOf (batchingOver (s .first .0) (s .n) es x y)) (c .before .before .before .before .before .before .before .loop .out)) (mask-is (s .n) k (s .s .eta) (s .masks .now) (c .before .before .before .before .before .before .before .before .before .before .before .before .before .before .pre .3) (omega arith)) γ
+    ∙ ap₂ (λ (x : List ℕ) (y : ℕ). written (s .at + 4 * s .n * k) (4 * s .n) (bytesOf (batchingOver (s .first .0) (s .n) es x y)) (c .before .before .before .before .before .before .before .loop .out)) (part-is (s .n) k (s .masks .now)) γ
     ∙ ap (λ (j : ℕ). written (s .at + 4 * s .n * k) (4 * s .n) (bytesOf (f j)) (c .before .before .before .before .before .before .before .loop .out)) i) in
     (refl, refl, omega arith, r .0, r .1)
 
@@ -136,7 +137,7 @@ returns : tie.Need-returns Inv-loop μ-loop
 returns c =
     let s = c .before .before .before .before .before .before .before .before .args in
     let es : List (List ℕ) = extendedRows (sizesIn (s .s)) (lentOf (s .coefficients .now) (s .tails .now) [] []) in
-    c .before .loop .inv .3 ∙ answers-all (batchingAt (s .first .0) (s .n) es (s .masks .now) (words (s .s .eta) (drop 46 (s .question .now)))) (upFrom 0 (s .s .eta)) (s .n) (s .at) (s .out .now) (s .s .eta) (length-upFrom 0 (s .s .eta)) (c .before .loop .k) (omega arith)
+    c .before .loop .inv .3 ∙ answers-all (batchingAt (s .first .0) (s .n) es (s .masks .now) (words (s .s .eta) (drop (s .challenges) (s .question .now)))) (upFrom 0 (s .s .eta)) (s .n) (s .at) (s .out .now) (s .s .eta) (length-upFrom 0 (s .s .eta)) (c .before .loop .k) (omega arith)
 
 pub put-batchings-spec : {M : Type 1} → statement M
 put-batchings-spec =

@@ -1,30 +1,29 @@
 -- A combination of rows, row by row, and the polynomials through the rows.
 use mathlib.Core.Path.{_≡_, refl, sym, ap, ap₂, _∙_, subst}
 use mathlib.Core.List.{List, [], _∷_, map}
-use Prim.Native.Nat.{ℕ, zero, suc, _+_, _-_, _*_, _%_, _≤_, _<_}
-use native.Mathlib.Nat.{not-suc-le-zero, le-of-suc-le-suc, suc-inj, suc-ne-zero, mul-zero, mul-suc, zero-mul, le-of-eq}
+use Prim.Native.Nat.{ℕ, suc, _+_, _-_, _*_, _%_, _≤_, _<_}
+use native.Mathlib.Nat.{mul-zero, mul-suc, zero-mul, le-of-eq}
 use native.Mathlib.Omega.{arith}
 use lib.ListN.{length, getD, take, drop, length-map, length-drop, drop-of-length-le}
 use lib.Seq.{ext-getD, drop-cons, length-take-le}
-use Rattle.lists.specs.All.{Distinct, all-at}
+use Rattle.lists.specs.All.{Distinct}
 use Rattle.lists.specs.Range.{upFrom, length-upFrom, upFrom-below, upFrom-distinct}
 use Rattle.lists.specs.Maps.{getD-map-in}
-use Rattle.lists.specs.Pieces.{pieces, piece, length-pieces, pieces-at, pieces-sized}
+use Rattle.lists.specs.Parts.{row-fits, length-piece}
+use Rattle.lists.specs.Pieces.{pieces, piece, length-pieces, pieces-at}
+use Rattle.lists.specs.Tabulate.{tabulate, tabulate-is}
 use Rattle.algebra.specs.Prime.{q}
-use Rattle.algebra.specs.Dot.{accumulateN, length-accumulateN}
+use Rattle.algebra.specs.Columns.{powN}
+use Rattle.algebra.specs.Table.{tableSize}
+use Rattle.algebra.specs.Pairs.{pointsEnd}
+use Rattle.algebra.specs.Sums.{sumsOf, sums-powersN}
+use Rattle.algebra.specs.Dot.{accumulateN, accumulateN-at, length-accumulateN}
 use Rattle.algebra.specs.Numbers.{evalN, valuesAtN, interpN, interpN-below, interpN-length, interpN-values, Elements, Polys}
 use Rattle.algebra.specs.Batch.{columnN, honestN}
 use Rattle.scheme.specs.Layers.{combination}
 use Rattle.scheme.proofs.Row.{combination-length, combination-at, combination-below, combination-batch}
 
 -- ---- a step of Horner's rule over rows
-
-accumulated : (acc row : List ℕ) (c i : ℕ) → length row ≡ length acc → i < length acc → getD (accumulateN acc c row) i 0 ≡ (getD acc i 0 + c * getD row i 0) % q
-unfolding accumulateN
-accumulated [] row c i e l = absurd (not-suc-le-zero l)
-accumulated (a ∷ acc) [] c i e l = absurd (suc-ne-zero _ (sym e))
-accumulated (a ∷ acc) (r ∷ row) c zero e l = refl
-accumulated (a ∷ acc) (r ∷ row) c (suc i) e l = accumulated acc row c i (suc-inj e) (le-of-suc-le-suc l)
 
 -- the last row: what stood in its place counts nothing
 last-row : (n z : ℕ) (r old : List ℕ) → length r ≡ n → length old ≡ n → accumulateN r 0 old ≡ combination n z (r ∷ [])
@@ -33,7 +32,7 @@ last-row n z r old e o =
     ext-getD 0 (accumulateN r 0 old) (combination n z (r ∷ [])) (length-accumulateN r old 0 ∙ e ∙ sym (combination-length n z (r ∷ [])))
     (λ i l.
     let m : i < length r = subst (λ (k : ℕ). i < k) (length-accumulateN r old 0) l in
-    accumulated r old 0 i (o ∙ sym e) m
+    accumulateN-at r old 0 i (o ∙ sym e) m
     ∙ ap (λ (t : ℕ). (getD r i 0 + t) % q) (zero-mul (getD old i 0) ∙ sym (mul-zero z))
     ∙ sym (combination-at n z (r ∷ []) i (subst (λ (k : ℕ). i < k) e m)))
 
@@ -45,7 +44,7 @@ next-row n z r rs e =
     (λ i l.
     let m : i < length r = subst (λ (k : ℕ). i < k) (length-accumulateN r (combination n z rs) z) l in
     let k : i < n = subst (λ (k : ℕ). i < k) e m in
-    accumulated r (combination n z rs) z i (combination-length n z rs ∙ sym e) m
+    accumulateN-at r (combination n z rs) z i (combination-length n z rs ∙ sym e) m
     ∙ ap (λ (t : ℕ). (getD r i 0 + z * t) % q) (combination-at n z rs i k)
     ∙ sym (combination-at n z (r ∷ rs) i k))
 
@@ -72,9 +71,7 @@ combined-all n μ z x = refl
 
 module _ (n μ z : ℕ) (x : List ℕ) (whole : length x ≡ n * μ) where
   row-length : (j : ℕ) → j < μ → length (piece n j x) ≡ n
-  row-length j l =
-      sym (ap length (pieces-at n μ j x l))
-      ∙ all-at (λ (r : List ℕ). length r ≡ n) [] (pieces n μ x) (pieces-sized n μ x (le-of-eq (sym whole))) j (subst (λ (k : ℕ). j < k) (sym (length-pieces n μ x)) l)
+  row-length j l = length-piece n j x (subst (λ (k : ℕ). n * j + n ≤ k) (sym whole) (row-fits n j μ l))
 
   rows-from : (j : ℕ) → j < μ → drop j (pieces n μ x) ≡ piece n j x ∷ drop (suc j) (pieces n μ x)
   rows-from j l =
@@ -133,6 +130,15 @@ interp-combination xs n z es e b d h some =
     ∙ honestN ps n many P z xs e b d
     ∙ sym (combination-batch n z ps many P)
 
+-- ---- the rows one after the other, each times its power of z
+
+pub sums-combined : (n z : ℕ) (ws x : List ℕ) → ws ≡ tabulate (length ws) (powN z) → sumsOf ws n x ≡ combination n z (pieces n (length ws) x)
+sums-combined n z ws x e =
+    let rs : List (List ℕ) = pieces n (length ws) x in
+    ap (λ (w : List ℕ). sumsOf w n x) e
+    ∙ sums-powersN (length ws) n x z
+    ∙ sym (tabulate-is n (λ i. evalN (columnN rs i) z) (combination n z rs) (combination-length n z rs) (λ i l. combination-at n z rs i l))
+
 -- ---- the batching answer: one interpolation, of the combined rows
 
 pub batching-one : (first n γ : ℕ) (mask : List ℕ) (es : List (List ℕ)) (sum out : List ℕ) → Polys n es → 0 < length es → first + n ≤ q → length mask ≡ n
@@ -145,12 +151,13 @@ batching-one first n γ mask es sum out polys some u m s o =
     ∙ next-row n γ mask (map (interpN xs) es) m
 
 -- what the interpolation of a combination asks
-pub interpolation-asks : (first n z : ℕ) (rs : List (List ℕ)) (out s : List ℕ) → first + n ≤ q → n ≤ 320 → length out ≡ n → s ≡ combination n z rs
-    → (first + length s ≤ q) × (length s ≤ 320) × Elements s × (length out ≡ length s)
-interpolation-asks first n z rs out s u l o e =
+pub interpolation-asks : (first n z : ℕ) (rs : List (List ℕ)) (out s : List ℕ) → first + n ≤ pointsEnd → 0 < n → n ≤ tableSize → length out ≡ n → s ≡ combination n z rs
+    → (0 < length s) × (first + length s ≤ pointsEnd) × (length s ≤ tableSize) × Elements s × (length out ≡ length s)
+interpolation-asks first n z rs out s u p l o e =
     let m : length s ≡ n = ap length e ∙ combination-length n z rs in (
-      subst (λ (k : ℕ). first + k ≤ q) (sym m) u,
-      subst (λ (k : ℕ). k ≤ 320) (sym m) l,
+      subst (λ (k : ℕ). 0 < k) (sym m) p,
+      subst (λ (k : ℕ). first + k ≤ pointsEnd) (sym m) u,
+      subst (λ (k : ℕ). k ≤ tableSize) (sym m) l,
       subst Elements (sym e) (combination-below n z rs),
       o ∙ sym m,
     )

@@ -1,0 +1,4 @@
+pub mod Combining
+pub mod Writing
+pub mod Answers
+pub mod Rows
