@@ -1,6 +1,3 @@
-pub mod Rows
-pub mod Batching
-pub mod Evaluation
 pub mod Values
 pub mod Bounds
 pub mod Flat

@@ -1,7 +1,7 @@
 -- The reply's tests, and the values, are those on its words.
 use mathlib.Core.Path.{_≡_, refl, sym, ap, ap₂, _∙_}
 use mathlib.Core.Bool.{Bool}
-use mathlib.Core.List.{List, [], _∷_, _++_, map}
+use mathlib.Core.List.{List, [], _∷_, map}
 use Prim.Native.Nat.{ℕ, _+_, _*_, _/_, _-_, _<_}
 use native.Mathlib.Omega.{arith}
 use lib.Dec.{eqb, ltb}
@@ -21,11 +21,11 @@ use Rattle.scheme.specs.Sizes.{Sizes, elements, leaves, width, recordValues, po
 use Rattle.scheme.specs.Layers.{polynomialValues}
 use Rattle.scheme.specs.Question.{Question, pointsAt}
 use Rattle.checker.specs.Posed.{questionAt}
-use Rattle.checker.proofs.Values.{front-all}
 use Rattle.scheme.specs.Reply.{Reply, readReply, answersAt, recordsAt, recordLength, nodesAt, missingNodes, replyLength, recordWords}
 use Rattle.scheme.specs.Check.{leafAt, recordAt, batchingOf, pointOf, answerOf, replyElements, leafStrings, replyRoot, batchingAt, evaluationAt, checkValues}
 use Rattle.scheme.proofs.Walk.{batching-at, answer-at, record-at}
-use Rattle.checker.specs.Words.{batchingWords, answerWords, leafValuesAt, rowValuesAt, leafElementsAt, rowsOf, rootAt, recordWordsAt, recordElementsAt, leafDigestAt, batchOf, batchedAt, batchedRow, evaluatedAt, evaluatedLeaf, pointValues, valuesAt}
+use Rattle.equations.specs.Equations.{rowsOf, recordWordsAt, batchOf, batchedAt, batchedRow, evaluatedAt, evaluatedLeaf}
+use Rattle.checker.specs.Words.{batchingWords, answerWords, leafValuesAt, rowValuesAt, leafElementsAt, rootAt, recordElementsAt, leafDigestAt, pointValues, valuesAt}
 use Rattle.checker.proofs.Flat.{all-rows, rows-ext, wordsAt, words-rows, words-front, words-piece}
 
 map-map : (f : Bytes → Bytes) (g : ℕ → Bytes) (xs : List ℕ) → map f (map g xs) ≡ map (λ a. f (g a)) xs
@@ -159,25 +159,12 @@ module _ (u : Question) (reply : Bytes) where
 
 -- ---- what the code reads
 
-pub record-read : (at size n : ℕ) (reply d : List ℕ) (a : ℕ) (t : List ℕ) → length d ≡ n
-    → t ≡ words (length d) (drop 0 (take (at + size * a + size - (at + size * a)) (drop (at + size * a) reply))) ++ drop (length d) d → t ≡ recordWordsAt at size n reply a
-unfolding recordWordsAt
-record-read at size n reply d a t e f =
-    let k : at + size * a + size - (at + size * a) ≡ size = omega arith in
-    f
-    ∙ front-all (words (length d) (take (at + size * a + size - (at + size * a)) (drop (at + size * a) reply))) d (length d) refl
-    ∙ ap₂ (λ (i m : ℕ). words m (take i (drop (at + size * a) reply))) k e
-
 pub record-tested : (at size n : ℕ) (reply : List ℕ) (a : ℕ) (t : Bool)
     → t ≡ elements (words n (drop 0 (take (at + size * a + size - (at + size * a)) (drop (at + size * a) reply)))) → t ≡ recordElementsAt at size n reply a
 unfolding recordElementsAt recordWordsAt
 record-tested at size n reply a t f =
     let k : at + size * a + size - (at + size * a) ≡ size = omega arith in
     f ∙ ap (λ (i : ℕ). elements (words n (take i (drop (at + size * a) reply)))) k
-
-pub length-recordWordsAt : (at size n : ℕ) (reply : List ℕ) (a : ℕ) → length (recordWordsAt at size n reply a) ≡ n
-unfolding recordWordsAt
-length-recordWordsAt at size n reply a = length-words n _
 
 pub values-done : (s : Sizes) (m : ℕ) (question reply : Bytes) (wide from : ℕ) (ps : List ℕ) → wide ≡ width s → from ≡ answersAt s → ps ≡ words m (drop (pointsAt s) question)
     → rowsOf (valuesAt (s .μ) (s .ν) (s .w) wide ps (words (wide * length ps) (drop from reply))) (length ps) ≡ checkValues (questionAt s m question) (readReply (questionAt s m question) reply)

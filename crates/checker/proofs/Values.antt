@@ -1,18 +1,26 @@
 -- The values of the polynomials: at one point, and at all.
 use mathlib.Core.Path.{_≡_, refl, sym, ap, ap₂, _∙_}
-use mathlib.Core.List.{List, [], _∷_, _++_, map, append-nil, map-append}
-use Prim.Native.Nat.{ℕ, _+_, _-_, _*_, _<_}
+use mathlib.Core.List.{List, [], _∷_, _++_, map, map-append}
+use Prim.Native.Nat.{ℕ, suc, _+_, _-_, _*_, _<_}
 use native.Mathlib.Numerals.{add-one}
 use lib.ListN.{length, getD, take, drop, set, length-map}
-use lib.Seq.{drop-length, drop-drop}
+use lib.Seq.{drop-drop, drop-cons, set-at, append-snoc}
 use Rattle.lists.specs.Bytes.{words}
 use Rattle.lists.specs.Pieces.{piece, pieces, pieces-snoc, length-pieces}
 use Rattle.algebra.specs.Columns.{powN}
 use Rattle.algebra.specs.Numbers.{evalN}
 use Rattle.checker.specs.Words.{pointValues, valuesAt}
-use Rattle.checker.proofs.Rows.{front-step}
+use Rattle.equations.proofs.Rows.{front-all}
 use Rattle.checker.proofs.Flat.{words-piece}
 use Rattle.lists.specs.Parts.{part-is}
+
+-- where p stands in front of d, one element more is written behind it
+front-step : (p d : List ℕ) (i v : ℕ) → length p ≡ i → i < length d → set (p ++ drop i d) i v ≡ (p ++ (v ∷ [])) ++ drop (i + 1) d
+front-step p d i v e h =
+    ap (λ (t : List ℕ). set (p ++ t) i v) (drop-cons d i 0 h)
+    ∙ set-at p (getD d i 0) (drop (suc i) d) v i e
+    ∙ sym (append-snoc p v (drop (suc i) d))
+    ∙ ap (λ (k : ℕ). (p ++ (v ∷ [])) ++ drop k d) (sym (add-one i))
 
 pub length-pointValues : (ν base : ℕ) (answer : List ℕ) (n : ℕ) → length (pointValues ν base answer n) ≡ n
 unfolding pointValues
@@ -35,9 +43,6 @@ point-turn ν base answer d out i v h e f =
     ap₂ (λ (t : List ℕ) (k : ℕ). set t i k) e (f ∙ ap (λ (t : List ℕ). evalN t base) (part-is ν i answer))
     ∙ front-step (pointValues ν base answer i) d i (evalN (piece ν i answer) base) (length-pointValues ν base answer i) h
     ∙ ap (λ (t : List ℕ). t ++ drop (i + 1) d) (sym (point-next ν base answer i))
-
-pub front-all : (p d : List ℕ) (n : ℕ) → n ≡ length d → p ++ drop n d ≡ p
-front-all p d n e = ap (λ (t : List ℕ). p ++ t) (ap (λ (k : ℕ). drop k d) e ∙ drop-length d) ∙ append-nil p
 
 -- the row of a point
 pub length-valuesAt : (μ ν w width : ℕ) (points answers : List ℕ) (p : ℕ) → length (valuesAt μ ν w width points answers p) ≡ w

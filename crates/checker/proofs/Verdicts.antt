@@ -19,7 +19,8 @@ use Rattle.scheme.specs.Question.{Question}
 use Rattle.scheme.specs.Reply.{Reply, readReply, answersAt, recordsAt, recordLength, nodesAt, replyLength}
 use Rattle.scheme.specs.Check.{replyElements, replyRoot, batchingAt, evaluationAt, replyTests}
 use Rattle.scheme.proofs.Accepted.{leaves-high}
-use Rattle.checker.specs.Words.{recordWordsAt, recordElementsAt, rootAt, batchedRow, evaluatedLeaf, batchingWords, answerWords}
+use Rattle.equations.specs.Equations.{recordWordsAt, batchedRow, evaluatedLeaf}
+use Rattle.checker.specs.Words.{recordElementsAt, rootAt, batchingWords, answerWords}
 use Rattle.checker.specs.Posed.{posed, Posed, Read, laterTests}
 use Rattle.lists.specs.Parts.{read-front}
 use Rattle.commitment.proofs.Places.{width-high, answers-fit}

@@ -35,8 +35,8 @@ slice-aggregate-read-words c = search needs
 read-words-requires : tie.Need-read-words-requires
 read-words-requires c κs = search needs
 
-blank-row-requires : tie.Need-blank-row-requires
-blank-row-requires c κs = search needs
+blank-answer-requires : tie.Need-blank-answer-requires
+blank-answer-requires c κs = search needs
 
 cast-all-values : tie.Need-cast-all-values
 cast-all-values c = search needs
@@ -74,7 +74,7 @@ all-values-requires c κs =
     let m : ℕ = s .m in
     let n : ℕ = c .before .before .before .before .before .before .before .before .before .before .before .before .before .before .row-width .result in
     let from : ℕ = c .before .before .before .before .answers-at .result in
-    let b : List ℕ = c .before .before .before .before .before .before .before .before .blank-row .result in
+    let b : List ℕ = c .before .before .before .before .before .before .before .before .blank-answer .result in
     let x : List ℕ = take (m - 0) (drop 0 (c .before .before .before .before .before .before .before .before .before .before .read-words .last .1 .1 .1 .0)) in
     let l : length b ≡ 320 = search needs in
     let a : length (take (n - 0) (drop 0 b)) ≡ n = front-length n b (omega (arith, c .before .before .before .before .before .before .before .before .before .before .before .before .before .before .row-width .ensures, width-high (sizesIn (s .s)) (c .before .before .before .before .before .before .before .before .before .before .before .before .before .before .before .before .before .before .pre .0))) in
@@ -92,7 +92,7 @@ returns c =
     let s = c .before .before .before .before .before .before .before .before .before .before .before .before .before .before .before .before .before .before .before .before .before .before .args in
     let m : ℕ = s .m in
     let n : ℕ = c .before .before .before .before .before .before .before .before .before .before .before .before .before .before .before .before .before .before .row-width .result in
-    let b : List ℕ = c .before .before .before .before .before .before .before .before .before .before .before .before .blank-row .result in
+    let b : List ℕ = c .before .before .before .before .before .before .before .before .before .before .before .before .blank-answer .result in
     let l : length b ≡ 320 = search needs in
     let a : length (take (n - 0) (drop 0 b)) ≡ n = front-length n b (omega (arith, c .before .before .before .before .before .before .before .before .before .before .before .before .before .before .before .before .before .before .row-width .ensures, width-high (sizesIn (s .s)) (c .before .before .before .before .before .before .before .before .before .before .before .before .before .before .before .before .before .before .before .before .before .before .pre .0))) in
     c .before .before .before .all-values .ensures
@@ -110,7 +110,7 @@ fill-values-spec =
     add-read-words
     slice-aggregate-read-words
     read-words-requires
-    blank-row-requires
+    blank-answer-requires
     cast-all-values
     cast-all-values-2
     cast-all-values-3

@@ -5,7 +5,8 @@ use Prim.Native.Nat.{_+_, _-_, _≤_}
 use lib.ListN.{length, drop, length-set}
 use Rattle.checker.specs.Words.{pointValues}
 use Rattle.lists.specs.Parts.{row-fits}
-use Rattle.checker.proofs.Values.{point-start, point-turn, front-all}
+use Rattle.equations.proofs.Rows.{front-all}
+use Rattle.checker.proofs.Values.{point-start, point-turn}
 use borrow.Author.Needs.{needs}
 use native.Mathlib.Omega.{arith}
 use Rattle.checker.proofs.point_values.Statement.{statement}

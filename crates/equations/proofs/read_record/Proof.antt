@@ -1,10 +1,10 @@
--- `checker::read_record` meets its contract.
+-- `equations::read_record` meets its contract.
 use mathlib.Core.Path.{refl}
 use lib.ListN.{length}
-use Rattle.checker.proofs.ReplyTests.{record-read}
+use Rattle.equations.proofs.Records.{record-read}
 use borrow.Author.Needs.{needs}
-use Rattle.checker.proofs.read_record.Statement.{statement}
-use Rattle.checker.proofs.read_record.Tie as tie
+use Rattle.equations.proofs.read_record.Statement.{statement}
+use Rattle.equations.proofs.read_record.Tie as tie
 
 mul-from : tie.Need-mul-from
 mul-from c = search needs

@@ -1,4 +1,4 @@
--- `checker::evaluation_walk` meets its contract: the leaves passed so far agree.
+-- `equations::evaluation_walk` meets its contract: the leaves passed so far agree.
 use mathlib.Core.Path.{_≡_, refl, sym, _∙_, ap, subst}
 use mathlib.Core.Bool.{true}
 use mathlib.Core.List.{List}
@@ -8,12 +8,12 @@ use borrow.Author.Tests.{not-true, not-false}
 use Rattle.lists.specs.All.{all-at}
 use Rattle.lists.specs.Parts.{row-fits}
 use Rattle.lists.specs.Tests.{each, each-none, each-next, each-stop}
-use Rattle.checker.specs.Words.{recordWordsAt, scaledLeaf}
-use Rattle.checker.proofs.Evaluation.{leaf-is}
+use Rattle.equations.specs.Equations.{recordWordsAt, scaledLeaf}
+use Rattle.equations.proofs.Evaluation.{leaf-is}
 use borrow.Author.Needs.{needs}
 use native.Mathlib.Omega.{arith}
-use Rattle.checker.proofs.evaluation_walk.Statement.{statement}
-use Rattle.checker.proofs.evaluation_walk.Tie as tie
+use Rattle.equations.proofs.evaluation_walk.Statement.{statement}
+use Rattle.equations.proofs.evaluation_walk.Tie as tie
 
 abbrev Inv-loop : tie.InvT-loop
 Inv-loop m leaves width scales answers indices at size reply rows₀ first a₀ a-end rows a =

@@ -1,17 +1,17 @@
--- `checker::evaluation_ok` meets its contract.
+-- `equations::evaluation_ok` meets its contract.
 use mathlib.Core.Path.{_≡_, _∙_, ap, sym, subst}
 use Prim.Native.Nat.{ℕ, _-_, _*_, _≤_}
 use native.Mathlib.Nat.{mul-le-mul}
 use lib.ListN.{length, take, drop}
 use Rattle.lists.specs.Tests.{each}
-use Rattle.checker.specs.Words.{recordWordsAt, scaledLeaf}
-use Rattle.checker.proofs.Evaluation.{scaled-is}
+use Rattle.equations.specs.Equations.{recordWordsAt, scaledLeaf}
+use Rattle.equations.proofs.Evaluation.{scaled-is}
 use Rattle.lists.specs.Parts.{front-length}
-use Rattle.checker.proofs.ReplyTests.{length-recordWordsAt}
+use Rattle.equations.proofs.Records.{length-recordWordsAt}
 use borrow.Author.Needs.{needs}
 use native.Mathlib.Omega.{arith}
-use Rattle.checker.proofs.evaluation_ok.Statement.{statement}
-use Rattle.checker.proofs.evaluation_ok.Tie as tie
+use Rattle.equations.proofs.evaluation_ok.Statement.{statement}
+use Rattle.equations.proofs.evaluation_ok.Tie as tie
 
 blank-scales-requires : tie.Need-blank-scales-requires
 blank-scales-requires c κs = search needs

@@ -1,18 +1,18 @@
--- `checker::weighed_ok` meets its contract: the points passed so far agree.
+-- `equations::weighed_ok` meets its contract: the points passed so far agree.
 use mathlib.Core.Path.{_≡_, sym, _∙_}
 use mathlib.Core.Bool.{true}
 use Prim.Native.Nat.{ℕ, _-_, _≤_}
 use lib.ListN.{length}
 use borrow.Author.Tests.{eq-eqb, ne-eqb}
 use Rattle.lists.specs.Tests.{each, each-next, each-stop, each-none}
-use Rattle.checker.specs.Words.{weighedAt}
-use Rattle.checker.proofs.Rows.{part-length}
+use Rattle.equations.specs.Equations.{weighedAt}
+use Rattle.equations.proofs.Rows.{part-length}
 use Rattle.lists.specs.Parts.{row-fits}
-use Rattle.checker.proofs.Evaluation.{weighed}
+use Rattle.equations.proofs.Evaluation.{weighed}
 use borrow.Author.Needs.{needs}
 use native.Mathlib.Omega.{arith}
-use Rattle.checker.proofs.weighed_ok.Statement.{statement}
-use Rattle.checker.proofs.weighed_ok.Tie as tie
+use Rattle.equations.proofs.weighed_ok.Statement.{statement}
+use Rattle.equations.proofs.weighed_ok.Tie as tie
 
 abbrev Inv-loop : tie.InvT-loop
 Inv-loop m weights scales answers rows width mu p₀ p = (p ≤ m) × (each p (weighedAt weights scales answers rows) ≡ true)

@@ -1,17 +1,17 @@
--- `checker::batching_ok` meets its contract.
+-- `equations::batching_ok` meets its contract.
 use mathlib.Core.Path.{_≡_, _∙_, ap₂, sym, subst}
 use Prim.Native.Nat.{ℕ, _+_, _-_, _*_, _≤_}
 use native.Mathlib.Nat.{mul-le-mul}
 use lib.ListN.{length, take, drop}
 use Rattle.lists.specs.Tests.{each}
-use Rattle.checker.specs.Words.{recordWordsAt, valuedLeaf}
+use Rattle.equations.specs.Equations.{recordWordsAt, valuedLeaf}
 use Rattle.lists.specs.Parts.{front-length}
-use Rattle.checker.proofs.Batching.{batched-is}
-use Rattle.checker.proofs.ReplyTests.{length-recordWordsAt}
+use Rattle.equations.proofs.Batching.{batched-is}
+use Rattle.equations.proofs.Records.{length-recordWordsAt}
 use borrow.Author.Needs.{needs}
 use native.Mathlib.Omega.{arith}
-use Rattle.checker.proofs.batching_ok.Statement.{statement}
-use Rattle.checker.proofs.batching_ok.Tie as tie
+use Rattle.equations.proofs.batching_ok.Statement.{statement}
+use Rattle.equations.proofs.batching_ok.Tie as tie
 
 add-n : tie.Need-add-n
 add-n c = search needs

@@ -1,9 +1,9 @@
--- `checker::opened_point` meets its contract.
+-- `equations::opened_point` meets its contract.
 use Prim.Native.Nat.{ℕ, _<_}
 use Rattle.lists.specs.All.{all-at}
 use borrow.Author.Needs.{needs}
-use Rattle.checker.proofs.opened_point.Statement.{statement}
-use Rattle.checker.proofs.opened_point.Tie as tie
+use Rattle.equations.proofs.opened_point.Statement.{statement}
+use Rattle.equations.proofs.opened_point.Tie as tie
 
 mul-i : tie.Need-mul-i
 mul-i c = search needs

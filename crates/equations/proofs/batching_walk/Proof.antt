@@ -1,4 +1,4 @@
--- `checker::batching_walk` meets its contract: the pairs walked so far agree, and one that does not ends both walks.
+-- `equations::batching_walk` meets its contract: the pairs walked so far agree, and one that does not ends both walks.
 use mathlib.Core.Path.{_≡_, refl, sym, _∙_, ap, ap₂, subst}
 use mathlib.Core.Bool.{true}
 use mathlib.Core.List.{List}
@@ -7,12 +7,12 @@ use lib.ListN.{length}
 use borrow.Author.Tests.{not-true, not-false}
 use Rattle.lists.specs.Parts.{row-fits}
 use Rattle.lists.specs.Tests.{each, each-next}
-use Rattle.checker.specs.Words.{recordWordsAt, valuedAt, valuedLeaf}
-use Rattle.checker.proofs.Batching.{leaf-none, all-none, leaf-done, dotted-is, valued-fails}
+use Rattle.equations.specs.Equations.{recordWordsAt, valuedAt, valuedLeaf}
+use Rattle.equations.proofs.Batching.{leaf-none, all-none, leaf-done, dotted-is, valued-fails}
 use borrow.Author.Needs.{needs}
 use native.Mathlib.Omega.{arith}
-use Rattle.checker.proofs.batching_walk.Statement.{statement}
-use Rattle.checker.proofs.batching_walk.Tie as tie
+use Rattle.equations.proofs.batching_walk.Statement.{statement}
+use Rattle.equations.proofs.batching_walk.Tie as tie
 
 abbrev Inv-loop : tie.InvT-loop
 Inv-loop mu challenges batching scales indices at size reply powers values ok₀ a k₀ a-end k-end ok k =

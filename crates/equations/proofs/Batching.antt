@@ -16,8 +16,8 @@ use Rattle.algebra.specs.Columns.{powN}
 use Rattle.algebra.specs.Dot.{dotN, dot-powersN}
 use Rattle.algebra.specs.Numbers.{evalN}
 use Rattle.scheme.specs.Sizes.{leafPoint}
-use Rattle.checker.specs.Words.{rowsOf, powersAt, batchOf, batchBy, dottedAt, valuedAt, valuedLeaf, batchedAt, batchedRow}
-use Rattle.checker.proofs.Rows.{row-at}
+use Rattle.equations.specs.Equations.{rowsOf, powersAt, batchOf, batchBy, dottedAt, valuedAt, valuedLeaf, batchedAt, batchedRow}
+use Rattle.equations.proofs.Rows.{row-at}
 use Rattle.lists.specs.Parts.{part-is, length-piece}
 
 pub length-powersAt : (n : ℕ) (xs : List ℕ) (a : ℕ) → length (powersAt n xs a) ≡ n

@@ -1,8 +1,8 @@
--- `checker::batching_agrees` meets its contract.
-use Rattle.checker.proofs.Batching.{agrees}
+-- `equations::batching_agrees` meets its contract.
+use Rattle.equations.proofs.Batching.{agrees}
 use borrow.Author.Needs.{needs}
-use Rattle.checker.proofs.batching_agrees.Statement.{statement}
-use Rattle.checker.proofs.batching_agrees.Tie as tie
+use Rattle.equations.proofs.batching_agrees.Statement.{statement}
+use Rattle.equations.proofs.batching_agrees.Tie as tie
 
 mul-answer : tie.Need-mul-answer
 mul-answer c = search needs

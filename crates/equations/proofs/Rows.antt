@@ -1,18 +1,17 @@
 -- Rows of one length, one after the other: a loop that writes them, and each row read again.
 use mathlib.Core.Path.{_≡_, refl, sym, ap, ap₂, _∙_}
 use mathlib.Core.List.{List, [], _∷_, _++_, map, flatten, append-assoc, append-nil, map-append}
-use Prim.Native.Nat.{ℕ, suc, _+_, _-_, _*_, _≤_, _<_}
+use Prim.Native.Nat.{ℕ, _+_, _-_, _*_, _≤_, _<_}
 use native.Mathlib.Nat.{zero-add}
 use native.Mathlib.Numerals.{add-one}
 use native.Mathlib.Omega.{arith}
-use lib.ListN.{length, getD, take, drop, length-map, set}
-use lib.Seq.{take-at, drop-drop, drop-append-add, drop-cons, set-at, append-snoc}
+use lib.ListN.{length, getD, take, drop, length-map}
+use lib.Seq.{take-at, drop-drop, drop-length, drop-append-add}
 use borrow.Rule.Slice.PartMut.{putMid, post-is}
 use Rattle.lists.specs.All.{Sized, all-each}
 use Rattle.lists.specs.Range.{upFrom-snoc, upFrom, length-upFrom, at-run}
 use Rattle.lists.specs.Pieces.{piece, pieces, pieces-at, pieces-flatten, flatten-append, length-flatten}
-use Rattle.lists.specs.Tests.{each}
-use Rattle.checker.specs.Words.{rowsOf}
+use Rattle.equations.specs.Equations.{rowsOf}
 use Rattle.lists.specs.Parts.{span-length}
 
 pub rows-none : (f : ℕ → List ℕ) → rowsOf f 0 ≡ []
@@ -78,10 +77,6 @@ rows-start k f d = let e : 0 ≡ k * 0 = omega arith in ap (λ (j : ℕ). drop j
 pub part-length : (k a : ℕ) (t : List ℕ) → k * a + k ≤ length t → length (take (k * a + k - k * a) (drop (k * a) t)) ≡ k
 part-length k a t h = span-length (k * a) k t h
 
--- where p stands in front of d, one element more is written behind it
-pub front-step : (p d : List ℕ) (i v : ℕ) → length p ≡ i → i < length d → set (p ++ drop i d) i v ≡ (p ++ (v ∷ [])) ++ drop (i + 1) d
-front-step p d i v e h =
-    ap (λ (t : List ℕ). set (p ++ t) i v) (drop-cons d i 0 h)
-    ∙ set-at p (getD d i 0) (drop (suc i) d) v i e
-    ∙ sym (append-snoc p v (drop (suc i) d))
-    ∙ ap (λ (k : ℕ). (p ++ (v ∷ [])) ++ drop k d) (sym (add-one i))
+-- behind as many elements as d has, nothing of it is left
+pub front-all : (p d : List ℕ) (n : ℕ) → n ≡ length d → p ++ drop n d ≡ p
+front-all p d n e = ap (λ (t : List ℕ). p ++ t) (ap (λ (k : ℕ). drop k d) e ∙ drop-length d) ∙ append-nil p

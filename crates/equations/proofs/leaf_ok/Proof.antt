@@ -1,14 +1,14 @@
--- `checker::leaf_ok` meets its contract.
+-- `equations::leaf_ok` meets its contract.
 use mathlib.Core.Path.{_≡_, _∙_, ap, subst, sym}
 use mathlib.Core.List.{List}
 use Prim.Native.Nat.{ℕ, _-_, _*_, _≤_}
 use lib.ListN.{length, take, drop}
 use borrow.Rule.Slice.PartMut.{putMid}
-use Rattle.checker.proofs.Evaluation.{front-again, front-fits, basis-front, weighed-is}
+use Rattle.equations.proofs.Evaluation.{front-again, front-fits, basis-front, weighed-is}
 use borrow.Author.Needs.{needs}
 use native.Mathlib.Omega.{arith}
-use Rattle.checker.proofs.leaf_ok.Statement.{statement}
-use Rattle.checker.proofs.leaf_ok.Tie as tie
+use Rattle.equations.proofs.leaf_ok.Statement.{statement}
+use Rattle.equations.proofs.leaf_ok.Tie as tie
 
 blank-row-requires : tie.Need-blank-row-requires
 blank-row-requires c κs = search needs

@@ -16,8 +16,8 @@ use Rattle.algebra.specs.Dot.{dotN}
 use Rattle.algebra.specs.Basis.{basisN, dot-basisN, length-basisN}
 use Rattle.algebra.specs.Numbers.{evalN, interpN}
 use Rattle.scheme.specs.Sizes.{leafPoint}
-use Rattle.checker.specs.Words.{rowsOf, powersAt, weighedAt, scaledAt, scaledLeaf, evaluatedAt, evaluatedLeaf}
-use Rattle.checker.proofs.Batching.{dot-row}
+use Rattle.equations.specs.Equations.{rowsOf, powersAt, weighedAt, scaledAt, scaledLeaf, evaluatedAt, evaluatedLeaf}
+use Rattle.equations.proofs.Batching.{dot-row}
 use Rattle.lists.specs.Parts.{front-length, part-is}
 
 -- the code's two sides at one point

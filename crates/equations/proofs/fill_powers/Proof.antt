@@ -1,17 +1,17 @@
--- `checker::fill_powers` meets its contract: after a turns the first a rows are written.
+-- `equations::fill_powers` meets its contract: after a turns the first a rows are written.
 use mathlib.Core.Path.{_≡_, refl, _∙_}
 use mathlib.Core.List.{List, _++_}
 use Prim.Native.Nat.{ℕ, _+_, _-_, _*_, _≤_}
 use lib.ListN.{length, drop}
 use borrow.Rule.Slice.PartMut.{same-len-mid}
-use Rattle.checker.specs.Words.{rowsOf, powersAt}
-use Rattle.checker.proofs.Rows.{rows-start, row-turn, part-length}
+use Rattle.equations.specs.Equations.{rowsOf, powersAt}
+use Rattle.equations.proofs.Rows.{rows-start, row-turn, part-length}
 use Rattle.lists.specs.Parts.{row-fits}
-use Rattle.checker.proofs.Batching.{length-powersAt, powers-is}
+use Rattle.equations.proofs.Batching.{length-powersAt, powers-is}
 use borrow.Author.Needs.{needs}
 use native.Mathlib.Omega.{arith}
-use Rattle.checker.proofs.fill_powers.Statement.{statement}
-use Rattle.checker.proofs.fill_powers.Tie as tie
+use Rattle.equations.proofs.fill_powers.Statement.{statement}
+use Rattle.equations.proofs.fill_powers.Tie as tie
 
 abbrev Inv-loop : tie.InvT-loop
 Inv-loop n xs table₀ a₀ a-end table a = (a-end ≡ length xs) × (a ≤ length xs) × (length table ≡ length table₀) × (table ≡ rowsOf (powersAt n xs) a ++ drop (n * a) table₀)
