@@ -1,15 +1,16 @@
-/* Cost of the library beside the plain C implementation, on the same inputs in one run.
+/* Cost of the library beside the plain C implementation, and beside an older library, on the same inputs in one run.
  *
  *     bench                      all tables below, in Markdown
- *     bench times                time of committing, opening, checking at six sizes
+ *     bench times                time of committing, opening, checking at nine sizes
  *     bench growth               how the library's time grows with each size
  *     bench stack                stack that each entry uses
  *     bench names                the implementations, one to a line
+ *     bench sizes                the numbers of the sizes, one to a line
  *     bench once OP SIZE NAME    one call alone, to be counted by valgrind (bench.sh)
  *     bench permutations OP SIZE permutations of Keccak in that call
  *
  * Built with -DPLAIN_OPENSSL, plain_* hashes with OpenSSL and plain_keccak_* with plain/keccak.c; without it
- * only plain_* is there, with plain/keccak.c. Times are processor time of this program. */
+ * only plain_* is there, with plain/keccak.c. Built with -DBEFORE, before_* is the older library. Times are processor time of this program. */
 #define _GNU_SOURCE
 #include <inttypes.h>
 #include <pthread.h>
@@ -23,6 +24,7 @@
 #include "plain/shake.h"
 
 ENTRIES(smallwood);
+ENTRIES(before);
 ENTRIES(plain);
 ENTRIES(plain_keccak);
 
@@ -37,6 +39,9 @@ static const char *const operation_names[OPERATIONS] = {"commit", "open", "check
 
 static const struct implementation implementations[] = {
     IMPLEMENTATION(smallwood),
+#ifdef BEFORE
+    IMPLEMENTATION(before),
+#endif
     IMPLEMENTATION(plain),
 #ifdef PLAIN_OPENSSL
     IMPLEMENTATION(plain_keccak),
@@ -45,6 +50,9 @@ static const struct implementation implementations[] = {
 
 static const char *const shown_names[] = {
     "library",
+#ifdef BEFORE
+    "before",
+#endif
 #ifdef PLAIN_OPENSSL
     "plain C, OpenSSL",
 #endif
@@ -53,12 +61,20 @@ static const char *const shown_names[] = {
 
 #define IMPLEMENTATIONS (sizeof implementations / sizeof implementations[0])
 
-static const struct sizes six_sizes[] = {
+/* The library, and the older one after it. */
+#ifdef BEFORE
+#define LIBRARIES 2
+#else
+#define LIBRARIES 1
+#endif
+
+static const struct sizes nine_sizes[] = {
     {1, 1, 1, 1, 1, 1, 1},     {4, 4, 2, 2, 4, 1, 1},      {6, 8, 4, 4, 8, 2, 1},
     {8, 16, 8, 8, 16, 2, 2},   {10, 32, 16, 8, 32, 3, 4},  {12, 64, 16, 16, 64, 4, 8},
+    {10, 16, 8, 4, 24, 2, 3},  {12, 64, 1, 256, 64, 4, 8}, {12, 64, 256, 1, 64, 4, 8},
 };
 
-#define SIZES (sizeof six_sizes / sizeof six_sizes[0])
+#define SIZES (sizeof nine_sizes / sizeof nine_sizes[0])
 
 static uint32_t call(const struct implementation *with, enum operation operation,
                      struct instance *a)
@@ -226,7 +242,7 @@ static void show_times(void)
     puts("");
     for (size_t n = 0; n < SIZES; n++)
         for (enum operation operation = 0; operation < OPERATIONS; operation++) {
-            struct instance *a = prepared(six_sizes[n], operation);
+            struct instance *a = prepared(nine_sizes[n], operation);
             struct timing found[IMPLEMENTATIONS];
             compare(a, operation);
             measure(a, operation, IMPLEMENTATIONS, found);
@@ -249,7 +265,7 @@ static void show_times(void)
 static void show_growth_of(const char *name, struct sizes *s, uint32_t *size, uint32_t first,
                            uint32_t last)
 {
-    double before[OPERATIONS] = {0};
+    double last_seconds[OPERATIONS] = {0};
     uint32_t kept = *size;
 
     for (uint32_t value = first; value <= last; value = size == &s->h ? value + 1 : 2 * value) {
@@ -257,14 +273,16 @@ static void show_growth_of(const char *name, struct sizes *s, uint32_t *size, ui
         printf("| %s | %u ", name, size == &s->h ? 1u << value : value);
         for (enum operation operation = 0; operation < OPERATIONS; operation++) {
             struct instance *a = prepared(*s, operation);
-            struct timing found;
-            measure(a, operation, 1, &found);
-            printf("| %.1f ", 1e6 * found.least);
-            if (before[operation] > 0)
-                printf("| %.2f ", found.least / before[operation]);
+            struct timing found[LIBRARIES];
+            measure(a, operation, LIBRARIES, found);
+            printf("| %.1f ", 1e6 * found[0].least);
+            if (last_seconds[operation] > 0)
+                printf("| %.2f ", found[0].least / last_seconds[operation]);
             else
                 printf("| ");
-            before[operation] = found.least;
+            for (size_t i = 1; i < LIBRARIES; i++)
+                printf("| %.1f | %.2f ", 1e6 * found[i].least, found[0].least / found[i].least);
+            last_seconds[operation] = found[0].least;
             free_instance(a);
         }
         puts("|");
@@ -278,10 +296,19 @@ static void show_growth(void)
     struct sizes s = {10, 16, 8, 8, 16, 2, 2};
 
     printf("\nThe library's least microseconds as one size doubles and the others stay (h=%u, mu=%u, nu=%u, "
-           "w=%u, l=%u, eta=%u, m=%u), with the factor to the line above.\n\n",
-           s.h, s.mu, s.nu, s.w, s.l, s.eta, s.m);
-    puts("| doubled | to | commit | factor | open | factor | check | factor |");
-    puts("|---|---|---|---|---|---|---|---|");
+           "w=%u, l=%u, eta=%u, m=%u), with the factor to the line above%s.\n\n",
+           s.h, s.mu, s.nu, s.w, s.l, s.eta, s.m,
+           LIBRARIES > 1 ? ", the older library's, and the ratio to it" : "");
+    printf("| doubled | to ");
+    for (enum operation operation = 0; operation < OPERATIONS; operation++) {
+        printf("| %s | factor ", operation_names[operation]);
+        for (size_t i = 1; i < LIBRARIES; i++)
+            printf("| %s | to %s ", shown_names[i], shown_names[i]);
+    }
+    printf("|\n|---|---|");
+    for (size_t i = 0; i < 2 * LIBRARIES * OPERATIONS; i++)
+        printf("---|");
+    puts("");
     show_growth_of("N", &s, &s.h, 7, 12);
     show_growth_of("mu (rows)", &s, &s.mu, 4, 64);
     show_growth_of("l", &s, &s.l, 4, 64);
@@ -342,22 +369,31 @@ static void show_stack(void)
     for (size_t i = 0; i < IMPLEMENTATIONS; i++)
         for (enum operation operation = 0; operation < OPERATIONS; operation++)
             printf("| %s, %s ", operation_names[operation], shown_names[i]);
+    for (size_t i = 1; i < LIBRARIES; i++)
+        for (enum operation operation = 0; operation < OPERATIONS; operation++)
+            printf("| %s, to %s ", operation_names[operation], shown_names[i]);
     printf("|\n|---|---|---|---|---|---|---|");
-    for (size_t i = 0; i < OPERATIONS * IMPLEMENTATIONS; i++)
+    for (size_t i = 0; i < OPERATIONS * (IMPLEMENTATIONS + LIBRARIES - 1); i++)
         printf("---|");
     puts("");
     for (size_t n = 0; n < SIZES; n++) {
-        print_sizes(&six_sizes[n]);
+        double bytes[IMPLEMENTATIONS][OPERATIONS];
+        print_sizes(&nine_sizes[n]);
         for (size_t i = 0; i < IMPLEMENTATIONS; i++)
             for (enum operation operation = 0; operation < OPERATIONS; operation++) {
-                struct instance *a = prepared(six_sizes[n], operation);
+                struct instance *a = prepared(nine_sizes[n], operation);
                 struct stack_call c = {&implementations[i], operation, a, 0};
                 size_t used = touched(&c);
                 if (c.number != 0)
                     fail("an honest call was refused");
-                printf("| %zu ", used > base ? used - base : 0);
+                used = used > base ? used - base : 0;
+                printf("| %zu ", used);
+                bytes[i][operation] = (double)used;
                 free_instance(a);
             }
+        for (size_t i = 1; i < LIBRARIES; i++)
+            for (enum operation operation = 0; operation < OPERATIONS; operation++)
+                printf("| %.2f ", bytes[0][operation] / bytes[i][operation]);
         puts("|");
         fflush(stdout);
     }
@@ -379,8 +415,8 @@ static const struct sizes *sizes_numbered(const char *number)
     size_t n = (size_t)atoi(number);
 
     if (n < 1 || n > SIZES)
-        fail("sizes are numbered from 1 to 6");
-    return &six_sizes[n - 1];
+        fail("no such size: see bench sizes");
+    return &nine_sizes[n - 1];
 }
 
 static void once(const char *operation, const char *size, const char *name)
@@ -415,6 +451,9 @@ int main(int count, char **words)
     } else if (strcmp(mode, "names") == 0) {
         for (size_t i = 0; i < IMPLEMENTATIONS; i++)
             printf("%s\n", implementations[i].name);
+    } else if (strcmp(mode, "sizes") == 0) {
+        for (size_t n = 1; n <= SIZES; n++)
+            printf("%zu\n", n);
     } else if (all || strcmp(mode, "times") == 0 || strcmp(mode, "growth") == 0 ||
                strcmp(mode, "stack") == 0) {
         if (all || strcmp(mode, "times") == 0)
@@ -424,7 +463,7 @@ int main(int count, char **words)
         if (all || strcmp(mode, "stack") == 0)
             show_stack();
     } else {
-        fail("usage: bench [times | growth | stack | names | once OP SIZE NAME | permutations OP SIZE]");
+        fail("usage: bench [times | growth | stack | names | sizes | once OP SIZE NAME | permutations OP SIZE]");
     }
     return 0;
 }

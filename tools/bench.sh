@@ -5,31 +5,33 @@
 #     tools/bench.sh times             one of: times, growth, stack, instructions
 #
 #     --archive FILE     measures this archive and does not build the library
+#     --before FILE      measures this older archive too, in the same runs: the tables have it as `before`
 #     --stand-in         measures the plain C implementation, to test these tools
 #
-# Needs gcc, and rt unless an archive is given. With OpenSSL's headers (libssl-dev) the plain implementation
-# is measured with OpenSSL's hash too; with valgrind instructions are counted.
+# Needs gcc, rt unless an archive is given, and binutils for --before. With OpenSSL's headers (libssl-dev) the plain
+# implementation is measured with OpenSSL's hash too; with valgrind instructions are counted.
 
 set -eu
 . "$(dirname "$0")/common.sh"
 
 read_options "$@"
 need_compiler
-find_archive
+find_archive smallwood
+find_before smallwood
 
 object keccak.o plain/keccak.c
 objects=$build/keccak.o
-if has_openssl; then
+if has_openssl EVP_shake256; then
     object plain.o plain/plain.c -DPLAIN_OPENSSL
     object plain-keccak.o plain/plain.c -DPLAIN_PREFIX=plain_keccak
     object evp.o plain/evp.c
     objects="$objects $build/plain.o $build/plain-keccak.o $build/evp.o"
-    with="-DPLAIN_OPENSSL -lcrypto"
+    with="$before -DPLAIN_OPENSSL -lcrypto"
 else
     echo "OpenSSL's headers (libssl-dev) are not installed: only plain/keccak.c is measured beside the library"
     object plain.o plain/plain.c
     objects="$objects $build/plain.o"
-    with=
+    with=$before
 fi
 # With all symbols bound at the start, no count includes the linker's work.
 # shellcheck disable=SC2086
@@ -51,7 +53,7 @@ instructions() {
     for name in $names; do printf -- '---|'; done
     for name in $names; do [ "$name" = smallwood ] || printf -- '---|'; done
     echo
-    for size in 1 2 3 4 5 6; do
+    for size in $("$build/bench" sizes); do
         for operation in commit open check; do
             printf '| %s | %s | %s ' "$size" "$operation" "$("$build/bench" permutations "$operation" "$size")"
             ratios=

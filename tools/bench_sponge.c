@@ -1,5 +1,5 @@
-/* Speed of SHAKE256 with 32 bytes of output: the archive of crate sponge_bench, OpenSSL, and a plain C implementation, in one run.
- * tools/bench_sponge.sh builds and runs it. */
+/* Speed of SHAKE256 with 32 bytes of output: the archive of crate sponge_bench, an older one (with -DBEFORE), OpenSSL, and a plain C
+ * implementation, in one run. tools/bench_sponge.sh builds and runs it. */
 #include <openssl/evp.h>
 #include <stddef.h>
 #include <stdint.h>
@@ -10,18 +10,24 @@
 
 enum { RATE = 136, OUT = 32, ROUNDS = 61 };
 
-/* ---- the archive */
+/* ---- the archive, and the older one */
 
 struct digest {
     uint8_t bytes[OUT];
 };
-struct digest sponge_bench_digest(const uint8_t *message, size_t length);
 
-static void by_archive(const uint8_t *message, size_t length, uint8_t out[OUT])
-{
-    struct digest d = sponge_bench_digest(message, length);
-    memcpy(out, d.bytes, OUT);
-}
+#define BY(name, function)                                                                                                         \
+    struct digest function(const uint8_t *message, size_t length);                                                                 \
+    static void name(const uint8_t *message, size_t length, uint8_t out[OUT])                                                      \
+    {                                                                                                                              \
+        struct digest d = function(message, length);                                                                               \
+        memcpy(out, d.bytes, OUT);                                                                                                 \
+    }
+
+BY(by_archive, sponge_bench_digest)
+#ifdef BEFORE
+BY(by_before, before_digest)
+#endif
 
 /* ---- OpenSSL, with the algorithm fetched and the context made once */
 
@@ -106,7 +112,14 @@ typedef void hash(const uint8_t *message, size_t length, uint8_t out[OUT]);
 static const struct {
     const char *name;
     hash *run;
-} peers[] = {{"archive", by_archive}, {"plain C", by_plain_c}, {"OpenSSL", by_openssl}};
+} peers[] = {
+    {"archive", by_archive},
+#ifdef BEFORE
+    {"before", by_before},
+#endif
+    {"plain C", by_plain_c},
+    {"OpenSSL", by_openssl},
+};
 enum { PEERS = sizeof peers / sizeof peers[0] };
 
 /* Nanoseconds of processor time for a number of messages, each with the digest of the one before in its first bytes. */

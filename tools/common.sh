@@ -27,9 +27,9 @@ need_python() {
     export PYTHONDONTWRITEBYTECODE=1
 }
 
-# Whether programs can be built with OpenSSL.
+# has_openssl FUNCTION: whether programs can be built with that function of OpenSSL.
 has_openssl() {
-    printf '#include <openssl/evp.h>\nint main(void) { return EVP_shake256() == 0; }\n' > "$build/openssl.c"
+    printf '#include <openssl/evp.h>\nint main(void) { return %s == 0; }\n' "$1" > "$build/openssl.c"
     "$CC" "$build/openssl.c" -lcrypto -o "$build/openssl" > /dev/null 2>&1
 }
 
@@ -42,7 +42,7 @@ object() {
     "$CC" $CFLAGS "$@" -c "$tools/$source" -o "$build/$out"
 }
 
-# Sets archive: the one given, the stand-in, or the library's, which rt proves and writes.
+# find_archive CRATE: sets archive: the one given, the stand-in, or the crate's, which rt proves and writes.
 find_archive() {
     if [ -n "$given_archive" ]; then
         archive=$given_archive
@@ -57,14 +57,30 @@ find_archive() {
         echo "stand-in: the plain C implementation under the library's names"
     else
         need rt "to prove and build the library (or give --archive FILE)"
-        (cd "$root" && rt staticlib smallwood) || fail "rt staticlib smallwood failed"
-        archive=$root/target/staticlib/libsmallwood.a
+        (cd "$root" && rt staticlib "$1") || fail "rt staticlib $1 failed"
+        archive=$root/target/staticlib/lib$1.a
         [ -f "$archive" ] || fail "rt staticlib left no $archive"
     fi
 }
 
-# Sets given_archive, given_program, without_program, stand_in; the other words stay in `words`.
+# find_before PREFIX: sets before: nothing without --before; with it, what to compile and link beside the archive. The
+# older archive exports the same names, so it is made one object that shows its PREFIX_* as before_*, and no other name.
+find_before() {
+    before=
+    [ -n "$given_before" ] || return 0
+    [ -f "$given_before" ] || fail "there is no archive $given_before"
+    for tool in ld nm objcopy; do need "$tool" "for --before (Debian: binutils)"; done
+    before="-DBEFORE $build/before.o"
+    ld -r --whole-archive "$given_before" -o "$build/before.o"
+    objcopy --wildcard --keep-global-symbol="$1_*" "$build/before.o"
+    nm -g --defined-only "$build/before.o" | sed -n "s/.* $1_\(.*\)/$1_\1 before_\1/p" > "$build/before.names"
+    [ -s "$build/before.names" ] || fail "$given_before has no functions $1_*"
+    objcopy --redefine-syms="$build/before.names" "$build/before.o"
+}
+
+# Sets given_archive, given_before, given_program, without_program, stand_in; the other words stay in `words`.
 given_archive=
+given_before=
 given_program=
 without_program=no
 stand_in=no
@@ -73,9 +89,13 @@ words=
 read_options() {
     while [ $# -gt 0 ]; do
         case $1 in
-            --archive | --program)
+            --archive | --before | --program)
                 [ $# -gt 1 ] || fail "$1 needs a file"
-                [ "$1" = --archive ] && given_archive=$2 || given_program=$2
+                case $1 in
+                    --archive) given_archive=$2 ;;
+                    --before) given_before=$2 ;;
+                    --program) given_program=$2 ;;
+                esac
                 shift
                 ;;
             --stand-in) stand_in=yes ;;

@@ -25,7 +25,7 @@ case " $words " in
         ;;
 esac
 
-find_archive
+find_archive smallwood
 # shellcheck disable=SC2086
 "$CC" $CFLAGS "$tools/conformance.c" "$archive" -o "$build/conformance"
 if [ "$without_program" = yes ]; then

@@ -15,7 +15,7 @@ set -eu
 read_options "$@"
 need_compiler
 need_python
-find_archive
+find_archive smallwood
 # shellcheck disable=SC2086
 "$CC" $CFLAGS "$tools/soak.c" "$tools/instance.c" "$archive" -o "$build/soak"
 python3 "$tools/soak_inputs.py" "$build/soak.inputs"
