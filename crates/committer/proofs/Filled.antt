@@ -20,7 +20,8 @@ use Rattle.scheme.proofs.Accepted.{Good}
 use Rattle.scheme.proofs.Lent.{Rights, rights}
 use Rattle.scheme.proofs.Committed.{table-length, level-length, level-sized}
 use Rattle.lent.proofs.Measures.{leaves-low}
-use Rattle.committer.specs.Clauses.{Evaluable, Hashable, Committable}
+use Rattle.evaluations.specs.Clauses.{Evaluable}
+use Rattle.committer.specs.Clauses.{Hashable, Committable}
 
 module _ (s : Sizes) (coefficients tails masks nonces table nodes : List ℕ) (c : Committable s (lentOf coefficients tails masks nonces) table nodes) where
   abbrev l : Lent

@@ -13,7 +13,7 @@ use lib.Seq.{getD-set-same, getD-set-other}
 use Rattle.algebra.specs.Prime.{q}
 use Rattle.algebra.specs.Field.{K, of, of-path, of-add, same-mod, _⊕_}
 use Rattle.algebra.specs.Differences.{difference, difference-step}
-use Rattle.extrapolation.specs.Lanes.{limit, entry, Addable, Small, grown, Grown, turned, Five, Handed, LaneStep, KeptLines, KeptLanes}
+use Rattle.extrapolation.specs.Lanes.{run, limit, entry, Addable, Small, grown, Grown, turned, Five, Handed, LaneStep, KeptLines, KeptLanes}
 
 -- ---- folding
 
@@ -30,11 +30,11 @@ unfolding grown
 grown-more zero n = rw (add-zero n) (omega arith)
 grown-more (suc m) n = rw (add-suc n m) (omega (arith, grown-more m n))
 
-pub grown-high : (n : ℕ) → n ≤ 24 → grown n ≤ 576460752303423488
+pub grown-high : (n : ℕ) → n ≤ run → grown n ≤ 576460752303423488
 unfolding grown
-grown-high n l = subst (λ (m : ℕ). grown n ≤ grown m) e (grown-more (24 - n) n)
+grown-high n l = subst (λ (m : ℕ). grown n ≤ grown m) e (grown-more (run - n) n)
   where
-    e : n + (24 - n) ≡ 24
+    e : n + (run - n) ≡ run
     e = omega arith
 
 pub grown-pos : (n : ℕ) → 0 < grown n
@@ -52,7 +52,7 @@ abbrev FiveV : (ℕ → K) → ℕ → List ℕ → ℕ → Type 0
 FiveV g k v i = (c : ℕ) → c < 5 → of (entry v c) ≡ difference (k + c) g i
 
 pub record LaneInv (t : List ℕ) (at : ℕ) (w₀ : List ℕ) (j : ℕ) (w v : List ℕ) (n : ℕ) : Type 0 where
-  pub room : length w ≡ 96
+  pub room : length w ≡ 4 * run
   pub small : (k : ℕ) → entry v k < grown n
   pub handed-small : Grown w
   pub rest : (m : ℕ) → n ≤ m → entry w (4 * m + j) ≡ entry w₀ (4 * m + j)
@@ -84,7 +84,7 @@ start-five t at f k i a (suc (suc (suc zero))) l = a 1 3 refl ∙ ap (difference
 start-five t at f k i a (suc (suc (suc (suc zero)))) l = ap (λ (m : ℕ). of (entry t m)) (sym (add-zero at)) ∙ a 0 4 refl ∙ ap (difference (k + 4) f) (sym (add-zero i))
 start-five t at f k i a (suc (suc (suc (suc (suc c))))) l = absurd (not-suc-le-zero {n = 0} (omega arith))
 
-pub lane-holds : (t : List ℕ) (at : ℕ) (w : List ℕ) (j : ℕ) → length w ≡ 96 → Small t → Grown w
+pub lane-holds : (t : List ℕ) (at : ℕ) (w : List ℕ) (j : ℕ) → length w ≡ 4 * run → Small t → Grown w
     → LaneInv t at w j w (entry t (at + 16) ∷ entry t (at + 12) ∷ entry t (at + 8) ∷ entry t (at + 4) ∷ entry t at ∷ []) 0
 unfolding five-of
 lane-holds t at w j l s g = record {
@@ -141,7 +141,7 @@ module _ (w : List ℕ) (n j x : ℕ) (l : 4 * n + j < length w) (u : j < 4) whe
       go (yes e) (no f) = subst (λ (k : ℕ). entry put (4 * m + k) < grown m) (sym e) (subst (λ (k : ℕ). k < grown m) (sym (put-else m f)) (g m j u))
       go (no e) d = subst (λ (k : ℕ). k < grown m) (sym (put-lane m i h e)) (g m i h)
 
-pub lane-turn : (t : List ℕ) (at : ℕ) (w₀ : List ℕ) (j : ℕ) (w v v' : List ℕ) (n : ℕ) → j < 4 → n < 24 → LaneInv t at w₀ j w v n
+pub lane-turn : (t : List ℕ) (at : ℕ) (w₀ : List ℕ) (j : ℕ) (w v v' : List ℕ) (n : ℕ) → j < 4 → n < run → LaneInv t at w₀ j w v n
     → v' ≡ turned v (entry w (4 * n + j)) → LaneInv t at w₀ j (set w (4 * n + j) (entry v 0)) v' (n + 1)
 unfolding Grown KeptLanes Handed
 lane-turn t at w₀ j w v v' n u b inv e = record {
@@ -246,7 +246,7 @@ module _ (t : List ℕ) (at a b c d e : ℕ) (l : at + 16 < length t) where
   unfolding KeptLines
   lane-kept m h = else m (λ z. h 0 (lit< tt) (z ∙ sym (add-zero at))) (h 1 (lit< tt)) (h 2 (lit< tt)) (h 3 (lit< tt)) (h 4 (lit< tt))
 
-  pub lane-done : (w₀ : List ℕ) (j : ℕ) (w v : List ℕ) (n : ℕ) → n ≡ 24 → Small t → LaneInv t at w₀ j w v n
+  pub lane-done : (w₀ : List ℕ) (j : ℕ) (w v : List ℕ) (n : ℕ) → n ≡ run → Small t → LaneInv t at w₀ j w v n
       → (of a ≡ of (entry v 4)) × (a < limit) → (of b ≡ of (entry v 3)) × (b < limit) → (of c ≡ of (entry v 2)) × (c < limit)
       → (of d ≡ of (entry v 1)) × (d < limit) → (of e ≡ of (entry v 0)) × (e < limit)
       → Small t₅ × Grown w × KeptLines t at t₅ × KeptLanes w₀ j w × LaneStep t at w₀ j t₅ w
@@ -259,20 +259,20 @@ module _ (t : List ℕ) (at a b c d e : ℕ) (l : at + 16 < length t) where
     λ g k i x y. (five g k i x y, λ m h. inv .stepped g k i x y .1 m (omega arith)),
   )
     where
-      from : (g : ℕ → K) (k i : ℕ) → Five g k t at i → Handed g (k + 5) w₀ j i → (u : ℕ) → u < 5 → of (entry v u) ≡ difference (k + u) g (i + 24)
+      from : (g : ℕ → K) (k i : ℕ) → Five g k t at i → Handed g (k + 5) w₀ j i → (u : ℕ) → u < 5 → of (entry v u) ≡ difference (k + u) g (i + run)
       from g k i x y u h = inv .stepped g k i x y .0 u h ∙ ap (λ (r : ℕ). difference (k + u) g (i + r)) z
 
-      five : (g : ℕ → K) (k i : ℕ) → Five g k t at i → Handed g (k + 5) w₀ j i → (p u : ℕ) → p + u ≡ 4 → of (entry t₅ (at + 4 * p)) ≡ difference (k + u) g (i + 24)
+      five : (g : ℕ → K) (k i : ℕ) → Five g k t at i → Handed g (k + 5) w₀ j i → (p u : ℕ) → p + u ≡ 4 → of (entry t₅ (at + 4 * p)) ≡ difference (k + u) g (i + run)
       five g k i x y zero u h =
-          ap (λ (r : ℕ). of (entry t₅ r)) (add-zero at) ∙ ap of at₁ ∙ ha .0 ∙ from g k i x y 4 (lit< tt) ∙ ap (λ (r : ℕ). difference (k + r) g (i + 24)) (fourth 4 u 0 refl h)
-      five g k i x y (suc zero) u h = ap of at₂ ∙ hb .0 ∙ from g k i x y 3 (lit< tt) ∙ ap (λ (r : ℕ). difference (k + r) g (i + 24)) (fourth 3 u 1 refl h)
-      five g k i x y (suc (suc zero)) u h = ap of at₃ ∙ hc .0 ∙ from g k i x y 2 (lit< tt) ∙ ap (λ (r : ℕ). difference (k + r) g (i + 24)) (fourth 2 u 2 refl h)
-      five g k i x y (suc (suc (suc zero))) u h = ap of at₄ ∙ hd .0 ∙ from g k i x y 1 (lit< tt) ∙ ap (λ (r : ℕ). difference (k + r) g (i + 24)) (fourth 1 u 3 refl h)
-      five g k i x y (suc (suc (suc (suc zero)))) u h = ap of at₅ ∙ he .0 ∙ from g k i x y 0 (lit< tt) ∙ ap (λ (r : ℕ). difference (k + r) g (i + 24)) (fourth 0 u 4 refl h)
+          ap (λ (r : ℕ). of (entry t₅ r)) (add-zero at) ∙ ap of at₁ ∙ ha .0 ∙ from g k i x y 4 (lit< tt) ∙ ap (λ (r : ℕ). difference (k + r) g (i + run)) (fourth 4 u 0 refl h)
+      five g k i x y (suc zero) u h = ap of at₂ ∙ hb .0 ∙ from g k i x y 3 (lit< tt) ∙ ap (λ (r : ℕ). difference (k + r) g (i + run)) (fourth 3 u 1 refl h)
+      five g k i x y (suc (suc zero)) u h = ap of at₃ ∙ hc .0 ∙ from g k i x y 2 (lit< tt) ∙ ap (λ (r : ℕ). difference (k + r) g (i + run)) (fourth 2 u 2 refl h)
+      five g k i x y (suc (suc (suc zero))) u h = ap of at₄ ∙ hd .0 ∙ from g k i x y 1 (lit< tt) ∙ ap (λ (r : ℕ). difference (k + r) g (i + run)) (fourth 1 u 3 refl h)
+      five g k i x y (suc (suc (suc (suc zero)))) u h = ap of at₅ ∙ he .0 ∙ from g k i x y 0 (lit< tt) ∙ ap (λ (r : ℕ). difference (k + r) g (i + run)) (fourth 0 u 4 refl h)
       five g k i x y (suc (suc (suc (suc (suc p))))) u h = absurd (not-suc-le-zero {n = 0} (omega arith))
 
 -- a step fits
-pub lane-fits : (t : List ℕ) (at : ℕ) (w₀ : List ℕ) (j : ℕ) (w v : List ℕ) (n : ℕ) → j < 4 → n ≤ 24 → LaneInv t at w₀ j w v n
+pub lane-fits : (t : List ℕ) (at : ℕ) (w₀ : List ℕ) (j : ℕ) (w v : List ℕ) (n : ℕ) → j < 4 → n ≤ run → LaneInv t at w₀ j w v n
     → Addable v (entry w (4 * n + j))
 unfolding Grown
 lane-fits t at w₀ j w v n u l inv = (λ k. omega (arith, grown-high n l, inv .small k), omega (arith, grown-high n l, inv .handed-small n j u))

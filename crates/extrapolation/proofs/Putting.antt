@@ -16,7 +16,7 @@ use Rattle.lists.specs.Parts.{row-fits}
 use Rattle.algebra.specs.Prime.{q}
 use Rattle.algebra.specs.Field.{K, of, val-of}
 use Rattle.algebra.specs.Differences.{difference}
-use Rattle.extrapolation.specs.Lanes.{limit, entry, Small, Handed, Lines, Fed, KeptBelow, KeptFrom, Ended, TableStep, Zeros, PutLanes, KeptColumns, KeptRows, Put, Walked, Walk}
+use Rattle.extrapolation.specs.Lanes.{run, limit, entry, Small, Handed, Lines, Fed, KeptBelow, KeptFrom, Ended, TableStep, Zeros, PutLanes, KeptColumns, KeptRows, Put, Walked, Walk}
 
 pub zeros : (n : ℕ) → Zeros (replicate n 0)
 unfolding Zeros
@@ -100,8 +100,8 @@ module _ (w : List ℕ) (n lanes x stride lo : ℕ) (out out' : List ℕ) (fit :
           ap (λ (k : ℕ). entry out' (k * stride + (lo + j))) s ∙ ap (entry out') r ∙ h .0 j u ∙ ap (λ (k : ℕ). entry w (4 * k + j) % q) (sym d)
       one y m j l z a u (no d) = after y (lo + j) (omega arith) ∙ inv .put y m j (omega arith) z a u
 
-pub steps-done : (w : List ℕ) (i lanes first end stride lo : ℕ) (out₀ out : List ℕ) (n to : ℕ) → to ≤ n → (to ≡ 24) ⊎ (to ≡ end - i) → StepsInv w i lanes first end stride lo out₀ out n
-    → KeptColumns stride lo lanes out₀ out × KeptRows i end stride lo lanes out₀ out × Put w i 24 first end stride lo lanes out
+pub steps-done : (w : List ℕ) (i lanes first end stride lo : ℕ) (out₀ out : List ℕ) (n to : ℕ) → to ≤ n → (to ≡ run) ⊎ (to ≡ end - i) → StepsInv w i lanes first end stride lo out₀ out n
+    → KeptColumns stride lo lanes out₀ out × KeptRows i end stride lo lanes out₀ out × Put w i run first end stride lo lanes out
 unfolding Put
 steps-done w i lanes first end stride lo out₀ out n to l (inl e) inv = (inv .columns, inv .rows, λ x m j u z a b. inv .put x m j (omega arith) z a b)
 steps-done w i lanes first end stride lo out₀ out n to l (inr e) inv = (inv .columns, inv .rows, λ x m j u z a b. inv .put x m j (omega arith) z a b)
@@ -123,8 +123,8 @@ walk-none lines lanes first end stride lo t out s = record {
 
 pub walk-turn : (lines lanes first end stride lo : ℕ) (t₀ out₀ t out : List ℕ) (i : ℕ) (t' w out' : List ℕ) → WalkInv lines lanes first end stride lo t₀ out₀ t out i
     → Small t' × TableStep lines lanes t t' w
-    → KeptColumns stride lo lanes out out' × KeptRows i end stride lo lanes out out' × Put w i 24 first end stride lo lanes out'
-    → WalkInv lines lanes first end stride lo t₀ out₀ t' out' (i + 24)
+    → KeptColumns stride lo lanes out out' × KeptRows i end stride lo lanes out out' × Put w i run first end stride lo lanes out'
+    → WalkInv lines lanes first end stride lo t₀ out₀ t' out' (i + run)
 unfolding KeptColumns KeptRows Put Walked TableStep Fed Handed difference
 walk-turn lines lanes first end stride lo t₀ out₀ t out i t' w out' inv s p = record {
   small = s .0;
@@ -132,7 +132,7 @@ walk-turn lines lanes first end stride lo t₀ out₀ t out i t' w out' inv s p 
   walked = λ g a b. (s .1 g i (inv .walked g a b .0) b .0, λ x m j l z f u. one g a b x m j l z f u (tested (ltb m i)));
 }
   where
-    one : (g : ℕ → ℕ → K) → Lines g lanes lines 0 lines t₀ 0 → Ended g lanes lines → (x m j : ℕ) → m < i + 24 → x + suc m ≡ end → first ≤ m → j < lanes
+    one : (g : ℕ → ℕ → K) → Lines g lanes lines 0 lines t₀ 0 → Ended g lanes lines → (x m j : ℕ) → m < i + run → x + suc m ≡ end → first ≤ m → j < lanes
         → (ltb m i ≡ true) ⊎ (ltb m i ≡ false) → entry out' (x * stride + (lo + j)) ≡ (g j m) .val
     one g a b x m j l z f u (inl e) = let h : m < i = ltb-true m i e in p .1 x j (omega arith) u ∙ inv .walked g a b .1 x m j h z f u
     one g a b x m j l z f u (inr e) =

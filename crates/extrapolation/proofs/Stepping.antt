@@ -13,7 +13,7 @@ use borrow.Author.Tests.{ltb-true, ltb-false}
 use Rattle.lists.specs.Choice.{tested}
 use Rattle.algebra.specs.Field.{K, of, of-zero}
 use Rattle.algebra.specs.Differences.{difference}
-use Rattle.extrapolation.specs.Lanes.{entry, Small, grown, Grown, Five, Handed, LaneStep, KeptLines, KeptLanes, Lines, Fed, BlockStep, KeptBelow, KeptFrom, Ended, TableStep, Zeros}
+use Rattle.extrapolation.specs.Lanes.{run, entry, Small, grown, Grown, Five, Handed, LaneStep, KeptLines, KeptLanes, Lines, Fed, BlockStep, KeptBelow, KeptFrom, Ended, TableStep, Zeros}
 use Rattle.extrapolation.proofs.Kernel.{grown-pos}
 
 -- ---- five lines: the lanes below j are done
@@ -26,7 +26,7 @@ pub record BlockInv (t₀ : List ℕ) (b : ℕ) (w₀ : List ℕ) (lanes : ℕ) 
   pub rest-lines : (r i : ℕ) → j ≤ i → i < 4 → entry t (4 * r + i) ≡ entry t₀ (4 * r + i)
   pub rest-handed : (n i : ℕ) → j ≤ i → i < 4 → entry w (4 * n + i) ≡ entry w₀ (4 * n + i)
   pub stepped : (g : ℕ → ℕ → K) (lines k i : ℕ) → 5 * b + 5 + k ≡ lines → Lines g lanes lines (5 * b) (5 * b + 5) t₀ i → Fed g lanes (k + 5) w₀ i
-      → Lines g j lines (5 * b) (5 * b + 5) t (i + 24) × Fed g j k w i
+      → Lines g j lines (5 * b) (5 * b + 5) t (i + run) × Fed g j k w i
 
 pub block-holds : (t : List ℕ) (b : ℕ) (w : List ℕ) (lanes : ℕ) → Small t → Grown w → BlockInv t b w lanes t w 0
 unfolding KeptBelow KeptFrom Lines Fed
@@ -54,7 +54,7 @@ block-turn t₀ b w₀ lanes t w j t' w' u l inv h = record {
 }
   where
     own : (g : ℕ → ℕ → K) (lines k i : ℕ) → 5 * b + 5 + k ≡ lines → Lines g lanes lines (5 * b) (5 * b + 5) t₀ i → Fed g lanes (k + 5) w₀ i
-        → Five (g j) k t' (20 * b + j) (i + 24) × Handed (g j) k w' j i
+        → Five (g j) k t' (20 * b + j) (i + run) × Handed (g j) k w' j i
     own g lines k i e a f =
         h .4 (g j) k i
         (λ p c s.
@@ -63,18 +63,18 @@ block-turn t₀ b w₀ lanes t w j t' w' u l inv h = record {
         (λ n y. ap of (inv .rest-handed n j (omega arith) (omega arith)) ∙ f j l n y)
 
     line : (g : ℕ → ℕ → K) (lines k i : ℕ) → 5 * b + 5 + k ≡ lines → Lines g lanes lines (5 * b) (5 * b + 5) t₀ i → Fed g lanes (k + 5) w₀ i
-        → (i' r m : ℕ) → i' < j + 1 → 5 * b ≤ r → r < 5 * b + 5 → r + suc m ≡ lines → Dec (i' ≡ j) → of (entry t' (4 * r + i')) ≡ difference m (g i') (i + 24)
+        → (i' r m : ℕ) → i' < j + 1 → 5 * b ≤ r → r < 5 * b + 5 → r + suc m ≡ lines → Dec (i' ≡ j) → of (entry t' (4 * r + i')) ≡ difference m (g i') (i + run)
     line g lines k i e a f i' r m z x y d (yes s) =
         let v : 4 * r + i' ≡ 20 * b + j + 4 * (r - 5 * b) = omega arith in
         let o : k + (4 - (r - 5 * b)) ≡ m = omega arith in
         ap (λ (n : ℕ). of (entry t' n)) v ∙ own g lines k i e a f .0 (r - 5 * b) (4 - (r - 5 * b)) (omega arith)
-        ∙ ap (λ (n : ℕ). difference n (g j) (i + 24)) o ∙ ap (λ (n : ℕ). difference m (g n) (i + 24)) (sym s)
+        ∙ ap (λ (n : ℕ). difference n (g j) (i + run)) o ∙ ap (λ (n : ℕ). difference m (g n) (i + run)) (sym s)
     line g lines k i e a f i' r m z x y d (no s) =
         ap of (h .2 (4 * r + i') (λ p c v. s (omega arith)))
         ∙ inv .stepped g lines k i e a f .0 i' r m (omega arith) x y d
 
     fed : (g : ℕ → ℕ → K) (lines k i : ℕ) → 5 * b + 5 + k ≡ lines → Lines g lanes lines (5 * b) (5 * b + 5) t₀ i → Fed g lanes (k + 5) w₀ i
-        → (i' : ℕ) → i' < j + 1 → (n : ℕ) → n < 24 → Dec (i' ≡ j) → of (entry w' (4 * n + i')) ≡ difference k (g i') (i + n)
+        → (i' : ℕ) → i' < j + 1 → (n : ℕ) → n < run → Dec (i' ≡ j) → of (entry w' (4 * n + i')) ≡ difference k (g i') (i + n)
     fed g lines k i e a f i' z n y (yes s) =
         ap (λ (m : ℕ). of (entry w' (4 * n + m))) s ∙ own g lines k i e a f .1 n y ∙ ap (λ (m : ℕ). difference k (g m) (i + n)) (sym s)
     fed g lines k i e a f i' z n y (no s) = ap of (h .3 n i' (omega arith) s) ∙ inv .stepped g lines k i e a f .1 i' (omega arith) n y
@@ -83,7 +83,7 @@ pub block-done : (t₀ : List ℕ) (b : ℕ) (w₀ : List ℕ) (lanes : ℕ) (t 
     → Small t × Grown w × KeptBelow (20 * b) t₀ t × KeptFrom (20 * b + 20) t₀ t × BlockStep b lanes t₀ w₀ t w
 unfolding BlockStep
 block-done t₀ b w₀ lanes t w j e inv =
-    (inv .small, inv .handed-small, inv .below, inv .above, λ g lines k i z a f. subst (λ (n : ℕ). Lines g n lines (5 * b) (5 * b + 5) t (i + 24) × Fed g n k w i) e (inv .stepped g lines k i z a f))
+    (inv .small, inv .handed-small, inv .below, inv .above, λ g lines k i z a f. subst (λ (n : ℕ). Lines g n lines (5 * b) (5 * b + 5) t (i + run) × Fed g n k w i) e (inv .stepped g lines k i z a f))
 
 -- ---- a table: the blocks below b are done
 
@@ -92,7 +92,7 @@ pub record TableInv (t₀ : List ℕ) (blocks lanes : ℕ) (t w : List ℕ) (b :
   pub handed-small : Grown w
   pub rest : KeptFrom (20 * b) t₀ t
   pub stepped : (g : ℕ → ℕ → K) (i : ℕ) → Lines g lanes (5 * blocks) 0 (5 * blocks) t₀ i → Ended g lanes (5 * blocks)
-      → Lines g lanes (5 * blocks) 0 (5 * b) t (i + 24) × ((k : ℕ) → 5 * b + k ≡ 5 * blocks → Fed g lanes k w i)
+      → Lines g lanes (5 * blocks) 0 (5 * b) t (i + run) × ((k : ℕ) → 5 * b + k ≡ 5 * blocks → Fed g lanes k w i)
 
 pub table-holds : (t : List ℕ) (blocks lanes : ℕ) (w : List ℕ) → Small t → Zeros w → TableInv t blocks lanes t w 0
 unfolding KeptFrom Lines Fed Handed Ended Zeros Grown
@@ -120,18 +120,18 @@ table-turn t₀ blocks lanes t w b t' w' u l inv h = record {
 }
   where
     own : (g : ℕ → ℕ → K) (i : ℕ) → Lines g lanes (5 * blocks) 0 (5 * blocks) t₀ i → Ended g lanes (5 * blocks) → (k : ℕ) → 5 * (b + 1) + k ≡ 5 * blocks
-        → Lines g lanes (5 * blocks) (5 * b) (5 * b + 5) t' (i + 24) × Fed g lanes k w' i
+        → Lines g lanes (5 * blocks) (5 * b) (5 * b + 5) t' (i + run) × Fed g lanes k w' i
     own g i a e k d =
         h .4 g (5 * blocks) k i (omega arith)
         (λ j r m x y z s. ap of (inv .rest (4 * r + j) (omega arith)) ∙ a j r m x (omega arith) (omega arith) s)
         (inv .stepped g i a e .1 (k + 5) (omega arith))
 
     line : (g : ℕ → ℕ → K) (i : ℕ) → Lines g lanes (5 * blocks) 0 (5 * blocks) t₀ i → Ended g lanes (5 * blocks)
-        → (j r k : ℕ) → j < lanes → r < 5 * (b + 1) → r + suc k ≡ 5 * blocks → (ltb r (5 * b) ≡ true) ⊎ (ltb r (5 * b) ≡ false) → of (entry t' (4 * r + j)) ≡ difference k (g j) (i + 24)
+        → (j r k : ℕ) → j < lanes → r < 5 * (b + 1) → r + suc k ≡ 5 * blocks → (ltb r (5 * b) ≡ true) ⊎ (ltb r (5 * b) ≡ false) → of (entry t' (4 * r + j)) ≡ difference k (g j) (i + run)
     line g i a e j r k x z d (inl s) = let v : r < 5 * b = ltb-true r (5 * b) s in ap of (h .2 (4 * r + j) (omega arith)) ∙ inv .stepped g i a e .0 j r k x (omega arith) v d
     line g i a e j r k x z d (inr s) = let v : 5 * b ≤ r = ltb-false r (5 * b) s in own g i a e (5 * blocks - 5 * (b + 1)) (omega arith) .0 j r k x (omega arith) (omega arith) d
 
 pub table-done : (t₀ : List ℕ) (blocks lanes : ℕ) (t w : List ℕ) (b : ℕ) → b ≡ blocks → TableInv t₀ blocks lanes t w b → Small t × TableStep (5 * blocks) lanes t₀ t w
 unfolding TableStep
 table-done t₀ blocks lanes t w b e inv =
-    (inv .small, λ g i a f. (subst (λ (n : ℕ). Lines g lanes (5 * blocks) 0 (5 * n) t (i + 24)) e (inv .stepped g i a f .0), inv .stepped g i a f .1 0 (omega arith)))
+    (inv .small, λ g i a f. (subst (λ (n : ℕ). Lines g lanes (5 * blocks) 0 (5 * n) t (i + run)) e (inv .stepped g i a f .0), inv .stepped g i a f .1 0 (omega arith)))

@@ -12,6 +12,10 @@ use Rattle.algebra.specs.Differences.{difference, clip}
 abbrev pub entry : List ℕ → ℕ → ℕ
 entry t m = getD t m 0
 
+-- the steps of a run, after which entries are folded
+abbrev pub run : ℕ
+run = 24
+
 -- ---- sizes of the numbers
 
 -- 2^35
@@ -47,11 +51,11 @@ Five g k t at i = (p c : ℕ) → p + c ≡ 4 → of (entry t (at + 4 * p)) ≡ 
 
 -- lane j of w has the differences of order k at i, i + 1, ..
 unfoldable pub Handed : (ℕ → K) → ℕ → List ℕ → ℕ → ℕ → Type 0
-Handed g k w j i = (n : ℕ) → n < 24 → of (entry w (4 * n + j)) ≡ difference k g (i + n)
+Handed g k w j i = (n : ℕ) → n < run → of (entry w (4 * n + j)) ≡ difference k g (i + n)
 
 -- 24 steps of a lane
 unfoldable pub LaneStep : List ℕ → ℕ → List ℕ → ℕ → List ℕ → List ℕ → Type 0
-LaneStep t at w j t' w' = (g : ℕ → K) (k i : ℕ) → Five g k t at i → Handed g (k + 5) w j i → Five g k t' at (i + 24) × Handed g k w' j i
+LaneStep t at w j t' w' = (g : ℕ → K) (k i : ℕ) → Five g k t at i → Handed g (k + 5) w j i → Five g k t' at (i + run) × Handed g k w' j i
 
 -- nothing else is changed
 unfoldable pub KeptLines : List ℕ → ℕ → List ℕ → Type 0
@@ -73,7 +77,7 @@ Fed g lanes k w i = (j : ℕ) → j < lanes → Handed (g j) k w j i
 unfoldable pub BlockStep : ℕ → ℕ → List ℕ → List ℕ → List ℕ → List ℕ → Type 0
 BlockStep b lanes t w t' w' =
     (g : ℕ → ℕ → K) (lines k i : ℕ) → 5 * b + 5 + k ≡ lines → Lines g lanes lines (5 * b) (5 * b + 5) t i → Fed g lanes (k + 5) w i
-    → Lines g lanes lines (5 * b) (5 * b + 5) t' (i + 24) × Fed g lanes k w' i
+    → Lines g lanes lines (5 * b) (5 * b + 5) t' (i + run) × Fed g lanes k w' i
 
 unfoldable pub KeptBelow : ℕ → List ℕ → List ℕ → Type 0
 KeptBelow a t t' = (m : ℕ) → m < a → entry t' m ≡ entry t m
@@ -88,7 +92,7 @@ Ended g lanes k = (j i : ℕ) → j < lanes → difference k (g j) i ≡ 𝟎
 -- 24 steps of the whole table; w has the 24 values
 unfoldable pub TableStep : ℕ → ℕ → List ℕ → List ℕ → List ℕ → Type 0
 TableStep lines lanes t t' w =
-    (g : ℕ → ℕ → K) (i : ℕ) → Lines g lanes lines 0 lines t i → Ended g lanes lines → Lines g lanes lines 0 lines t' (i + 24) × Fed g lanes 0 w i
+    (g : ℕ → ℕ → K) (i : ℕ) → Lines g lanes lines 0 lines t i → Ended g lanes lines → Lines g lanes lines 0 lines t' (i + run) × Fed g lanes 0 w i
 
 unfoldable pub Zeros : List ℕ → Type 0
 Zeros w = (m : ℕ) → entry w m ≡ 0

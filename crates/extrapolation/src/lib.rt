@@ -12,11 +12,14 @@ ghost use lib.ListN.{length};
 ghost use Rattle.algebra.specs.Field.{of, _⊗_};
 ghost use Rattle.algebra.specs.Lagrange.{sign};
 ghost use Rattle.algebra.specs.Differences.{clip};
-ghost use Rattle.extrapolation.specs.Lanes.{limit, Small, Addable, Grown, turned, LaneStep, KeptLines, KeptLanes, BlockStep, KeptBelow, KeptFrom, TableStep, Zeros, PutLanes, KeptColumns, KeptRows, Put, Walk, valueFrom, Signed};
+ghost use Rattle.extrapolation.specs.Lanes.{run, limit, Small, Addable, Grown, turned, LaneStep, KeptLines, KeptLanes, BlockStep, KeptBelow, KeptFrom, TableStep, Zeros, PutLanes, KeptColumns, KeptRows, Put, Walk, valueFrom, Signed};
 ghost use Rattle.extrapolation.specs.Extrapolated.{Extrapolated};
 
 // The modulus.
 const Q: u64 = 4294967291;
+
+// The steps of a run, after which entries are folded.
+const RUN: usize = 24;
 
 // ---- steps of a table
 
@@ -37,12 +40,12 @@ fn folded(x: u64) -> u64
 
 // 24 steps of five entries of lane j. `w` has what comes from above, and then what goes below.
 fn lane(t: &mut [u64], at: usize, w: &mut [u64], j: usize)
-    requires { ⌜ (at + 16 < length (now t)) × (j < 4) × (length (now w) ≡ 96) × Small (now t) × Grown (now w) ⌝ }
+    requires { ⌜ (at + 16 < length (now t)) × (j < 4) × (length (now w) ≡ 4 * run) × Small (now t) × Grown (now w) ⌝ }
     ensures { λ _. ⌜ Small (now (t .exit)) × Grown (now (w .exit)) × KeptLines (now (t .entry)) at (now (t .exit)) × KeptLanes (now (w .entry)) j (now (w .exit)) × LaneStep (now (t .entry)) at (now (w .entry)) j (now (t .exit)) (now (w .exit)) ⌝ }
 {
     let mut v = [t[at + 16], t[at + 12], t[at + 8], t[at + 4], t[at]];
     let mut n = 0;
-    while n < 24 {
+    while n < RUN {
         let m = 4 * n + j;
         let x = w[m];
         w[m] = v[0];
@@ -58,7 +61,7 @@ fn lane(t: &mut [u64], at: usize, w: &mut [u64], j: usize)
 
 // 24 steps of five lines.
 fn block(t: &mut [u64], b: usize, w: &mut [u64], lanes: usize)
-    requires { ⌜ (20 * b + 20 ≤ length (now t)) × (lanes ≤ 4) × (length (now w) ≡ 96) × Small (now t) × Grown (now w) ⌝ }
+    requires { ⌜ (20 * b + 20 ≤ length (now t)) × (lanes ≤ 4) × (length (now w) ≡ 4 * run) × Small (now t) × Grown (now w) ⌝ }
     ensures { λ _. ⌜ Small (now (t .exit)) × Grown (now (w .exit)) × KeptBelow (20 * b) (now (t .entry)) (now (t .exit)) × KeptFrom (20 * b + 20) (now (t .entry)) (now (t .exit)) × BlockStep b lanes (now (t .entry)) (now (w .entry)) (now (t .exit)) (now (w .exit)) ⌝ }
 {
     let mut j = 0;
@@ -70,7 +73,7 @@ fn block(t: &mut [u64], b: usize, w: &mut [u64], lanes: usize)
 
 // 24 steps of a table, from the highest order down. (From the lowest up the compiler would not vectorize `block`.)
 fn steps(t: &mut [u64], blocks: usize, w: &mut [u64], lanes: usize)
-    requires { ⌜ (20 * blocks ≤ length (now t)) × (lanes ≤ 4) × (length (now w) ≡ 96) × Small (now t) × Zeros (now w) ⌝ }
+    requires { ⌜ (20 * blocks ≤ length (now t)) × (lanes ≤ 4) × (length (now w) ≡ 4 * run) × Small (now t) × Zeros (now w) ⌝ }
     ensures { λ _. ⌜ Small (now (t .exit)) × TableStep (5 * blocks) lanes (now (t .entry)) (now (t .exit)) (now (w .exit)) ⌝ }
 {
     let mut b = 0;
@@ -81,15 +84,15 @@ fn steps(t: &mut [u64], blocks: usize, w: &mut [u64], lanes: usize)
 }
 
 // Room for what a run of steps hands down.
-fn blank_feed() -> [u64; 96]
+fn blank_feed() -> [u64; 4 * RUN]
     ensures { λ r. ⌜ Zeros r ⌝ }
 {
-    [0u64; 96]
+    [0u64; 4 * RUN]
 }
 
 // The values at step n of a run.
 fn put_lanes(w: &[u64], n: usize, lanes: usize, start: usize, out: &mut [u32])
-    requires { ⌜ (n < 24) × (lanes ≤ 4) × (length (now w) ≡ 96) × (start + lanes ≤ length (now out)) ⌝ }
+    requires { ⌜ (n < run) × (lanes ≤ 4) × (length (now w) ≡ 4 * run) × (start + lanes ≤ length (now out)) ⌝ }
     ensures { λ _. ⌜ PutLanes (now (w .entry)) n lanes start (now (out .entry)) (now (out .exit)) ⌝ }
 {
     let mut j = 0;
@@ -125,11 +128,11 @@ fn put_steps(
     lo: usize,
     out: &mut [u32],
 )
-    requires { ⌜ (lanes ≤ 4) × (length (now w) ≡ 96) × (lo + lanes ≤ stride) × (count * stride ≤ length (now out)) × (first + count ≤ 65536) × (i < first + count) ⌝ }
-    ensures { λ _. ⌜ KeptColumns stride lo lanes (now (out .entry)) (now (out .exit)) × KeptRows i (first + count) stride lo lanes (now (out .entry)) (now (out .exit)) × Put (now (w .entry)) i 24 first (first + count) stride lo lanes (now (out .exit)) ⌝ }
+    requires { ⌜ (lanes ≤ 4) × (length (now w) ≡ 4 * run) × (lo + lanes ≤ stride) × (count * stride ≤ length (now out)) × (first + count ≤ 65536) × (i < first + count) ⌝ }
+    ensures { λ _. ⌜ KeptColumns stride lo lanes (now (out .entry)) (now (out .exit)) × KeptRows i (first + count) stride lo lanes (now (out .entry)) (now (out .exit)) × Put (now (w .entry)) i run first (first + count) stride lo lanes (now (out .exit)) ⌝ }
 {
     let end = first + count;
-    let to = least(24, end - i);
+    let to = least(RUN, end - i);
     let mut n = less(first, i);
     while n < to {
         let x = end - 1 - (i + n);
@@ -158,7 +161,7 @@ fn walk(
         let mut w = blank_feed();
         steps(t, blocks, &mut w, lanes);
         put_steps(&w, i, lanes, first, count, stride, lo, out);
-        i += 24;
+        i += RUN;
     }
 }
 

@@ -1,11 +1,13 @@
 -- `extrapolation::blank_feed` meets its contract.
+use Prim.Native.Nat.{_*_}
 use borrow.Author.Needs.{needs}
+use Rattle.extrapolation.specs.Lanes.{run}
 use Rattle.extrapolation.proofs.Putting.{zeros}
 use Rattle.extrapolation.proofs.blank_feed.Statement.{statement}
 use Rattle.extrapolation.proofs.blank_feed.Tie as tie
 
 returns : tie.Need-returns
-returns c = zeros 96
+returns c = zeros (4 * run)
 
 pub blank-feed-spec : {M : Type 1} → statement M
 blank-feed-spec = tie.close (tie.spec returns)

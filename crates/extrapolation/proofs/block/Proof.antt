@@ -3,6 +3,7 @@ use mathlib.Core.Path.{_≡_, refl, _∙_}
 use mathlib.Core.List.{List}
 use Prim.Native.Nat.{ℕ, _+_, _-_, _*_, _≤_, _<_}
 use lib.ListN.{length}
+use Rattle.extrapolation.specs.Lanes.{run}
 use Rattle.extrapolation.proofs.Stepping.{BlockInv, block-holds, block-turn, block-done}
 use borrow.Author.Needs.{needs}
 use native.Mathlib.Omega.{arith}
@@ -10,7 +11,7 @@ use Rattle.extrapolation.proofs.block.Statement.{statement}
 use Rattle.extrapolation.proofs.block.Tie as tie
 
 abbrev Inv-loop : tie.InvT-loop
-Inv-loop t₀ b w₀ lanes j₀ t w j = (j ≤ lanes) × (lanes ≤ 4) × (20 * b + 20 ≤ length t) × (length t ≡ length t₀) × (length w ≡ 96) × BlockInv t₀ b w₀ lanes t w j
+Inv-loop t₀ b w₀ lanes j₀ t w j = (j ≤ lanes) × (lanes ≤ 4) × (20 * b + 20 ≤ length t) × (length t ≡ length t₀) × (length w ≡ 4 * run) × BlockInv t₀ b w₀ lanes t w j
 
 abbrev μ-loop : tie.MeasureT-loop
 μ-loop t₀ b w₀ lanes j₀ t w j = lanes - j

@@ -3,7 +3,7 @@ use mathlib.Core.Path.{_≡_, refl}
 use mathlib.Core.List.{List}
 use Prim.Native.Nat.{ℕ, _+_, _-_, _*_, _≤_, _<_}
 use lib.ListN.{length, getD, length-set}
-use Rattle.extrapolation.specs.Lanes.{Small}
+use Rattle.extrapolation.specs.Lanes.{run, Small}
 use Rattle.extrapolation.proofs.Kernel.{LaneInv, lane-holds, lane-turn, lane-done, lane-fits}
 use borrow.Author.Needs.{needs}
 use native.Mathlib.Omega.{arith}
@@ -11,10 +11,10 @@ use Rattle.extrapolation.proofs.lane.Statement.{statement}
 use Rattle.extrapolation.proofs.lane.Tie as tie
 
 abbrev Inv-loop : tie.InvT-loop
-Inv-loop t at w₀ j v₀ n₀ w v n = (n ≤ 24) × (at + 16 < length t) × (j < 4) × (length w ≡ 96) × Small t × LaneInv t at w₀ j w v n
+Inv-loop t at w₀ j v₀ n₀ w v n = (n ≤ run) × (at + 16 < length t) × (j < 4) × (length w ≡ 4 * run) × Small t × LaneInv t at w₀ j w v n
 
 abbrev μ-loop : tie.MeasureT-loop
-μ-loop t at w₀ j v₀ n₀ w v n = 24 - n
+μ-loop t at w₀ j v₀ n₀ w v n = run - n
 
 add-t : tie.Need-add-t Inv-loop μ-loop
 add-t c = search needs
@@ -181,7 +181,7 @@ same-length-2 c = search needs
 returns : tie.Need-returns Inv-loop μ-loop
 returns c =
     let loop = c .before .before .before .before .before .before .loop in let args = c .before .before .before .before .before .before .before .before .before .before .before .before .before .before .args in
-    let z : loop .n ≡ 24 = omega (arith, loop .inv .0, c .before .before .before .before .before .loop-test .left) in
+    let z : loop .n ≡ run = omega (arith, loop .inv .0, c .before .before .before .before .before .loop-test .left) in
     lane-done (args .t .now) (args .at) (c .before .before .before .before .folded .result) (c .before .before .before .folded2 .result) (c .before .before .folded3 .result) (c .before .folded4 .result) (c .folded5 .result) (loop .inv .1) (args .w .now) (args .j) (loop .w) (loop .v) (loop .n) z (loop .inv .4) (loop .inv .5) (c .before .before .before .before .folded .ensures) (c .before .before .before .folded2 .ensures) (c .before .before .folded3 .ensures) (c .before .folded4 .ensures) (c .folded5 .ensures)
 
 pub lane-spec : {M : Type 1} → statement M

@@ -2,7 +2,7 @@
 use mathlib.Core.Path.{_≡_, refl, _∙_, subst}
 use Prim.Native.Nat.{ℕ, _+_, _-_, _*_, _%_, _≤_, _<_}
 use lib.ListN.{length, length-set}
-use Rattle.extrapolation.specs.Lanes.{PutLanes}
+use Rattle.extrapolation.specs.Lanes.{run, PutLanes}
 use Rattle.extrapolation.proofs.Putting.{put-none, put-turn}
 use borrow.Author.Needs.{needs}
 use native.Mathlib.Omega.{arith}
@@ -10,7 +10,7 @@ use Rattle.extrapolation.proofs.put_lanes.Statement.{statement}
 use Rattle.extrapolation.proofs.put_lanes.Tie as tie
 
 abbrev Inv-loop : tie.InvT-loop
-Inv-loop w n lanes start out₀ j₀ out j = (j ≤ lanes) × (n < 24) × (lanes ≤ 4) × (length w ≡ 96) × (start + lanes ≤ length out) × (length out ≡ length out₀) × PutLanes w n j start out₀ out
+Inv-loop w n lanes start out₀ j₀ out j = (j ≤ lanes) × (n < run) × (lanes ≤ 4) × (length w ≡ 4 * run) × (start + lanes ≤ length out) × (length out ≡ length out₀) × PutLanes w n j start out₀ out
 
 abbrev μ-loop : tie.MeasureT-loop
 μ-loop w n lanes start out₀ j₀ out j = lanes - j

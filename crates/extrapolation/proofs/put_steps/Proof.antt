@@ -3,6 +3,7 @@ use mathlib.Core.Path.{_≡_, refl, _∙_}
 use Prim.Native.Nat.{ℕ, suc, _+_, _-_, _*_, _≤_, _<_}
 use lib.ListN.{length}
 use Rattle.lists.specs.Parts.{row-fits}
+use Rattle.extrapolation.specs.Lanes.{run}
 use Rattle.extrapolation.proofs.Putting.{StepsInv, steps-none, steps-turn, steps-done}
 use borrow.Author.Needs.{needs}
 use native.Mathlib.Omega.{arith}
@@ -11,7 +12,7 @@ use Rattle.extrapolation.proofs.put_steps.Tie as tie
 
 abbrev Inv-loop : tie.InvT-loop
 Inv-loop w i lanes first count stride lo out₀ end to n₀ out n =
-    (end ≡ first + count) × (to ≤ 24) × (to ≤ end - i) × (first ≤ i + n) × (n ≤ 65560) × (lanes ≤ 4) × (length w ≡ 96) × (lo + lanes ≤ stride) × (count * stride ≤ length out) × (length out ≡ length out₀) × (i < end) × (end ≤ 65536) × StepsInv w i lanes first (first + count) stride lo out₀ out n
+    (end ≡ first + count) × (to ≤ run) × (to ≤ end - i) × (first ≤ i + n) × (n ≤ 65560) × (lanes ≤ 4) × (length w ≡ 4 * run) × (lo + lanes ≤ stride) × (count * stride ≤ length out) × (length out ≡ length out₀) × (i < end) × (end ≤ 65536) × StepsInv w i lanes first (first + count) stride lo out₀ out n
 
 abbrev μ-loop : tie.MeasureT-loop
 μ-loop w i lanes first count stride lo out₀ end to n₀ out n = to - n

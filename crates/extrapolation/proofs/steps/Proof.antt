@@ -3,6 +3,7 @@ use mathlib.Core.Path.{_≡_, refl, _∙_}
 use mathlib.Core.List.{List}
 use Prim.Native.Nat.{ℕ, _+_, _-_, _*_, _≤_, _<_}
 use lib.ListN.{length}
+use Rattle.extrapolation.specs.Lanes.{run}
 use Rattle.extrapolation.proofs.Stepping.{TableInv, table-holds, table-turn, table-done}
 use borrow.Author.Needs.{needs}
 use native.Mathlib.Omega.{arith}
@@ -10,7 +11,7 @@ use Rattle.extrapolation.proofs.steps.Statement.{statement}
 use Rattle.extrapolation.proofs.steps.Tie as tie
 
 abbrev Inv-loop : tie.InvT-loop
-Inv-loop t₀ blocks w₀ lanes b₀ t w b = (b ≤ blocks) × (lanes ≤ 4) × (20 * blocks ≤ length t) × (length t ≡ length t₀) × (length w ≡ 96) × TableInv t₀ blocks lanes t w b
+Inv-loop t₀ blocks w₀ lanes b₀ t w b = (b ≤ blocks) × (lanes ≤ 4) × (20 * blocks ≤ length t) × (length t ≡ length t₀) × (length w ≡ 4 * run) × TableInv t₀ blocks lanes t w b
 
 abbrev μ-loop : tie.MeasureT-loop
 μ-loop t₀ blocks w₀ lanes b₀ t w b = blocks - b

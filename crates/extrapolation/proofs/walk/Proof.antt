@@ -2,6 +2,7 @@
 use mathlib.Core.Path.{_≡_, refl, _∙_}
 use Prim.Native.Nat.{ℕ, _+_, _-_, _*_, _≤_, _<_}
 use lib.ListN.{length}
+use Rattle.extrapolation.specs.Lanes.{run}
 use Rattle.extrapolation.proofs.Putting.{WalkInv, walk-none, walk-turn, walk-done}
 use borrow.Author.Needs.{needs}
 use native.Mathlib.Omega.{arith}
@@ -32,7 +33,7 @@ slice-aggregate-steps c = search needs
 steps-requires : tie.Need-steps-requires Inv-loop μ-loop
 steps-requires c κs =
     let loop = c .before .before .before .before .loop in
-    let l : length (c .before .before .blank-feed .result) ≡ 96 = search needs in
+    let l : length (c .before .before .blank-feed .result) ≡ 4 * run = search needs in
     (loop .inv .2, loop .inv .4, l, loop .inv .9 .small, c .before .before .blank-feed .ensures)
 
 slice-aggregate-put-steps : tie.Need-slice-aggregate-put-steps Inv-loop μ-loop
@@ -41,7 +42,7 @@ slice-aggregate-put-steps c = search needs
 put-steps-requires : tie.Need-put-steps-requires Inv-loop μ-loop
 put-steps-requires c κs =
     let loop = c .before .before .before .before .before .before .before .before .before .before .loop in
-    let l : length (c .before .before .before .before .before .before .before .before .blank-feed .result) ≡ 96 = search needs in
+    let l : length (c .before .before .before .before .before .before .before .before .blank-feed .result) ≡ 4 * run = search needs in
     (loop .inv .4, c .before .before .before .before .before .steps .kept .1 .1 .0 ∙ l, loop .inv .5, loop .inv .6, loop .inv .8, omega (arith, loop .inv .0, c .before .before .before .before .before .before .before .before .before .loop-test .taken))
 
 add-i : tie.Need-add-i Inv-loop μ-loop

@@ -1,4 +1,4 @@
--- `committer::fill_rows` meets its contract. The invariant: the columns below lo are filled.
+-- `evaluations::fill_rows` meets its contract. The invariant: the columns below lo are filled.
 use mathlib.Core.Path.{_≡_, refl, _∙_, subst}
 use mathlib.Core.List.{List, []}
 use Prim.Native.Nat.{ℕ, _+_, _-_, _*_, _≤_, _<_}
@@ -9,12 +9,12 @@ use Rattle.scheme.proofs.Accepted.{Good, good}
 use Rattle.commitment.specs.Shape.{sizesIn}
 use Rattle.extrapolation.specs.Lanes.{Small}
 use Rattle.extrapolation.specs.Extrapolated.{Columns}
-use Rattle.committer.specs.Values.{rowPolynomial}
-use Rattle.committer.proofs.Columns.{extrapolation-asked, rows-through, columns-none, columns-more, some-lanes, row-columns}
+use Rattle.evaluations.specs.Values.{rowPolynomial}
+use Rattle.evaluations.proofs.Columns.{extrapolation-asked, rows-through, columns-none, columns-more, some-lanes, row-columns}
 use borrow.Author.Needs.{needs}
 use native.Mathlib.Omega.{arith}
-use Rattle.committer.proofs.fill_rows.Statement.{statement}
-use Rattle.committer.proofs.fill_rows.Tie as tie
+use Rattle.evaluations.proofs.fill_rows.Statement.{statement}
+use Rattle.evaluations.proofs.fill_rows.Tie as tie
 
 abbrev Inv-loop : tie.InvT-loop
 Inv-loop s coefficients tails values₀ lines₀ table₀ n width stride mu lo₀ values lines table lo =

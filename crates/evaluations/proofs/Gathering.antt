@@ -17,7 +17,7 @@ use Rattle.scheme.specs.Sizes.{Sizes, rows, columns, width}
 use Rattle.scheme.specs.Layers.{Lent, extended}
 use Rattle.lent.specs.Rows.{CanExtend, strided}
 use Rattle.lent.proofs.Rows.{extended-entry, extended-tail}
-use Rattle.committer.specs.Values.{Gathered, Lane, RowLanes}
+use Rattle.evaluations.specs.Values.{Gathered, Lane, RowLanes}
 
 -- ---- a lane, value by value
 

@@ -1,4 +1,4 @@
--- `committer::fill_columns` meets its contract: the columns of the rows and of the masks are the whole table.
+-- `evaluations::fill_columns` meets its contract: the columns of the rows and of the masks are the whole table.
 use mathlib.Core.Path.{_≡_, _∙_}
 use mathlib.Core.List.{List, []}
 use Prim.Native.Nat.{ℕ, _+_, _*_, _/_, _≤_}
@@ -7,11 +7,11 @@ use Rattle.scheme.specs.Sizes.{Sizes, width}
 use Rattle.scheme.specs.Layers.{lentOf}
 use Rattle.scheme.proofs.Accepted.{Good, good}
 use Rattle.commitment.specs.Shape.{sizesIn}
-use Rattle.committer.proofs.Columns.{columns-lent, table-filled}
+use Rattle.evaluations.proofs.Columns.{columns-lent, table-filled}
 use borrow.Author.Needs.{needs}
 use native.Mathlib.Omega.{arith}
-use Rattle.committer.proofs.fill_columns.Statement.{statement}
-use Rattle.committer.proofs.fill_columns.Tie as tie
+use Rattle.evaluations.proofs.fill_columns.Statement.{statement}
+use Rattle.evaluations.proofs.fill_columns.Tie as tie
 
 fill-rows-requires : tie.Need-fill-rows-requires
 fill-rows-requires c κs =

@@ -1,4 +1,4 @@
--- `committer::fill_table` meets its contract: the arrays are long enough.
+-- `evaluations::fill_table` meets its contract: the arrays are long enough.
 use mathlib.Core.Path.{_≡_}
 use Prim.Native.Nat.{ℕ, _+_, _*_, _/_, _≤_}
 use lib.ListN.{length}
@@ -7,8 +7,8 @@ use Rattle.scheme.proofs.Accepted.{good}
 use Rattle.commitment.specs.Shape.{sizesIn}
 use borrow.Author.Needs.{needs}
 use native.Mathlib.Omega.{arith}
-use Rattle.committer.proofs.fill_table.Statement.{statement}
-use Rattle.committer.proofs.fill_table.Tie as tie
+use Rattle.evaluations.proofs.fill_table.Statement.{statement}
+use Rattle.evaluations.proofs.fill_table.Tie as tie
 
 row-width-requires : tie.Need-row-width-requires
 row-width-requires c κs = good (sizesIn (c .before .before .before .before .args .s)) (c .before .before .before .before .pre .extend .sizes)

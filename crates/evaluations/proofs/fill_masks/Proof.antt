@@ -1,4 +1,4 @@
--- `committer::fill_masks` meets its contract.
+-- `evaluations::fill_masks` meets its contract.
 use mathlib.Core.Path.{_≡_, sym, _∙_}
 use mathlib.Core.List.{List}
 use Prim.Native.Nat.{ℕ, _+_, _*_, _≤_, _<_}
@@ -6,11 +6,11 @@ use lib.ListN.{length, take}
 use Rattle.scheme.specs.Sizes.{Sizes, rows, width, recordValues}
 use Rattle.scheme.proofs.Accepted.{Good}
 use Rattle.commitment.specs.Shape.{sizesIn}
-use Rattle.committer.proofs.Columns.{leaves-most, front-count, masks-asked, extrapolation-asked, mask-columns, kept-columns}
+use Rattle.evaluations.proofs.Columns.{leaves-most, front-count, masks-asked, extrapolation-asked, mask-columns, kept-columns}
 use borrow.Author.Needs.{needs}
 use native.Mathlib.Omega.{arith}
-use Rattle.committer.proofs.fill_masks.Statement.{statement}
-use Rattle.committer.proofs.fill_masks.Tie as tie
+use Rattle.evaluations.proofs.fill_masks.Statement.{statement}
+use Rattle.evaluations.proofs.fill_masks.Tie as tie
 
 leaf-count-requires : tie.Need-leaf-count-requires
 leaf-count-requires c κs = c .before .before .before .before .before .pre .0 .h-high

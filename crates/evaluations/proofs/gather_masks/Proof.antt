@@ -1,15 +1,15 @@
--- `committer::gather_masks` meets its contract. The invariant: the values at the points before t are there.
+-- `evaluations::gather_masks` meets its contract. The invariant: the values at the points before t are there.
 use mathlib.Core.Path.{_≡_, refl, sym, ap, _∙_, subst}
 use mathlib.Core.List.{List}
 use Prim.Native.Nat.{ℕ, _+_, _-_, _*_, _≤_, _<_}
 use lib.ListN.{length, take, drop}
 use Rattle.algebra.specs.Prime.{q}
-use Rattle.committer.specs.Values.{MaskLanes}
-use Rattle.committer.proofs.Masks.{masks-none, masks-turn, masks-length, part-count, part-values}
+use Rattle.evaluations.specs.Values.{MaskLanes}
+use Rattle.evaluations.proofs.Masks.{masks-none, masks-turn, masks-length, part-count, part-values}
 use borrow.Author.Needs.{needs}
 use native.Mathlib.Omega.{arith}
-use Rattle.committer.proofs.gather_masks.Statement.{statement}
-use Rattle.committer.proofs.gather_masks.Tie as tie
+use Rattle.evaluations.proofs.gather_masks.Statement.{statement}
+use Rattle.evaluations.proofs.gather_masks.Tie as tie
 
 abbrev Inv-loop : tie.InvT-loop
 Inv-loop first masks eta weights₀ values₀ width t₀ weights values t =

@@ -1,4 +1,4 @@
--- `committer::gather_row` meets its contract: the entries, and then the tails.
+-- `evaluations::gather_row` meets its contract: the entries, and then the tails.
 use mathlib.Core.Path.{_≡_}
 use mathlib.Core.List.{List, []}
 use Prim.Native.Nat.{ℕ, _+_, _*_, _≤_, _<_}
@@ -8,11 +8,11 @@ use Rattle.scheme.specs.Layers.{Lent, lentOf}
 use Rattle.scheme.proofs.Accepted.{good}
 use Rattle.commitment.specs.Shape.{sizesIn}
 use Rattle.lent.proofs.Rows.{entries-there, tails-there}
-use Rattle.committer.proofs.Gathering.{row-lane, both-kept}
+use Rattle.evaluations.proofs.Gathering.{row-lane, both-kept}
 use borrow.Author.Needs.{needs}
 use native.Mathlib.Omega.{arith}
-use Rattle.committer.proofs.gather_row.Statement.{statement}
-use Rattle.committer.proofs.gather_row.Tie as tie
+use Rattle.evaluations.proofs.gather_row.Statement.{statement}
+use Rattle.evaluations.proofs.gather_row.Tie as tie
 
 column-count-requires : tie.Need-column-count-requires
 column-count-requires c κs = good (sizesIn (c .before .before .before .args .s)) (c .before .before .before .pre .0 .sizes)

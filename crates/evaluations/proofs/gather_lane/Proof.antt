@@ -1,16 +1,16 @@
--- `committer::gather_lane` meets its contract. The invariant: the first i values are there.
+-- `evaluations::gather_lane` meets its contract. The invariant: the first i values are there.
 use mathlib.Core.Path.{_≡_, refl, subst}
 use mathlib.Core.List.{List}
 use Prim.Native.Nat.{ℕ, _+_, _-_, _*_, _≤_, _<_}
 use lib.ListN.{length, getD, length-set}
 use Rattle.lent.specs.Rows.{strided}
 use Rattle.lent.proofs.Strides.{strided-at, stride-below}
-use Rattle.committer.specs.Values.{Gathered}
-use Rattle.committer.proofs.Gathering.{GatherInv, gather-none, gather-turn}
+use Rattle.evaluations.specs.Values.{Gathered}
+use Rattle.evaluations.proofs.Gathering.{GatherInv, gather-none, gather-turn}
 use borrow.Author.Needs.{needs}
 use native.Mathlib.Omega.{arith}
-use Rattle.committer.proofs.gather_lane.Statement.{statement}
-use Rattle.committer.proofs.gather_lane.Tie as tie
+use Rattle.evaluations.proofs.gather_lane.Statement.{statement}
+use Rattle.evaluations.proofs.gather_lane.Tie as tie
 
 abbrev Inv-loop : tie.InvT-loop
 Inv-loop elements first step count to j values₀ i₀ values i =

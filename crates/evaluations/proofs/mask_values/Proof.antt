@@ -1,11 +1,11 @@
--- `committer::mask_values` meets its contract: dot products with the powers.
+-- `evaluations::mask_values` meets its contract: dot products with the powers.
 use mathlib.Core.Path.{_≡_}
 use Prim.Native.Nat.{ℕ, _*_, _≤_}
 use lib.ListN.{length}
-use Rattle.committer.proofs.Masks.{dots-room, mask-values}
+use Rattle.evaluations.proofs.Masks.{dots-room, mask-values}
 use borrow.Author.Needs.{needs}
-use Rattle.committer.proofs.mask_values.Statement.{statement}
-use Rattle.committer.proofs.mask_values.Tie as tie
+use Rattle.evaluations.proofs.mask_values.Statement.{statement}
+use Rattle.evaluations.proofs.mask_values.Tie as tie
 
 powers-requires : tie.Need-powers-requires
 powers-requires c κs = search needs

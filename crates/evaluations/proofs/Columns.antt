@@ -30,7 +30,7 @@ use Rattle.scheme.proofs.Accepted.{Good, leaves-high}
 use Rattle.scheme.proofs.Row.{values-at, values-append, length-values, all-run}
 use Rattle.lent.specs.Rows.{CanExtend}
 use Rattle.lent.proofs.Rows.{extended-length}
-use Rattle.committer.specs.Values.{Lane, RowLanes, MaskLanes, rowPolynomial}
+use Rattle.evaluations.specs.Values.{Lane, RowLanes, MaskLanes, rowPolynomial}
 
 -- ---- rows
 

@@ -1,4 +1,4 @@
--- `committer::gather_rows` meets its contract. The invariant: the lanes below j are there.
+-- `evaluations::gather_rows` meets its contract. The invariant: the lanes below j are there.
 use mathlib.Core.Path.{_≡_, refl, _∙_, subst}
 use mathlib.Core.List.{List, []}
 use Prim.Native.Nat.{ℕ, _+_, _-_, _*_, _≤_, _<_}
@@ -7,12 +7,12 @@ use Rattle.scheme.specs.Sizes.{rows, width}
 use Rattle.scheme.specs.Layers.{Lent, lentOf}
 use Rattle.commitment.specs.Shape.{sizesIn}
 use Rattle.lent.specs.Rows.{CanExtend}
-use Rattle.committer.specs.Values.{RowLanes}
-use Rattle.committer.proofs.Gathering.{rows-none, rows-turn}
+use Rattle.evaluations.specs.Values.{RowLanes}
+use Rattle.evaluations.proofs.Gathering.{rows-none, rows-turn}
 use borrow.Author.Needs.{needs}
 use native.Mathlib.Omega.{arith}
-use Rattle.committer.proofs.gather_rows.Statement.{statement}
-use Rattle.committer.proofs.gather_rows.Tie as tie
+use Rattle.evaluations.proofs.gather_rows.Statement.{statement}
+use Rattle.evaluations.proofs.gather_rows.Tie as tie
 
 abbrev Inv-loop : tie.InvT-loop
 Inv-loop s coefficients tails lo lanes values₀ j₀ values j =

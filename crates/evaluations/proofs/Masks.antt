@@ -16,7 +16,7 @@ use Rattle.algebra.specs.Columns.{powN}
 use Rattle.algebra.specs.Dot.{dotsOf, dots-powersN}
 use Rattle.extrapolation.specs.Lanes.{entry}
 use Rattle.scheme.proofs.Row.{values-at, length-values}
-use Rattle.committer.specs.Values.{MaskLanes}
+use Rattle.evaluations.specs.Values.{MaskLanes}
 
 -- ---- as dot products with the powers
 module _ (x k : ℕ) (ws : List ℕ) (e : ws ≡ tabulate k (powN x)) where
