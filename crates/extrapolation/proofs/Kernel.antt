@@ -3,14 +3,13 @@ use mathlib.Core.Path.{_≡_, refl, sym, ap, ap₂, _∙_, subst}
 use mathlib.Core.Logic.{_≢_}
 use mathlib.Core.List.{List, [], _∷_}
 use Prim.Native.Nat.{ℕ, zero, suc, _+_, _-_, _*_, _/_, _%_, _≤_, _<_}
-use native.Mathlib.Nat.{add-zero, add-suc, not-suc-le-zero, div-add-mod, mod-lt, add-mul-mod-self-left}
+use native.Mathlib.Nat.{add-zero, add-suc, not-suc-le-zero, div-add-mod, mod-lt}
 use native.Mathlib.Numerals.{add-one}
 use native.Mathlib.Decide.{ℕ-discrete}
 use native.Mathlib.Omega.{arith}
 use lib.Dec.{lit<}
 use lib.ListN.{length, getD, set, length-set}
 use lib.Seq.{getD-set-same, getD-set-other}
-use Rattle.algebra.specs.Prime.{q}
 use Rattle.algebra.specs.Field.{K, of, of-path, of-add, same-mod, _⊕_}
 use Rattle.algebra.specs.Differences.{difference, difference-step}
 use Rattle.extrapolation.specs.Lanes.{run, limit, entry, Addable, Small, grown, Grown, turned, Five, Handed, LaneStep, KeptLines, KeptLanes}

@@ -7,8 +7,7 @@ use native.Mathlib.Nat.{not-suc-le-zero, add-suc, suc-add, div-add-mod}
 use native.Mathlib.Decide.{ℕ-discrete}
 use native.Mathlib.Omega.{arith}
 use lib.ListN.{length, set}
-use Rattle.algebra.specs.Prime.{q}
-use Rattle.algebra.specs.Field.{K, of, of-path, of-neg, of-zero, same-mod, _⊗_, ⊖, 𝟎, 𝟏, dv, ring, dif-path, ⊗-zero}
+use Rattle.algebra.specs.Field.{K, of, of-path, of-neg, of-zero, same-mod, _⊗_, ⊖, 𝟏, dv, ring, dif-path, ⊗-zero}
 use Rattle.algebra.specs.Lagrange.{sign}
 use Rattle.algebra.specs.Differences.{clip, clip-below, clip-above}
 use Rattle.extrapolation.specs.Lanes.{limit, entry, Small, KeptLanes, valueFrom, Signed}

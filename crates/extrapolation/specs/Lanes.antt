@@ -3,7 +3,7 @@ use mathlib.Core.Path.{_≡_}
 use mathlib.Core.Logic.{_≢_}
 use mathlib.Core.List.{List, [], _∷_}
 use Prim.Native.Nat.{ℕ, zero, suc, _+_, _-_, _*_, _%_, _≤_, _<_}
-use lib.ListN.{length, getD}
+use lib.ListN.{getD}
 use Rattle.algebra.specs.Prime.{q}
 use Rattle.algebra.specs.Field.{K, of, _⊗_, 𝟎}
 use Rattle.algebra.specs.Lagrange.{sign}

@@ -57,9 +57,6 @@ put-tail {A} n xs ys =
 
 -- ys has come back in the first n places of n + m
 module _ {A : Type 0} (n m : ℕ) (old ys : List A) (e : length ys ≡ n) (f : length old ≡ n + m) where
-  pub kept-length : length (ys ++ drop n old) ≡ n + m
-  kept-length = length-append ys (drop n old) ∙ omega (arith, length-drop n old)
-
   pub rest-length : length (midOf n (length (ys ++ drop n old) - n) (ys ++ drop n old)) ≡ m
   rest-length = ap length (mid-tail n (ys ++ drop n old) ∙ drop-at ys (drop n old) n e) ∙ omega (arith, length-drop n old)
 

@@ -1,10 +1,6 @@
 -- `committer::fill` meets its contract: the table, and the tree from it.
-use mathlib.Core.Path.{_≡_, _∙_}
-use mathlib.Core.List.{List, []}
+use mathlib.Core.List.{List}
 use Prim.Native.Nat.{ℕ}
-use Rattle.scheme.specs.Sizes.{Sizes}
-use Rattle.scheme.specs.Layers.{Lent, lentOf}
-use Rattle.scheme.specs.Commit.{tableOf}
 use Rattle.scheme.proofs.Accepted.{good}
 use Rattle.commitment.specs.Shape.{sizesIn}
 use Rattle.committer.proofs.Filled.{evaluable, table-is, hashable, first-length, tree-is}

@@ -1,9 +1,9 @@
 -- `evaluations::fill_columns` meets its contract: the columns of the rows and of the masks are the whole table.
-use mathlib.Core.Path.{_≡_, _∙_}
+use mathlib.Core.Path.{_∙_}
 use mathlib.Core.List.{List, []}
-use Prim.Native.Nat.{ℕ, _+_, _*_, _/_, _≤_}
+use Prim.Native.Nat.{ℕ}
 use lib.ListN.{length}
-use Rattle.scheme.specs.Sizes.{Sizes, width}
+use Rattle.scheme.specs.Sizes.{Sizes}
 use Rattle.scheme.specs.Layers.{lentOf}
 use Rattle.scheme.proofs.Accepted.{Good, good}
 use Rattle.commitment.specs.Shape.{sizesIn}

@@ -1,10 +1,9 @@
 -- `evaluations::fill_masks` meets its contract.
-use mathlib.Core.Path.{_≡_, sym, _∙_}
+use mathlib.Core.Path.{sym}
 use mathlib.Core.List.{List}
-use Prim.Native.Nat.{ℕ, _+_, _*_, _≤_, _<_}
+use Prim.Native.Nat.{ℕ}
 use lib.ListN.{length, take}
-use Rattle.scheme.specs.Sizes.{Sizes, rows, width, recordValues}
-use Rattle.scheme.proofs.Accepted.{Good}
+use Rattle.scheme.specs.Sizes.{rows, width}
 use Rattle.commitment.specs.Shape.{sizesIn}
 use Rattle.evaluations.proofs.Columns.{leaves-most, front-count, masks-asked, extrapolation-asked, mask-columns, kept-columns}
 use borrow.Author.Needs.{needs}

@@ -1,11 +1,11 @@
 -- `evaluations::fill_rows` meets its contract. The invariant: the columns below lo are filled.
 use mathlib.Core.Path.{_≡_, refl, _∙_, subst}
 use mathlib.Core.List.{List, []}
-use Prim.Native.Nat.{ℕ, _+_, _-_, _*_, _≤_, _<_}
+use Prim.Native.Nat.{ℕ, _+_, _-_, _≤_}
 use lib.ListN.{length}
-use Rattle.scheme.specs.Sizes.{Sizes, rows, width, recordValues}
+use Rattle.scheme.specs.Sizes.{Sizes, rows, width}
 use Rattle.scheme.specs.Layers.{Lent, lentOf}
-use Rattle.scheme.proofs.Accepted.{Good, good}
+use Rattle.scheme.proofs.Accepted.{good}
 use Rattle.commitment.specs.Shape.{sizesIn}
 use Rattle.extrapolation.specs.Lanes.{Small}
 use Rattle.extrapolation.specs.Extrapolated.{Columns}

@@ -1,6 +1,6 @@
 -- `evaluations::fill_table` meets its contract: the arrays are long enough.
 use mathlib.Core.Path.{_≡_}
-use Prim.Native.Nat.{ℕ, _+_, _*_, _/_, _≤_}
+use Prim.Native.Nat.{_≤_}
 use lib.ListN.{length}
 use Rattle.scheme.specs.Sizes.{width}
 use Rattle.scheme.proofs.Accepted.{good}

@@ -1,6 +1,5 @@
 -- `evaluations::gather_lane` meets its contract. The invariant: the first i values are there.
 use mathlib.Core.Path.{_≡_, refl, subst}
-use mathlib.Core.List.{List}
 use Prim.Native.Nat.{ℕ, _+_, _-_, _*_, _≤_, _<_}
 use lib.ListN.{length, getD, length-set}
 use Rattle.lent.specs.Rows.{strided}

@@ -1,7 +1,7 @@
 -- `evaluations::gather_masks` meets its contract. The invariant: the values at the points before t are there.
-use mathlib.Core.Path.{_≡_, refl, sym, ap, _∙_, subst}
+use mathlib.Core.Path.{_≡_, refl, sym, _∙_, subst}
 use mathlib.Core.List.{List}
-use Prim.Native.Nat.{ℕ, _+_, _-_, _*_, _≤_, _<_}
+use Prim.Native.Nat.{ℕ, _+_, _-_, _*_, _≤_}
 use lib.ListN.{length, take, drop}
 use Rattle.algebra.specs.Prime.{q}
 use Rattle.evaluations.specs.Values.{MaskLanes}

@@ -1,9 +1,7 @@
 -- `evaluations::gather_row` meets its contract: the entries, and then the tails.
-use mathlib.Core.Path.{_≡_}
 use mathlib.Core.List.{List, []}
-use Prim.Native.Nat.{ℕ, _+_, _*_, _≤_, _<_}
+use Prim.Native.Nat.{ℕ}
 use lib.ListN.{length}
-use Rattle.scheme.specs.Sizes.{Sizes, columns}
 use Rattle.scheme.specs.Layers.{Lent, lentOf}
 use Rattle.scheme.proofs.Accepted.{good}
 use Rattle.commitment.specs.Shape.{sizesIn}

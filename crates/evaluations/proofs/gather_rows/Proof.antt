@@ -1,10 +1,10 @@
 -- `evaluations::gather_rows` meets its contract. The invariant: the lanes below j are there.
 use mathlib.Core.Path.{_≡_, refl, _∙_, subst}
-use mathlib.Core.List.{List, []}
-use Prim.Native.Nat.{ℕ, _+_, _-_, _*_, _≤_, _<_}
+use mathlib.Core.List.{[]}
+use Prim.Native.Nat.{ℕ, _+_, _-_, _*_, _≤_}
 use lib.ListN.{length}
 use Rattle.scheme.specs.Sizes.{rows, width}
-use Rattle.scheme.specs.Layers.{Lent, lentOf}
+use Rattle.scheme.specs.Layers.{lentOf}
 use Rattle.commitment.specs.Shape.{sizesIn}
 use Rattle.lent.specs.Rows.{CanExtend}
 use Rattle.evaluations.specs.Values.{RowLanes}

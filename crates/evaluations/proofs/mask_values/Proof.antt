@@ -1,6 +1,4 @@
 -- `evaluations::mask_values` meets its contract: dot products with the powers.
-use mathlib.Core.Path.{_≡_}
-use Prim.Native.Nat.{ℕ, _*_, _≤_}
 use lib.ListN.{length}
 use Rattle.evaluations.proofs.Masks.{dots-room, mask-values}
 use borrow.Author.Needs.{needs}

@@ -1,6 +1,5 @@
 -- `extrapolation::blank_feed` meets its contract.
 use Prim.Native.Nat.{_*_}
-use borrow.Author.Needs.{needs}
 use Rattle.extrapolation.specs.Lanes.{run}
 use Rattle.extrapolation.proofs.Putting.{zeros}
 use Rattle.extrapolation.proofs.blank_feed.Statement.{statement}

@@ -1,6 +1,5 @@
 -- `extrapolation::extrapolate` meets its contract: two walks, the first to the differences, the second over the points before.
-use mathlib.Core.Path.{_≡_}
-use Prim.Native.Nat.{ℕ, _+_, _-_, _*_, _/_, _≤_, _<_}
+use Prim.Native.Nat.{_+_, _-_, _*_, _/_}
 use lib.ListN.{length}
 use Rattle.extrapolation.proofs.Walks.{enough-lines, extrapolated}
 use borrow.Author.Needs.{needs}

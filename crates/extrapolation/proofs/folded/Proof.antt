@@ -1,6 +1,5 @@
 -- `extrapolation::folded` meets its contract.
 use borrow.Author.Needs.{needs}
-use native.Mathlib.Omega.{arith}
 use Rattle.extrapolation.proofs.Kernel.{fold-same, fold-small}
 use Rattle.extrapolation.proofs.folded.Statement.{statement}
 use Rattle.extrapolation.proofs.folded.Tie as tie

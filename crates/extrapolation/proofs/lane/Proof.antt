@@ -1,8 +1,7 @@
 -- `extrapolation::lane` meets its contract. The invariant: n steps are made.
-use mathlib.Core.Path.{_≡_, refl}
-use mathlib.Core.List.{List}
-use Prim.Native.Nat.{ℕ, _+_, _-_, _*_, _≤_, _<_}
-use lib.ListN.{length, getD, length-set}
+use mathlib.Core.Path.{_≡_}
+use Prim.Native.Nat.{_+_, _-_, _*_, _≤_, _<_}
+use lib.ListN.{length, length-set}
 use Rattle.extrapolation.specs.Lanes.{run, Small}
 use Rattle.extrapolation.proofs.Kernel.{LaneInv, lane-holds, lane-turn, lane-done, lane-fits}
 use borrow.Author.Needs.{needs}

@@ -1,7 +1,6 @@
 -- `extrapolation::least` meets its contract.
 use mathlib.Core.Path.{refl}
 use mathlib.Core.Logic.{inl, inr}
-use borrow.Author.Needs.{needs}
 use native.Mathlib.Omega.{arith}
 use Rattle.extrapolation.proofs.least.Statement.{statement}
 use Rattle.extrapolation.proofs.least.Tie as tie

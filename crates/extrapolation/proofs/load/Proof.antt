@@ -1,6 +1,6 @@
 -- `extrapolation::load` meets its contract. The invariant: the lanes below j are loaded.
 use mathlib.Core.Path.{_≡_, refl, _∙_, subst}
-use Prim.Native.Nat.{ℕ, _+_, _-_, _*_, _≤_, _<_}
+use Prim.Native.Nat.{ℕ, _-_, _*_, _≤_}
 use native.Mathlib.Nat.{not-suc-le-zero}
 use lib.ListN.{length}
 use Rattle.extrapolation.specs.Lanes.{Small}

@@ -1,6 +1,6 @@
 -- `extrapolation::load_lane` meets its contract. The invariant: the lines below r are loaded.
 use mathlib.Core.Path.{_≡_, refl, subst}
-use Prim.Native.Nat.{ℕ, _+_, _-_, _*_, _≤_, _<_}
+use Prim.Native.Nat.{ℕ, _-_, _*_, _≤_, _<_}
 use lib.ListN.{length, length-set}
 use Rattle.extrapolation.specs.Lanes.{Signed}
 use Rattle.extrapolation.proofs.Loading.{LoadInv, load-none, load-turn}

@@ -1,6 +1,6 @@
 -- `extrapolation::put_lanes` meets its contract. The invariant: the lanes below j are written.
-use mathlib.Core.Path.{_≡_, refl, _∙_, subst}
-use Prim.Native.Nat.{ℕ, _+_, _-_, _*_, _%_, _≤_, _<_}
+use mathlib.Core.Path.{_≡_, refl, subst}
+use Prim.Native.Nat.{ℕ, _+_, _-_, _*_, _≤_, _<_}
 use lib.ListN.{length, length-set}
 use Rattle.extrapolation.specs.Lanes.{run, PutLanes}
 use Rattle.extrapolation.proofs.Putting.{put-none, put-turn}

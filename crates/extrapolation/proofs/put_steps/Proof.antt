@@ -1,6 +1,6 @@
 -- `extrapolation::put_steps` meets its contract. The invariant: the steps below n are written.
 use mathlib.Core.Path.{_≡_, refl, _∙_}
-use Prim.Native.Nat.{ℕ, suc, _+_, _-_, _*_, _≤_, _<_}
+use Prim.Native.Nat.{ℕ, _+_, _-_, _*_, _≤_, _<_}
 use lib.ListN.{length}
 use Rattle.lists.specs.Parts.{row-fits}
 use Rattle.extrapolation.specs.Lanes.{run}

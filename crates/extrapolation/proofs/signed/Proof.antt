@@ -1,6 +1,5 @@
 -- `extrapolation::signed` meets its contract.
-use mathlib.Core.Path.{_≡_}
-use Prim.Native.Nat.{ℕ, _%_, _<_}
+use Prim.Native.Nat.{_<_}
 use borrow.Author.Needs.{needs}
 use native.Mathlib.Omega.{arith}
 use Rattle.extrapolation.proofs.Loading.{signed-even, signed-odd}

@@ -1,5 +1,5 @@
 -- `extrapolation::signed_value` meets its contract.
-use Prim.Native.Nat.{ℕ, _+_, _-_, _*_, _<_}
+use Prim.Native.Nat.{_-_}
 use Rattle.extrapolation.proofs.Loading.{value-inside, value-outside}
 use borrow.Author.Needs.{needs}
 use native.Mathlib.Omega.{arith}

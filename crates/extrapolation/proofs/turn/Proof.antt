@@ -1,8 +1,5 @@
 -- `extrapolation::turn` meets its contract.
-use Prim.Native.Nat.{ℕ, _<_}
-use lib.ListN.{getD}
 use borrow.Author.Needs.{needs}
-use native.Mathlib.Omega.{arith}
 use Rattle.extrapolation.proofs.turn.Statement.{statement}
 use Rattle.extrapolation.proofs.turn.Tie as tie
 

@@ -1,6 +1,6 @@
 -- `extrapolation::walk` meets its contract. The invariant: the runs before step i are written.
 use mathlib.Core.Path.{_≡_, refl, _∙_}
-use Prim.Native.Nat.{ℕ, _+_, _-_, _*_, _≤_, _<_}
+use Prim.Native.Nat.{_+_, _-_, _*_, _≤_}
 use lib.ListN.{length}
 use Rattle.extrapolation.specs.Lanes.{run}
 use Rattle.extrapolation.proofs.Putting.{WalkInv, walk-none, walk-turn, walk-done}
