@@ -56,8 +56,9 @@ class Source:
         h = self.between(1, max_h)
         width = self.between(2, min(2**h, max_width))
         l = self.between(1, min(width - 1, 64))
-        w = self.between(1, width - l)
-        nu = self.between(1, (width - l) // w)
+        columns = min(width - l, 256)
+        w = self.between(1, columns)
+        nu = self.between(1, columns // w)
         return Sizes(h, self.between(1, max_mu), nu, w, l, self.between(1, 4), self.between(1, 8))
 
 
