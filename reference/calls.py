@@ -1,4 +1,4 @@
-"""Calls of the committer and the opener, with every lent slice before and after.
+"""Calls of the committer, the opener and the reply's length, with every lent slice before and after.
 
 As in cases.py, what the construction of a call tells is asserted while the call is made.
 """
@@ -8,10 +8,10 @@ from itertools import combinations
 
 import smallwood as S
 from drafts import (
-    LAST_WORD, Draft, Lent, Source, allowed, ask, border_sizes, committed, lend, name, outputs, prefill,
-    random_commitment, true_values,
+    LAST_WORD, Draft, Lent, Source, allowed, ask, border_sizes, case_p, committed, drawn_question, lend, name,
+    outputs, prefill, random_commitment, reply_buffer, small_drafts, true_values,
 )  # fmt: skip
-from faults import STAGES, faulty, spoil, turn
+from faults import QUESTION_STAGES, faulty, spoil, turn
 from smallwood import Q, Question, Reply, Sizes
 
 # Committing: the sizes, what is lent, and table and tree before and after. Where a size exceeds 65535, or
@@ -27,6 +27,9 @@ OpenCall = namedtuple(
     "label question coefficients tails masks nonces table tree buffer number length buffer_after",
 )
 
+# The reply's length of a question; length is None after a refusal.
+LengthCall = namedtuple("LengthCall", "label question number length")
+
 WORDS = ("coefficients", "tails", "masks")
 
 
@@ -41,6 +44,11 @@ def with_word(words, at, word):
     changed = list(words)
     changed[at] = word
     return changed
+
+
+def faulty_question(q, faults, v):
+    """A question with these faults; v chooses among variants."""
+    return faulty(Draft(q, Reply([], [], [], [])), faults, v)[0]
 
 
 # ---- Committing -------------------------------------------------------------------------------------
@@ -118,26 +126,22 @@ def commit_calls():
 # ---- Opening ----------------------------------------------------------------------------------------
 
 # The opener's tests in their order, each with its number.
-OPEN_STAGES = STAGES[:6] + (("lent length", 2), ("lent element", 3), ("lent root", 8))
+OPEN_STAGES = QUESTION_STAGES + (("lent length", 2), ("lent element", 3), ("lent root", 8))
 
 
 def open_call(label, question, lent, table, tree, buffer, number):
     found, length, after = S.open_reply(question, *lent, table, tree, buffer)
     assert found == number, (label, found, number)
-    assert (after, length) == (buffer, None) if found else after[length:] == buffer[length:], label
+    assert (after, length) == (buffer, None) if found else len(after) == length == len(buffer), label
     return OpenCall(label, question, *lent, table, tree, buffer, found, length, after)
-
-
-def reply_buffer(s):
-    return prefill(S.reply_bytes(s, s.l * s.h))
 
 
 def accepted_open(label, c, q):
     """A call whose reply the check must accept, with the polynomials' values."""
     label, question = "%s [%s]" % (label, name(q.sizes)), S.write_question(q)
-    call = open_call(label, question, c.lent, c.table, c.tree, reply_buffer(q.sizes), 0)
-    reply, values = call.buffer_after[: call.length], [0] * (q.sizes.w * q.sizes.m)
-    assert S.check(question, reply, values) == (0, true_values(c, q)), label
+    call = open_call(label, question, c.lent, c.table, c.tree, reply_buffer(question), 0)
+    values = [0] * (q.sizes.w * q.sizes.m)
+    assert S.check(question, call.buffer_after, values) == (0, true_values(c, q)), label
     return call
 
 
@@ -166,7 +170,8 @@ def accepted_opens():
 
 def believed_opens(src, c, q):
     """What the opener does not compare with one another: everything but root and question."""
-    question, buffer = S.write_question(q), reply_buffer(q.sizes)
+    question = S.write_question(q)
+    buffer = reply_buffer(question)
 
     def call(label, lent=c.lent, table=c.table, tree=c.tree, question=question):
         return open_call("open: " + label, question, lent, table, tree, buffer, 0)
@@ -183,11 +188,21 @@ def believed_opens(src, c, q):
     yield call("w and nu exchanged", question=S.write_question(q._replace(sizes=exchanged)))
 
 
+def buffer_opens(c, q):
+    """Reply buffers of the reply's length and of others, among them the length that no reply exceeds."""
+    question = S.write_question(q)
+    exact, bound = len(reply_buffer(question)), S.reply_bound(q.sizes)
+    assert exact <= bound
+    for size in sorted({0, bound} | {exact + step for step in (-32, -4, -1, 0, 1, 4, 32)}):
+        label = "open: buffer of %d bytes for leaves %s [%s]" % (size, q.indices, name(q.sizes))
+        yield open_call(label, question, c.lent, c.table, c.tree, prefill(size), 0 if size == exact else 2)
+
+
 def faulty_open(c, q, faults, v):
     """A call with these faults; v chooses among variants."""
     number = next(number for stage, number in OPEN_STAGES if stage in faults)
-    question = faulty(Draft(q, Reply([], [], [], [])), faults, v)[0]
-    slices = dict(c.lent._asdict(), table=c.table, tree=c.tree, buffer=reply_buffer(q.sizes))
+    question, buffer = faulty_question(q, faults, v), reply_buffer(S.write_question(q))
+    slices = dict(c.lent._asdict(), table=c.table, tree=c.tree, buffer=buffer)
     if "lent root" in faults:
         slices["tree"] = spoil(c.tree, turn((-1, -32, -7), v))
     if "lent element" in faults:
@@ -206,7 +221,8 @@ def open_calls():
     s = Sizes(3, 2, 2, 1, 3, 2, 2)
     src, c = Source("open faults"), random_commitment(s)
     q = ask(src, c)
-    question, buffer = S.write_question(q), reply_buffer(s)
+    question = S.write_question(q)
+    buffer = reply_buffer(question)
     yield from believed_opens(src, c, q)
     for m in range(1, 9):
         yield accepted_open("open: m %d" % m, c, ask(src, c, m))
@@ -222,15 +238,15 @@ def open_calls():
     for at in range(-32, 0):
         tree = spoil(c.tree, at)
         yield open_call("open: root byte %d" % at, question, c.lent, c.table, tree, buffer, 8)
-    reply_length = S.reply_bytes(s, len(S.missing_nodes(s.h, q.indices)))
-    for size in [0, reply_length] + [len(buffer) + step for step in (-32, -4, -1, 1, 32)]:
-        label, number = "open: buffer of %d bytes" % size, 2 if size != len(buffer) else 0
-        yield open_call(label, question, c.lent, c.table, c.tree, prefill(size), number)
+    for indices in ([0, 1, 2], [0, 3, 6], q.indices):
+        yield from buffer_opens(c, q._replace(indices=indices))
+    for t in (Sizes(1, 1, 1, 1, 1, 1, 1), Sizes(5, 2, 3, 2, 9, 3, 4)):
+        yield from buffer_opens(random_commitment(t), ask(src, random_commitment(t)))
     for field in ("h", "mu", "nu", "w", "l", "eta"):  # other sizes than the committed ones
         t = s._replace(**{field: getattr(s, field) + 1})
         other = S.write_question(Question(t, q.root, [1] * t.eta, [1] * t.m, list(range(t.l))))
         label = "open: %s more by 1" % field
-        yield open_call(label, other, c.lent, c.table, c.tree, reply_buffer(t), 2)
+        yield open_call(label, other, c.lent, c.table, c.tree, reply_buffer(other), 2)
     for cut in range(len(question)):
         label = "open: question of %d bytes" % cut
         yield open_call(label, question[:cut], c.lent, c.table, c.tree, buffer, 6)
@@ -241,3 +257,76 @@ def open_calls():
     for v, pair in enumerate(combinations(stages, 2)):
         for step in range(3):
             yield faulty_open(c, q, pair, v + 5 * step)
+
+
+# ---- The reply's length -----------------------------------------------------------------------------
+
+
+def length_call(label, question, number=None):
+    """A call; number is what its construction tells, None where the reference decides."""
+    found, length = S.reply_length(question)
+    assert number is None or found == number, (label, found, number)
+    assert (length is None) == (found != 0), label
+    return LengthCall("length: " + label, question, found, length)
+
+
+def good_length(label, q, reply_bytes=None):
+    """A call for a good question, with its reply's length where a reply has been made."""
+    call = length_call("%s [%s]" % (label, name(q.sizes)), S.write_question(q), 0)
+    assert reply_bytes is None or call.length == reply_bytes, label
+    return call
+
+
+def good_lengths():
+    for d in small_drafts():
+        yield good_length("honest reply", d.parts()[0], len(d.reply()))
+    for n in range(200):
+        src = Source("length %d" % n)
+        s = src.sizes(12, 64, 320)
+        q = drawn_question(src, s, src.bytes(32), challenges=src.edgy(s.eta), points=src.edgy(s.m))
+        yield good_length("drawn %d" % n, q)
+    src = Source("lengths")
+    for l in range(1, 8):  # every set that can be opened of 8 leaves
+        for indices in combinations(range(8), l):
+            q = drawn_question(src, Sizes(3, 1, 1, 1, l, 1, 1), bytes(32), indices=list(indices))
+            yield good_length("leaves %s" % (indices,), q)
+    for h in range(1, 13):
+        for l in sorted({min(l, 2**h - 1) for l in (1, 2, 3, 64)}):
+            s = Sizes(h, 64, 1, 1, l, 4, 8)
+            spread = [s.leaves // l * b for b in range(l)]
+            last = list(range(s.leaves - l, s.leaves))
+            for label, indices in (("first", list(range(l))), ("last", last), ("spread", spread)):
+                q = drawn_question(src, s, b"\xff" * 32, indices=indices)
+                yield good_length("%s leaves" % label, q)
+
+
+def refused_lengths():
+    src = Source("refused lengths")
+    for s in dict.fromkeys(border_sizes()):
+        label = "sizes [%s]" % name(s)
+        if allowed(s):
+            yield good_length("sizes", drawn_question(src, s, src.bytes(32)))
+            yield length_call(label + ", header alone", S.write_header(s), 6)
+        else:
+            yield length_call(label, S.write_header(s) + bytes(S.question_bytes(s) - S.HEADER_BYTES), 1)
+            yield length_call(label + ", header alone", S.write_header(s), 1)
+    for d in small_drafts():
+        question, shown = d.question(), name(d.sizes)
+        for cut in range(len(question)):
+            yield length_call("question of %d bytes [%s]" % (cut, shown), question[:cut], 6)
+        for more in (1, 2, 4, 32, len(question)):
+            yield length_call("%d bytes more [%s]" % (more, shown), question + question[:more], 6)
+        for at in range(len(question)):
+            yield length_call("byte %d changed [%s]" % (at, shown), spoil(question, at))
+    for d in (case_p(), small_drafts()[4]):
+        for count in range(1, len(QUESTION_STAGES) + 1):
+            for chosen in combinations(QUESTION_STAGES, count):
+                faults, number = [stage for stage, _ in chosen], chosen[0][1]
+                for v in range(14 if count == 1 else 4):
+                    label = "faults: %s; variant %d [%s]" % (", ".join(faults), v, name(d.sizes))
+                    yield length_call(label, faulty_question(d.parts()[0], faults, v), number)
+
+
+def length_calls():
+    yield from good_lengths()
+    yield from refused_lengths()

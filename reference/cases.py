@@ -4,7 +4,7 @@
 
 Everything is deterministic. Where the construction of a case tells the verdict (or the values), that is
 asserted against smallwood.py while the case is made, so that a run of this file is a test of it too.
-Calls of the committer and the opener are in calls.py.
+Calls of the other entries are in calls.py.
 """
 
 import sys
@@ -14,7 +14,7 @@ from hashlib import shake_256
 from itertools import combinations
 
 import smallwood as S
-from calls import commit_calls, open_calls
+from calls import commit_calls, length_calls, open_calls
 from drafts import (
     LAST_WORD, Lent, Source, allowed, ask, border_sizes, case_p, committed, ends, honest, large_drafts,
     lend, name, prefill, product, random_commitment, simulated, small_drafts, true_values, vanishing,
@@ -557,7 +557,7 @@ def main():
     for group in CHECK_GROUPS:
         counted(group.__name__, group(), lambda case: case.number)
     counted("program_cases", program_cases(checks), lambda case: int(case.output.split()[1]))
-    for group in (commit_calls, open_calls):
+    for group in (commit_calls, open_calls, length_calls):
         counted(group.__name__, group(), lambda call: call.number)
     print("digest of all cases", total.hexdigest(16))
     return 0

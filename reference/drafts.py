@@ -212,13 +212,17 @@ def ask(src, c, m=None, **given):
     return drawn_question(src, c.sizes._replace(m=m or c.sizes.m), c.tree[-32:], **given)
 
 
+def reply_buffer(question):
+    """The buffer in which the opener replies to a good question."""
+    return prefill(S.reply_length(question)[1])
+
+
 def honest(c, q):
     """The opener's reply, as a draft."""
     question = S.write_question(q)
-    buffer = prefill(S.reply_bytes(q.sizes, q.sizes.l * q.sizes.h))
-    number, length, buffer = S.open_reply(question, *c.lent, c.table, c.tree, buffer)
+    number, _, reply = S.open_reply(question, *c.lent, c.table, c.tree, reply_buffer(question))
     assert number == 0, q
-    return Draft(q, S.read_reply(q.sizes, buffer[:length]))
+    return Draft(q, S.read_reply(q.sizes, reply))
 
 
 def true_values(c, q):

@@ -123,6 +123,8 @@ STAGES = (
     ("evaluation", 10),
 )
 
+QUESTION_STAGES = STAGES[:6]  # in common with the opener and the reply's length
+
 # (byte of the header, contents from there on) that make a size refused.
 BAD_SIZES = (
     (5, b"\0"), (5, b"\x0d"), (6, b"\0"), (6, b"\x41"), (7, b"\0\0"), (8, b"\2"), (9, b"\0\0"),

@@ -47,6 +47,23 @@ def naive_missing(h, indices):
     return [(v, n) for v, n in nodes if not above(v, n) and above(v, n + 1 if n % 2 == 0 else n - 1)]
 
 
+def counted_missing(h, indices):
+    """The number of missing nodes without a walk over the tree.
+
+    Let c nodes be above or in the set: h + 1 for the first index, and for each next one as many as its path
+    goes before it meets the path of the one before. All but the l leaves have two children each, together
+    2 (c - l), and all but the root are such children; the other children are missing.
+    """
+    above = h + 1 + sum((a ^ b).bit_length() for a, b in zip(indices, indices[1:]))
+    return 2 * (above - len(indices)) - (above - 1)
+
+
+def naive_length(s, nodes):
+    """Bytes of a reply with this many nodes, record by record."""
+    answer = 4 * (s.w * s.nu + s.l)
+    return s.eta * answer + s.m * answer + s.l * (4 * s.mu + 4 * s.eta + 32) + 32 * nodes
+
+
 def naive_node(digests, level, index):
     if level == 0:
         return digests[index]
@@ -96,8 +113,13 @@ def case_p(nonces):
     number, table, tree = S.commit(*P_SIZES[:6], *P_LENT, nonces, *empty_outputs(P_SIZES))
     expect("case P is committed", number, 0)
     question = S.write_question(Question(P_SIZES, tree[-32:], [10], [6], [1]))
+    expect("reply length of case P", S.reply_length(question), (0, 88))
     number, length, buffer = S.open_reply(question, *P_LENT, nonces, table, tree, b"\xee" * 88)
     expect("case P is opened", (number, length), (0, 88))
+    for size in (0, 56, 87, 89, 120):
+        before = b"\xee" * size
+        refused = S.open_reply(question, *P_LENT, nonces, table, tree, before)
+        expect("buffer of %d bytes" % size, refused, (2, None, before))
     return question, buffer, table, tree
 
 
@@ -223,9 +245,74 @@ def test_missing(rng):
         h = rng.randrange(4, 8)
         indices = sorted(rng.sample(range(2**h), rng.randrange(1, 2**h)))
         expect("missing", S.missing_nodes(h, indices), naive_missing(h, indices))
+
+
+def expect_length(s, indices):
+    """The reply length of a question with these sizes and indices: as counted, as the check's 7 has it."""
+    question = S.write_question(Question(s, bytes(32), [1] * s.eta, [2] * s.m, indices))
+    label = "reply length %s %s" % (s, indices)
+    nodes = counted_missing(s.h, indices)
+    length, bound = naive_length(s, nodes), naive_length(s, s.l * s.h)
+    expect(label, S.reply_length(question), (0, length))
+    expect("bound, " + label, S.reply_bound(s), bound)
+    expect("from one node to the bound, " + label, 1 <= nodes and length <= bound, True)
+    if s.l == 1:
+        expect("h nodes, " + label, nodes, s.h)
+    for step in (-32, -1, 0, 1, 32):  # the root of zeros is that of no reply
+        number = S.check(question, bytes(length + step), [3] * (s.w * s.m))[0]
+        expect("reply of %d bytes, %s" % (length + step, label), number, 7 if step else 8)
+
+
+def test_reply_length(rng):
+    for h in (1, 2, 3):
+        for chosen in range(1, 2 ** 2**h - 1):  # one column: not all leaves
+            indices = [i for i in range(2**h) if chosen >> i & 1]
+            expect("counted", counted_missing(h, indices), len(naive_missing(h, indices)))
+            expect_length(Sizes(h, 1, 1, 1, len(indices), 1, 1), indices)
+    for _ in range(200):
+        s = random_sizes(rng)
+        expect_length(s, sorted(rng.sample(range(2**s.h), s.l)))
     for l in range(1, 65):
-        indices = sorted(rng.sample(range(4096), l))
-        expect("at most l h missing", len(S.missing_nodes(12, indices)) <= 12 * l, True)
+        s = Sizes(12, rng.randrange(1, 65), rng.randrange(1, 17), rng.randrange(1, 17), l, 4, 8)
+        expect_length(s, sorted(rng.sample(range(2**s.h), l)))
+        expect_length(s, list(range(l)))
+        expect_length(s, list(range(2**s.h - l, 2**s.h)))
+        expect_length(s, [2**s.h // l * b for b in range(l)])
+
+
+def test_reply_length_refused():
+    """Each test of the question, then two at once: the earlier one decides."""
+    s = Sizes(3, 2, 1, 2, 2, 1, 1)
+    good = Question(s, bytes(32), [1], [2], [3, 5])
+    question = S.write_question(good)
+
+    def changed(**parts):
+        return S.write_question(good._replace(**parts))
+
+    late = changed(challenges=[Q], indices=[5, 3])
+    for label, data, number in (
+        ("empty", b"", 6),
+        ("13 bytes", question[:13], 6),
+        ("13 bytes, mark", b"swq" + question[3:13], 6),
+        ("mark", b"swq" + question[3:], 5),
+        ("version", question[:3] + b"\2\0" + question[5:], 5),
+        ("mark, size", b"swq" + question[3:5] + b"\0" + question[6:], 5),
+        ("h is 0", question[:5] + b"\0" + question[6:], 1),
+        ("w nu + l > N", changed(sizes=s._replace(w=7)), 1),
+        ("size, length", changed(sizes=s._replace(h=13))[:-1], 1),
+        ("a byte too few", question[:-1], 6),
+        ("a byte too many", question + b"\0", 6),
+        ("length, element", late[:-1], 6),
+        ("challenge", changed(challenges=[Q]), 3),
+        ("point", changed(points=[2**32 - 1]), 3),
+        ("element, indices", late, 3),
+        ("equal indices", changed(indices=[3, 3]), 4),
+        ("falling indices", changed(indices=[5, 3]), 4),
+        ("index N", changed(indices=[3, 8]), 4),
+    ):
+        expect("reply length, " + label, S.reply_length(data), (number, None))
+        expect("check, " + label, S.check(data, b"", [])[0], number)
+    expect_length(s, good.indices)
 
 
 def random_sizes(rng):
@@ -259,13 +346,14 @@ def test_completeness(rng, rounds):
         question = S.write_question(q)
         expect("question read back", S.read_question(question), (0, q))
         nodes = naive_missing(s.h, indices)
-        width = s.w * s.nu + s.l
-        length = 4 * width * s.eta + 4 * width * s.m + s.l * (4 * record + 32) + 32 * len(nodes)
-        before = rng.randbytes(length + 32 * (s.l * s.h - len(nodes)))
-        number, true_length, buffer = S.open_reply(question, *lent, table, tree, before)
-        expect("opened", (number, true_length, len(buffer)), (0, length, len(before)))
-        expect("bytes after the reply", buffer[length:], before[length:])
-        reply = buffer[:length]
+        length = naive_length(s, len(nodes))
+        expect("reply length", S.reply_length(question), (0, length))
+        number, true_length, reply = S.open_reply(question, *lent, table, tree, bytes(length))
+        expect("opened", (number, true_length, len(reply)), (0, length, length))
+        for size in {0, length - 32, length - 1, length + 1, length + 32, S.reply_bound(s)} - {length}:
+            before = rng.randbytes(size)
+            refused = S.open_reply(question, *lent, table, tree, before)
+            expect("buffer of %d bytes" % size, refused, (2, None, before))
         r = S.read_reply(s, reply)
         expect("reply read back", S.write_reply(r), reply)
         opened = [table[i * record : (i + 1) * record] for i in indices]
@@ -293,6 +381,8 @@ def main():
     test_hash()
     test_interpolation(rng)
     test_missing(rng)
+    test_reply_length(rng)
+    test_reply_length_refused()
     test_completeness(rng, 150)
     print("%(passed)d passed, %(failed)d failed" % counts)
     return 1 if counts["failed"] else 0

@@ -289,6 +289,16 @@ def reply_bytes(s, node_count):
     return 4 * s.width * (s.eta + s.m) + leaf_bytes * s.l + DIGEST_BYTES * node_count
 
 
+def reply_bound(s):
+    """What no reply of these sizes exceeds: each opened leaf misses at most one node on a level."""
+    return reply_bytes(s, s.l * s.h)
+
+
+def reply_bytes_to(q):
+    """Length of the reply to a question: its nodes are the missing ones."""
+    return reply_bytes(q.sizes, len(missing_nodes(q.sizes.h, q.indices)))
+
+
 def write_header(s):
     return MARK + struct.pack("<HBBHHBBB", VERSION, *s)
 
@@ -395,8 +405,17 @@ def commit(h, mu, nu, w, l, eta, coefficients, tails, masks, nonces, table, tree
     return 0, filled, tree_of(leaf_digests)
 
 
+def reply_length(question):
+    """The length of a question's reply: returns (number, length); None after a refusal.
+
+    Tests 6 5 1 6 3 4.
+    """
+    number, q = read_question(question)
+    return (number, None) if number else (0, reply_bytes_to(q))
+
+
 def open_reply(question, coefficients, tails, masks, nonces, table, tree, buffer):
-    """Open: returns (number, length, buffer); a refusal has no length (None).
+    """Open: returns (number, length, buffer), where both lengths are the reply's; None after a refusal.
 
     Tests 6 5 1 6 3 4, then 2, 3 over all lent words (the table too), 8 against the lent root.
     Table and tree are believed: leaf values and nodes are copied from them.
@@ -405,7 +424,7 @@ def open_reply(question, coefficients, tails, masks, nonces, table, tree, buffer
     if number:
         return number, None, buffer
     s = q.sizes
-    if len(buffer) != reply_bytes(s, s.l * s.h) or not lent_lengths_hold(
+    if len(buffer) != reply_bytes_to(q) or not lent_lengths_hold(
         s, coefficients, tails, masks, nonces, table, tree
     ):
         return 2, None, buffer
@@ -422,7 +441,7 @@ def open_reply(question, coefficients, tails, masks, nonces, table, tree, buffer
             [tree_node(s, tree, level, i) for level, i in missing_nodes(s.h, q.indices)],
         )
     )
-    return 0, len(reply), reply + buffer[len(reply) :]
+    return 0, len(reply), reply
 
 
 def judge(question, reply, buffer_bytes):
@@ -436,7 +455,7 @@ def judge(question, reply, buffer_bytes):
     s = q.sizes
     if buffer_bytes != 4 * s.w * s.m:
         return 2, None
-    if len(reply) != reply_bytes(s, len(missing_nodes(s.h, q.indices))):
+    if len(reply) != reply_bytes_to(q):
         return 7, None
     r = read_reply(s, reply)
     if not all(map(elements, r.batchings + r.answers + [values for values, _ in r.leaves])):
