@@ -1,9 +1,9 @@
 /* Calls the entries of a linked archive for requests on standard input, one after the other.
  *
- * Request:  kind ('c' commit, 'o' open, 'k' check); for 'c' six 32-bit sizes; for 'o' the 64-bit length
- *           as it stands before the call; then each slice in the entry's order: a 32-bit number of
- *           elements and the elements.
- * Answer:   the 32-bit number returned, the 64-bit length after the call (0 unless 'o'), 32-bit flags
+ * Request:  kind ('c' commit, 'l' reply_length, 'o' open, 'k' check); for 'c' six 32-bit sizes; for 'l' and
+ *           'o' the 64-bit length as it stands before the call; then each slice in the entry's order: a
+ *           32-bit number of elements and the elements.
+ * Answer:   the 32-bit number returned, the 64-bit length after the call (0 for 'c' and 'k'), 32-bit flags
  *           (below), the 32-bit number of calls made, then every slice as it stands after the call, the
  *           ones lent for reading too.
  *
@@ -154,11 +154,33 @@ static void take_slice(size_t width)
 #define WORDS(i) (uint32_t *)(void *)slices[i].lent, slices[i].count
 #define BYTES(i) slices[i].lent, slices[i].count
 
+/* The entries: the kind of their requests, how many slices they take, and the bytes of an element in each. */
+static const struct entry {
+    int kind;
+    size_t count, widths[SLICES];
+} entries[] = {
+    {'c', 6, {4, 4, 4, 1, 4, 1}},
+    {'l', 1, {1}},
+    {'o', 8, {1, 4, 4, 4, 4, 1, 1, 1}},
+    {'k', 3, {1, 1, 1}},
+};
+
+static const struct entry *entry_of(int kind)
+{
+    for (size_t i = 0; i < sizeof entries / sizeof entries[0]; i++)
+        if (entries[i].kind == kind)
+            return &entries[i];
+    fail("no such request");
+    return NULL;
+}
+
 static uint32_t call(int kind, const uint32_t sizes[6], uint64_t *length)
 {
     if (kind == 'c')
         return smallwood_commit(sizes[0], sizes[1], sizes[2], sizes[3], sizes[4], sizes[5],
                                 WORDS(0), WORDS(1), WORDS(2), BYTES(3), WORDS(4), BYTES(5));
+    if (kind == 'l')
+        return smallwood_reply_length(BYTES(0), length);
     if (kind == 'o')
         return smallwood_open(BYTES(0), WORDS(1), WORDS(2), WORDS(3), WORDS(4), BYTES(5), BYTES(6),
                               BYTES(7), length);
@@ -175,21 +197,18 @@ static int one_is_empty(void)
 
 static void serve(int kind)
 {
-    static const size_t commit_widths[] = {4, 4, 4, 1, 4, 1};
-    static const size_t open_widths[] = {1, 4, 4, 4, 4, 1, 1, 1};
-    static const size_t check_widths[] = {1, 1, 1};
-    const size_t *widths = kind == 'c' ? commit_widths : kind == 'o' ? open_widths : check_widths;
-    size_t count = kind == 'c' ? 6 : kind == 'o' ? 8 : 3;
+    const struct entry *entry = entry_of(kind);
+    size_t count = entry->count;
     uint32_t sizes[6] = {0}, number = 0, flags = 0, calls = 0;
     uint64_t given_length = 0, length = 0;
 
     if (kind == 'c')
         take(sizes, sizeof sizes);
-    if (kind == 'o')
+    if (kind == 'l' || kind == 'o')
         take(&given_length, sizeof given_length);
     slice_count = 0;
     while (slice_count < count)
-        take_slice(widths[slice_count]);
+        take_slice(entry->widths[slice_count]);
     for (enum place place = 0; place < PLACES; place++) {
         uint64_t found_length = given_length;
         uint32_t found;
@@ -250,10 +269,7 @@ int main(void)
         sigaction(SIGBUS, &action, NULL) != 0)
         fail("no signal handler");
     make_arenas();
-    while ((kind = getchar()) != EOF) {
-        if (kind != 'c' && kind != 'o' && kind != 'k')
-            fail("no such request");
+    while ((kind = getchar()) != EOF)
         serve(kind);
-    }
     return 0;
 }

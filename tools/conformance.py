@@ -16,9 +16,10 @@ import time
 from collections import Counter
 
 import paths  # noqa: F401  (makes the modules below importable)
-from calls import CommitCall, OpenCall
+from calls import CommitCall, LengthCall, OpenCall
 from cases import (
-    CHECK_GROUPS, CheckCase, commit_calls, honest_cases, open_calls, place_cases, program_borders, program_case,
+    CHECK_GROUPS, CheckCase, commit_calls, honest_cases, length_calls, open_calls, place_cases, program_borders,
+    program_case,
 )  # fmt: skip
 from drafts import case_p, large_drafts, small_drafts
 from drawn import BLOCK, drawn_inputs
@@ -27,10 +28,12 @@ from smallwood import to_bytes
 SHOWN = 10  # differences after which a run stops
 DRAWN = 1000  # drawn inputs of a run without --long
 EVERY = 12  # the program gets one of so many check cases without --long
-UNTOUCHED = 0x1122334455667788  # the opener's length before a call
+UNTOUCHED = 0x1122334455667788  # the length before a call that may write it
+KINDS = {"commit": b"c", "length": b"l", "open": b"o", "check": b"k"}  # as conformance.c has them
 FLAGS = {1: "bytes beside a slice changed", 2: "the outcome depends on where the slices stand"}
 
 COMMIT_SLICES = ("coefficients", "tails", "masks", "nonces", "table", "tree")
+LENGTH_SLICES = ("question",)
 OPEN_SLICES = ("question", "coefficients", "tails", "masks", "table", "nonces", "tree", "buffer")
 CHECK_SLICES = ("question", "reply", "buffer")
 
@@ -51,7 +54,7 @@ class Call:
         self.before = [raw(contents) for contents in slices.values()]
         self.after = [raw(after.get(name, contents)) for name, contents in slices.items()]
         self.empty = any(len(contents) == 0 for contents in slices.values())
-        parts = [{"commit": b"c", "open": b"o", "check": b"k"}[entry], head]
+        parts = [KINDS[entry], head]
         for contents, data in zip(slices.values(), self.before):
             parts += [struct.pack("<I", len(contents)), data]
         self.message = b"".join(parts)
@@ -65,8 +68,17 @@ def commit(label, sizes, slices, number, after):
     return Call(label, "commit", struct.pack("<6I", *sizes), slices, number, 0, after)
 
 
+def written(length):
+    """The length after a call: a refusal, which has none, leaves what was there."""
+    return UNTOUCHED if length is None else length
+
+
+def reply_length(label, slices, number, length):
+    return Call(label, "length", struct.pack("<Q", UNTOUCHED), slices, number, written(length), {})
+
+
 def opened(label, slices, number, length, after):
-    return Call(label, "open", struct.pack("<Q", UNTOUCHED), slices, number, length, after)
+    return Call(label, "open", struct.pack("<Q", UNTOUCHED), slices, number, written(length), after)
 
 
 def check(label, slices, number, after):
@@ -82,10 +94,12 @@ def call_of(case):
         slices = {name: getattr(case, name) for name in COMMIT_SLICES}
         after = {"table": case.table_after, "tree": case.tree_after}
         return commit(case.label, case[1:7], slices, case.number, after)
+    if isinstance(case, LengthCall):
+        slices = {name: getattr(case, name) for name in LENGTH_SLICES}
+        return reply_length(case.label, slices, case.number, case.length)
     assert isinstance(case, OpenCall)
     slices = {name: getattr(case, name) for name in OPEN_SLICES}
-    length = UNTOUCHED if case.length is None else case.length
-    return opened(case.label, slices, case.number, length, {"buffer": case.buffer_after})
+    return opened(case.label, slices, case.number, case.length, {"buffer": case.buffer_after})
 
 
 def empty_calls():
@@ -98,8 +112,9 @@ def empty_calls():
     yield commit("empty: commit, sizes 1", [1] * 6, empty(COMMIT_SLICES), 2, {})
     yield commit("empty: commit, sizes 0", [0] * 6, empty(COMMIT_SLICES), 1, {})
     yield commit("empty: commit, sizes 2^32 - 1", [2**32 - 1] * 6, empty(COMMIT_SLICES), 1, {})
-    yield opened("empty: open", empty(OPEN_SLICES), 6, UNTOUCHED, {})
-    yield opened("empty: open, but the question", empty(OPEN_SLICES, question=question), 2, UNTOUCHED, {})
+    yield reply_length("empty: length", empty(LENGTH_SLICES), 6, None)
+    yield opened("empty: open", empty(OPEN_SLICES), 6, None, {})
+    yield opened("empty: open, but the question", empty(OPEN_SLICES, question=question), 2, None, {})
     yield check("empty: check", empty(CHECK_SLICES), 6, {})
     yield check("empty: check, but the question", empty(CHECK_SLICES, question=question), 2, {})
     yield check("empty: check, reply", empty(CHECK_SLICES, question=question, buffer=bytes(4)), 7, {})
@@ -109,7 +124,7 @@ def call_groups(drawn, seed):
     """(name, calls) of every group; the quick groups come first."""
     yield "empty slices", empty_calls()
     quick = [group for group in CHECK_GROUPS if group not in (honest_cases, place_cases)]
-    for group in quick + [place_cases]:
+    for group in quick + [length_calls, place_cases]:
         yield group.__name__, map(call_of, group())
     yield "drawn inputs", map(call_of, drawn_inputs(drawn, seed))
     for group in (commit_calls, open_calls, honest_cases):
@@ -275,7 +290,8 @@ class Run:
         print("numbers expected: %s; entries called %d times, %d with NULL" % (numbers, *calls))
         if not self.program:
             print("no checking program was given: it is not compared")
-        counts = ", ".join("%d %s" % (self.counts[kind], kind) for kind in ("check", "commit", "open", "program"))
+        kinds = "check", "commit", "length", "open", "program"
+        counts = ", ".join("%d %s" % (self.counts[kind], kind) for kind in kinds)
         outcome = "%d DIFFERENT, first: %s" % (len(self.failed), self.failed[0]) if self.failed else "all equal"
         print("conformance: %s inputs in %.0f s: %s" % (counts, seconds, outcome), flush=True)
         return not self.failed

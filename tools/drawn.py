@@ -5,13 +5,14 @@ The second implementation alone tells the expected outcomes. A block of inputs d
 
 import paths  # noqa: F401  (makes the modules below importable)
 import smallwood as S
-from calls import OpenCall, CommitCall, off_by, with_word
+from calls import CommitCall, LengthCall, OpenCall, off_by, with_word
 from cases import check_case
 from drafts import (
-    LAST_WORD, Source, ask, committed, honest, lend, name, outputs, prefill, product, simulated, vanishing,
+    LAST_WORD, Draft, Source, ask, committed, drawn_question, honest, lend, name, outputs, product, reply_buffer,
+    simulated, vanishing,
 )  # fmt: skip
 from faults import BAD_MARKS, BAD_SIZES, spoil
-from smallwood import Q
+from smallwood import Q, Reply
 
 BLOCK = 10000  # inputs for one seed
 POOL = 40  # drafts to take an input from
@@ -212,6 +213,30 @@ BYTE_FAULTS = (
     question_byte, reply_byte, question_length, reply_length, mark, bad_size, header_byte, buffer_length, boundary,
 )  # fmt: skip
 
+# Those that the question may show.
+QUESTION_FAULTS = (
+    challenge, point, exchanged, index, large_word, second_encoding, question_byte, question_length, mark, bad_size,
+    header_byte,
+)  # fmt: skip
+
+
+def with_faults(src, d, faults):
+    """Question, reply and value buffer length of a draft with these faults, those in its parts first."""
+    parts = [fault for fault in faults if fault in PART_FAULTS]
+    if parts:
+        d = d.copy()
+    for fault in parts:
+        fault(src, d)
+    question, reply, size = d.question(), d.reply(), 4 * d.sizes.w * d.sizes.m
+    for fault in faults:
+        if fault not in parts:
+            question, reply, size = fault(src, question, reply, size)
+    return question, reply, size
+
+
+def shown(faults):
+    return " + ".join(fault.__name__ for fault in faults) or "none"
+
 
 # ---- Inputs -----------------------------------------------------------------------------------------
 
@@ -259,18 +284,20 @@ class Pool:
         if not faults:
             self.drafts[at] = self.new_draft(at)
         d = self.drafts[at]
-        parts = [fault for fault in faults if fault in PART_FAULTS]
-        if parts:
-            d = d.copy()
-        for fault in parts:
-            fault(src, d)
-        question, reply, size = d.question(), d.reply(), 4 * d.sizes.w * d.sizes.m
-        for fault in faults:
-            if fault not in parts:
-                question, reply, size = fault(src, question, reply, size)
-        shown = " + ".join(fault.__name__ for fault in faults) or "none"
-        label = "drawn %d.%d: %s [%s]" % (self.seed, self.count, shown, name(d.sizes))
+        question, reply, size = with_faults(src, d, faults)
+        label = "drawn %d.%d: %s [%s]" % (self.seed, self.count, shown(faults), name(d.sizes))
         return check_case(label, question, reply, None, None, size)
+
+    def length_call(self):
+        """A call of the reply's length, for a question of any sizes with none, one or two faults."""
+        self.next()
+        src = self.src
+        s = src.sizes(12, 64, 320)
+        q = drawn_question(src, s, src.bytes(32), challenges=src.edgy(s.eta), points=src.edgy(s.m))
+        faults = [src.pick(QUESTION_FAULTS) for _ in range(src.pick((0, 0, 1, 1, 2)))]
+        question = with_faults(src, Draft(q, Reply([], [], [], [])), faults)[0]
+        label = "drawn %d.%d: length, %s [%s]" % (self.seed, self.count, shown(faults), name(s))
+        return LengthCall(label, question, *S.reply_length(question))
 
     def commit_call(self):
         """A call of the committer with drawn words, with a fault in one of three."""
@@ -297,7 +324,7 @@ class Pool:
         m = src.between(1, 8)
         q = ask(src, c, m, challenges=src.edgy(c.sizes.eta), points=src.edgy(m))
         question, s = S.write_question(q), q.sizes
-        given = dict(c.lent._asdict(), table=c.table, tree=c.tree, buffer=prefill(S.reply_bytes(s, s.l * s.h)))
+        given = dict(c.lent._asdict(), table=c.table, tree=c.tree, buffer=reply_buffer(question))
         label = "drawn %d.%d: open" % (self.seed, self.count)
         kind = src.below(6)
         if kind == 0:
@@ -325,9 +352,10 @@ class Pool:
 
 
 def drawn_inputs(count, seed=1):
-    """This many inputs: mostly of the check, one in 50 a call of the committer, one in 50 of the opener."""
+    """This many inputs, mostly of the check; of 50, one calls the committer, one the opener, four reply_length."""
     pool = None
+    others = {49: Pool.commit_call, 24: Pool.open_call, **dict.fromkeys((9, 19, 29, 39), Pool.length_call)}
     for n in range(count):
         if n % BLOCK == 0:
             pool = Pool(seed + n // BLOCK)
-        yield pool.commit_call() if n % 50 == 49 else pool.open_call() if n % 50 == 24 else pool.check_case()
+        yield others.get(n % 50, Pool.check_case)(pool)

@@ -1,6 +1,6 @@
-/* The three entries of the library for C, declared under any prefix:
+/* The four entries of the library for C, declared under any prefix:
  *
- *     ENTRIES(smallwood)      declares smallwood_commit, smallwood_open, smallwood_check
+ *     ENTRIES(smallwood)      declares smallwood_commit, smallwood_reply_length, smallwood_open, smallwood_check
  *
  * A slice is a pointer and its number of elements. Each entry returns the verdict's number. */
 #ifndef ENTRIES_H
@@ -16,6 +16,8 @@
                              const uint32_t *masks, size_t mask_count, const uint8_t *nonces,      \
                              size_t nonce_bytes, uint32_t *table, size_t table_count,              \
                              uint8_t *tree, size_t tree_bytes);                                    \
+    uint32_t prefix##_reply_length(const uint8_t *question, size_t question_bytes,                 \
+                                   uint64_t *length);                                              \
     uint32_t prefix##_open(const uint8_t *question, size_t question_bytes,                         \
                            const uint32_t *coefficients, size_t coefficient_count,                 \
                            const uint32_t *tails, size_t tail_count, const uint32_t *masks,        \

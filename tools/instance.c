@@ -56,14 +56,29 @@ size_t width_of(const struct sizes *s)
     return (size_t)s->w * s->nu + s->l;
 }
 
+size_t nodes_above(const struct instance *a)
+{
+    size_t nodes = 0;
+
+    for (uint32_t level = 1; level <= a->s.h; level++)
+        for (uint32_t b = 0; b < a->s.l; b++)
+            nodes += b == 0 || a->indices[b] >> level != a->indices[b - 1] >> level;
+    return nodes;
+}
+
+static size_t reply_with(const struct sizes *s, size_t nodes)
+{
+    return 4 * width_of(s) * (s->eta + s->m) + (4 * (size_t)(s->mu + s->eta) + 32) * s->l +
+           32 * nodes;
+}
+
 void set_points(struct instance *a, uint32_t m)
 {
     struct sizes *s = &a->s;
 
     s->m = m;
     a->question_bytes = 14 + 32 + 4 * (s->eta + m) + 2 * s->l;
-    a->reply_bytes = 4 * width_of(s) * (s->eta + m) +
-                     (4 * (size_t)(s->mu + s->eta) + 32 + 32 * (size_t)s->h) * s->l;
+    a->reply_bound = reply_with(s, (size_t)s->l * s->h);
     a->value_bytes = 4 * (size_t)s->w * m;
 }
 
@@ -89,7 +104,7 @@ struct instance *make_instance(struct sizes s)
         a->nonces[i] = (uint8_t)draw();
     set_points(a, MAX_POINTS);
     a->question = allocate(a->question_bytes);
-    a->reply = allocate(a->reply_bytes);
+    a->reply = allocate(a->reply_bound);
     a->values = allocate(a->value_bytes);
     set_points(a, s.m);
     return a;
@@ -140,6 +155,9 @@ void ask(struct instance *a)
             a->indices[taken++] = i;
             to = put(to, i, 2);
         }
+    /* Of the 2 n children of the n nodes above the opened leaves, l are these leaves and n - 1 such nodes;
+     * the others are missing. */
+    a->reply_bytes = reply_with(s, nodes_above(a) + 1 - s->l);
 }
 
 uint32_t commit_with(const struct implementation *with, struct instance *a)
@@ -152,11 +170,19 @@ uint32_t commit_with(const struct implementation *with, struct instance *a)
                         a->tree_bytes);
 }
 
+uint32_t reply_length_with(const struct implementation *with, struct instance *a)
+{
+    return with->reply_length(a->question, a->question_bytes, &a->length);
+}
+
+/* An older library, without reply_length, wants a buffer for the bound. */
 uint32_t open_with(const struct implementation *with, struct instance *a)
 {
+    size_t reply_bytes = with->reply_length != NULL ? a->reply_bytes : a->reply_bound;
+
     return with->open(a->question, a->question_bytes, a->coefficients, a->coefficient_count,
                       a->tails, a->tail_count, a->masks, a->mask_count, a->table, a->table_count,
-                      a->nonces, a->nonce_bytes, a->tree, a->tree_bytes, a->reply, a->reply_bytes,
+                      a->nonces, a->nonce_bytes, a->tree, a->tree_bytes, a->reply, reply_bytes,
                       &a->length);
 }
 

@@ -1,4 +1,4 @@
-/* Drawn inputs of all three entries for given sizes, for soak.c and bench.c. */
+/* Drawn inputs of all entries for given sizes, for soak.c and bench.c. */
 #ifndef INSTANCE_H
 #define INSTANCE_H
 
@@ -15,26 +15,30 @@ struct sizes {
 struct instance {
     struct sizes s;
     size_t coefficient_count, tail_count, mask_count, table_count;
-    size_t nonce_bytes, tree_bytes, question_bytes, reply_bytes, value_bytes;
+    size_t nonce_bytes, tree_bytes, question_bytes, value_bytes;
+    size_t reply_bytes; /* of the drawn question's reply, counted without the library */
+    size_t reply_bound; /* with l h nodes: what no reply exceeds */
     uint32_t *coefficients, *tails, *masks, *table;
     uint8_t *nonces, *tree, *question, *reply, *values;
-    uint64_t length; /* of the reply, once opened */
+    uint64_t length; /* of the reply, as an entry wrote it */
     uint32_t points[MAX_POINTS], indices[64];
 };
 
-/* The three entries under one name. */
+/* The entries under one name. */
 struct implementation {
     const char *name;
     uint32_t (*commit)(uint32_t, uint32_t, uint32_t, uint32_t, uint32_t, uint32_t, const uint32_t *,
                        size_t, const uint32_t *, size_t, const uint32_t *, size_t, const uint8_t *,
                        size_t, uint32_t *, size_t, uint8_t *, size_t);
+    uint32_t (*reply_length)(const uint8_t *, size_t, uint64_t *); /* NULL: see open_with */
     uint32_t (*open)(const uint8_t *, size_t, const uint32_t *, size_t, const uint32_t *, size_t,
                      const uint32_t *, size_t, const uint32_t *, size_t, const uint8_t *, size_t,
                      const uint8_t *, size_t, uint8_t *, size_t, uint64_t *);
     uint32_t (*check)(const uint8_t *, size_t, const uint8_t *, size_t, uint8_t *, size_t);
 };
 
-#define IMPLEMENTATION(prefix) {#prefix, prefix##_commit, prefix##_open, prefix##_check}
+#define IMPLEMENTATION(prefix) \
+    {#prefix, prefix##_commit, prefix##_reply_length, prefix##_open, prefix##_check}
 
 /* Ends the program with a message. */
 void fail(const char *message) __attribute__((noreturn));
@@ -56,10 +60,14 @@ void set_points(struct instance *a, uint32_t m);
 /* Draws a question to the commitment that the tree has. */
 void ask(struct instance *a);
 
+/* How many nodes are above the drawn question's leaves, the root too. */
+size_t nodes_above(const struct instance *a);
+
 /* d + 1 */
 size_t width_of(const struct sizes *s);
 
 uint32_t commit_with(const struct implementation *with, struct instance *a);
+uint32_t reply_length_with(const struct implementation *with, struct instance *a);
 uint32_t open_with(const struct implementation *with, struct instance *a);
 uint32_t check_with(const struct implementation *with, struct instance *a);
 

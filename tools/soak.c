@@ -1,11 +1,11 @@
 /* Verdicts without a restart:  soak FILE [SECONDS]     (12 hours unless told otherwise)
  *
  * FILE has inputs of the check with their expected outcomes (soak_inputs.py). They are checked in drawn
- * order. In between, questions are drawn for commitments made at the start: the opener's reply must be
- * accepted with the polynomials' values, and the same reply with one bit changed must be refused with the
- * number that the bit's place tells. Every number and every byte of the value buffer is compared. From the
- * end of a first pass over all inputs on, the resident memory must not grow. Exit status 1 after a
- * difference or growth. */
+ * order. In between, questions are drawn for commitments made at the start: the reply's length must be the
+ * counted one, the opener's reply must be accepted with the polynomials' values, and the same reply with one
+ * bit changed must be refused with the number that the bit's place tells. Every number and every byte of the
+ * value buffer is compared. From the end of a first pass over all inputs on, the resident memory must not
+ * grow. Exit status 1 after a difference or growth. */
 #define _POSIX_C_SOURCE 200809L
 #include <inttypes.h>
 #include <stdio.h>
@@ -202,6 +202,15 @@ static uint32_t number_of_damage(const struct instance *a, size_t at)
     return word >= Q ? 3 : at < batchings ? 9 : at < records ? 10 : 8;
 }
 
+static void expect_length(const char *what, size_t which, const struct instance *a)
+{
+    if (a->length != a->reply_bytes) {
+        printf("soak: DIFFERENT: %s %zu: length %" PRIu64 ", expected %zu\n", what, which,
+               a->length, a->reply_bytes);
+        exit(1);
+    }
+}
+
 static uint32_t check_instance(const struct instance *a, const uint8_t *before, size_t value_bytes)
 {
     return check(a->question, a->question_bytes, a->reply, a->length, before, value_bytes);
@@ -216,10 +225,17 @@ static void check_fresh(size_t which)
     set_points(a, 1 + draw_below(MAX_POINTS));
     ask(a);
     expect_polynomials(a);
+    a->length = 0;
+    number = reply_length_with(&library, a);
+    if (number != 0)
+        differ("reply length, commitment", which, number, 0);
+    expect_length("reply length, commitment", which, a);
+    a->length = 0;
     number = open_with(&library, a);
     opened++;
     if (number != 0)
         differ("opening of commitment", which, number, 0);
+    expect_length("opening of commitment", which, a);
     number = check_instance(a, expected, 0);
     if (number != 2)
         differ("no value buffer, commitment", which, number, 2);

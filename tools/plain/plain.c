@@ -348,6 +348,23 @@ static uint32_t read_question(const uint8_t *bytes, size_t length, struct questi
     return 0;
 }
 
+/* The length of the reply to a question. */
+static size_t exact_size(const struct question *q)
+{
+    return reply_size(&q->sizes, count_missing(q->sizes.h, q->opened));
+}
+
+uint32_t PLAIN(reply_length)(const uint8_t *question, size_t question_bytes, uint64_t *length)
+{
+    struct question q;
+    uint32_t number = read_question(question, question_bytes, &q);
+
+    if (number != 0)
+        return number;
+    *length = exact_size(&q);
+    return 0;
+}
+
 /* ---- Committing ---------------------------------------------------------------------------------- */
 
 static bool lengths_hold(const struct sizes *s, size_t coefficients, size_t tails, size_t masks,
@@ -438,7 +455,7 @@ uint32_t PLAIN(open)(const uint8_t *question, size_t question_bytes, const uint3
 
     if (number != 0)
         return number;
-    if (reply_bytes != reply_size(s, (size_t)s->l * s->h) ||
+    if (reply_bytes != exact_size(&q) ||
         !lengths_hold(s, coefficient_count, tail_count, mask_count, nonce_bytes, table_count,
                       tree_bytes))
         return 2;
@@ -577,7 +594,7 @@ uint32_t PLAIN(check)(const uint8_t *question, size_t question_bytes, const uint
         return number;
     if (value_bytes != 4 * (size_t)q.sizes.w * q.sizes.m)
         return 2;
-    if (reply_bytes != reply_size(&q.sizes, count_missing(q.sizes.h, q.opened)))
+    if (reply_bytes != exact_size(&q))
         return 7;
     if (!read_reply(&q.sizes, reply, &r))
         return 3;

@@ -4,7 +4,7 @@
 
 #include "../entries.h"
 
-/* Compiled with -DPLAIN_PREFIX=name, the entries are name_commit, name_open, name_check. */
+/* Compiled with -DPLAIN_PREFIX=name, the entries are name_commit, name_reply_length and so on. */
 #ifndef PLAIN_PREFIX
 #define PLAIN_PREFIX plain
 #endif
