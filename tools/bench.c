@@ -1,9 +1,9 @@
 /* Cost of the library beside the plain C implementation, and beside an older library, on the same inputs in one run.
  *
  *     bench                      all tables below, in Markdown
- *     bench times                time of committing, opening, checking at nine sizes
+ *     bench times                time of each entry at nine sizes
  *     bench growth               how the library's time grows with each size
- *     bench stack                stack that each entry uses
+ *     bench stack                stack that committing, opening, checking use
  *     bench names                the implementations, one to a line
  *     bench sizes                the numbers of the sizes, one to a line
  *     bench once OP SIZE NAME    one call alone, to be counted by valgrind (bench.sh)
@@ -25,6 +25,9 @@
 
 ENTRIES(smallwood);
 ENTRIES(before);
+/* NULL where the older library has not this entry yet: the tables show "-", and its opener gets the buffer that it
+ * wants (open_with). When no older library is without it, this, `has`, and `lacks` in bench.sh can go. */
+#pragma weak before_reply_length
 ENTRIES(plain);
 ENTRIES(plain_keccak);
 
@@ -33,9 +36,11 @@ ENTRIES(plain_keccak);
 #define STACK_BYTES ((size_t)16 << 20)
 #define STACK_BYTE 0x5a
 
-enum operation { COMMIT, OPEN, CHECK, OPERATIONS };
+enum operation { COMMIT, OPEN, CHECK, LENGTH, OPERATIONS };
 
-static const char *const operation_names[OPERATIONS] = {"commit", "open", "check"};
+#define MAIN_OPERATIONS LENGTH /* those in all tables; the others are in those of times and instructions */
+
+static const char *const operation_names[OPERATIONS] = {"commit", "open", "check", "length"};
 
 static const struct implementation implementations[] = {
     IMPLEMENTATION(smallwood),
@@ -76,6 +81,11 @@ static const struct sizes nine_sizes[] = {
 
 #define SIZES (sizeof nine_sizes / sizeof nine_sizes[0])
 
+static int has(const struct implementation *with, enum operation operation)
+{
+    return operation != LENGTH || with->reply_length != NULL;
+}
+
 static uint32_t call(const struct implementation *with, enum operation operation,
                      struct instance *a)
 {
@@ -84,8 +94,10 @@ static uint32_t call(const struct implementation *with, enum operation operation
         return commit_with(with, a);
     case OPEN:
         return open_with(with, a);
-    default:
+    case CHECK:
         return check_with(with, a);
+    default:
+        return reply_length_with(with, a);
     }
 }
 
@@ -112,10 +124,11 @@ static struct instance *prepared(struct sizes s, enum operation operation)
 static size_t outcome(struct instance *a, enum operation operation, uint8_t *copy)
 {
     uint8_t *first = operation == COMMIT ? a->tree : operation == OPEN ? a->reply : a->values;
-    size_t bytes = operation == COMMIT ? a->tree_bytes
-                   : operation == OPEN ? a->reply_bytes
-                                       : a->value_bytes;
-    size_t more = operation == COMMIT ? 4 * a->table_count : operation == OPEN ? 8 : 0;
+    size_t bytes = operation == COMMIT  ? a->tree_bytes
+                   : operation == OPEN  ? a->reply_bytes
+                   : operation == CHECK ? a->value_bytes
+                                        : 0;
+    size_t more = operation == COMMIT ? 4 * a->table_count : operation == CHECK ? 0 : 8;
     void *second = operation == COMMIT ? (void *)a->table : (void *)&a->length;
 
     if (copy == NULL) {
@@ -135,6 +148,8 @@ static void compare(struct instance *a, enum operation operation)
     uint8_t *first = allocate(bytes), *other = allocate(bytes);
 
     for (size_t i = 0; i < IMPLEMENTATIONS; i++) {
+        if (!has(&implementations[i], operation))
+            continue;
         outcome(a, operation, NULL);
         if (call(&implementations[i], operation, a) != 0)
             fail("an honest call was refused");
@@ -156,18 +171,13 @@ static uint64_t permutations_of(size_t string)
 static uint64_t permutations(const struct instance *a, enum operation operation)
 {
     const struct sizes *s = &a->s;
-    uint64_t leaves = (uint64_t)1 << s->h, nodes = 0;
+    uint64_t leaves = (uint64_t)1 << s->h;
     uint64_t leaf = permutations_of(3 + 4 * (s->mu + s->eta) + 32);
     uint64_t node = permutations_of(1 + 2 * DIGEST_BYTES);
 
     if (operation == COMMIT)
         return leaves * leaf + (leaves - 1) * node;
-    if (operation == OPEN)
-        return 0;
-    for (uint32_t level = 1; level <= s->h; level++)
-        for (uint32_t b = 0; b < s->l; b++)
-            nodes += b == 0 || a->indices[b] >> level != a->indices[b - 1] >> level;
-    return s->l * leaf + nodes * node;
+    return operation == CHECK ? s->l * leaf + nodes_above(a) * node : 0;
 }
 
 /* ---- Times --------------------------------------------------------------------------------------- */
@@ -212,7 +222,8 @@ static void measure(struct instance *a, enum operation operation, size_t count,
     for (size_t r = 0; r < ROUNDS; r++)
         for (size_t i = 0; i < count; i++) {
             size_t turn = (r + i) % count;
-            seconds[turn][r] = run(&implementations[turn], operation, a, times);
+            if (has(&implementations[turn], operation))
+                seconds[turn][r] = run(&implementations[turn], operation, a, times);
         }
     for (size_t i = 0; i < count; i++) {
         qsort(seconds[i], ROUNDS, sizeof(double), by_size);
@@ -244,15 +255,23 @@ static void show_times(void)
         for (enum operation operation = 0; operation < OPERATIONS; operation++) {
             struct instance *a = prepared(nine_sizes[n], operation);
             struct timing found[IMPLEMENTATIONS];
+            int decimals = operation == LENGTH ? 3 : 2;
             compare(a, operation);
             measure(a, operation, IMPLEMENTATIONS, found);
             print_sizes(&a->s);
             printf("| %s | %" PRIu64 " ", operation_names[operation], permutations(a, operation));
             for (size_t i = 0; i < IMPLEMENTATIONS; i++)
-                printf("| %.2f (%.2f) ", 1e6 * found[i].least, 1e6 * found[i].median);
+                if (has(&implementations[i], operation))
+                    printf("| %.*f (%.*f) ", decimals, 1e6 * found[i].least, decimals,
+                           1e6 * found[i].median);
+                else
+                    printf("| - ");
             for (size_t i = 1; i < IMPLEMENTATIONS; i++)
-                printf("| %.2f (%.2f) ", found[0].least / found[i].least,
-                       found[0].median / found[i].median);
+                if (has(&implementations[i], operation))
+                    printf("| %.2f (%.2f) ", found[0].least / found[i].least,
+                           found[0].median / found[i].median);
+                else
+                    printf("| - ");
             puts("|");
             fflush(stdout);
             free_instance(a);
@@ -265,13 +284,13 @@ static void show_times(void)
 static void show_growth_of(const char *name, struct sizes *s, uint32_t *size, uint32_t first,
                            uint32_t last)
 {
-    double last_seconds[OPERATIONS] = {0};
+    double last_seconds[MAIN_OPERATIONS] = {0};
     uint32_t kept = *size;
 
     for (uint32_t value = first; value <= last; value = size == &s->h ? value + 1 : 2 * value) {
         *size = value;
         printf("| %s | %u ", name, size == &s->h ? 1u << value : value);
-        for (enum operation operation = 0; operation < OPERATIONS; operation++) {
+        for (enum operation operation = 0; operation < MAIN_OPERATIONS; operation++) {
             struct instance *a = prepared(*s, operation);
             struct timing found[LIBRARIES];
             measure(a, operation, LIBRARIES, found);
@@ -300,13 +319,13 @@ static void show_growth(void)
            s.h, s.mu, s.nu, s.w, s.l, s.eta, s.m,
            LIBRARIES > 1 ? ", the older library's, and the ratio to it" : "");
     printf("| doubled | to ");
-    for (enum operation operation = 0; operation < OPERATIONS; operation++) {
+    for (enum operation operation = 0; operation < MAIN_OPERATIONS; operation++) {
         printf("| %s | factor ", operation_names[operation]);
         for (size_t i = 1; i < LIBRARIES; i++)
             printf("| %s | to %s ", shown_names[i], shown_names[i]);
     }
     printf("|\n|---|---|");
-    for (size_t i = 0; i < 2 * LIBRARIES * OPERATIONS; i++)
+    for (size_t i = 0; i < 2 * LIBRARIES * MAIN_OPERATIONS; i++)
         printf("---|");
     puts("");
     show_growth_of("N", &s, &s.h, 7, 12);
@@ -367,20 +386,20 @@ static void show_stack(void)
          "call.\n");
     printf("| h | mu | nu | w | l | eta | m ");
     for (size_t i = 0; i < IMPLEMENTATIONS; i++)
-        for (enum operation operation = 0; operation < OPERATIONS; operation++)
+        for (enum operation operation = 0; operation < MAIN_OPERATIONS; operation++)
             printf("| %s, %s ", operation_names[operation], shown_names[i]);
     for (size_t i = 1; i < LIBRARIES; i++)
-        for (enum operation operation = 0; operation < OPERATIONS; operation++)
+        for (enum operation operation = 0; operation < MAIN_OPERATIONS; operation++)
             printf("| %s, to %s ", operation_names[operation], shown_names[i]);
     printf("|\n|---|---|---|---|---|---|---|");
-    for (size_t i = 0; i < OPERATIONS * (IMPLEMENTATIONS + LIBRARIES - 1); i++)
+    for (size_t i = 0; i < MAIN_OPERATIONS * (IMPLEMENTATIONS + LIBRARIES - 1); i++)
         printf("---|");
     puts("");
     for (size_t n = 0; n < SIZES; n++) {
-        double bytes[IMPLEMENTATIONS][OPERATIONS];
+        double bytes[IMPLEMENTATIONS][MAIN_OPERATIONS];
         print_sizes(&nine_sizes[n]);
         for (size_t i = 0; i < IMPLEMENTATIONS; i++)
-            for (enum operation operation = 0; operation < OPERATIONS; operation++) {
+            for (enum operation operation = 0; operation < MAIN_OPERATIONS; operation++) {
                 struct instance *a = prepared(nine_sizes[n], operation);
                 struct stack_call c = {&implementations[i], operation, a, 0};
                 size_t used = touched(&c);
@@ -392,7 +411,7 @@ static void show_stack(void)
                 free_instance(a);
             }
         for (size_t i = 1; i < LIBRARIES; i++)
-            for (enum operation operation = 0; operation < OPERATIONS; operation++)
+            for (enum operation operation = 0; operation < MAIN_OPERATIONS; operation++)
                 printf("| %.2f ", bytes[0][operation] / bytes[i][operation]);
         puts("|");
         fflush(stdout);

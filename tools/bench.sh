@@ -37,9 +37,16 @@ fi
 # shellcheck disable=SC2086
 "$CC" $CFLAGS "$tools/bench.c" "$tools/instance.c" $objects "$archive" $with -lpthread -Wl,-z,now -o "$build/bench"
 
+# lacks OPERATION NAME: whether it is the older archive and has no reply_length yet
+lacks() {
+    [ "$2 $1" = "before length" ] && ! grep -q ' before_reply_length$' "$build/before.names"
+}
+
 # count OPERATION SIZE NAME: instructions inside that call
 count() {
-    valgrind --tool=callgrind --callgrind-out-file=/dev/null --toggle-collect="$3_$1" \
+    entry=$1
+    [ "$entry" != length ] || entry=reply_length
+    valgrind --tool=callgrind --callgrind-out-file=/dev/null --toggle-collect="$3_$entry" \
         "$build/bench" once "$1" "$2" "$3" 2>&1 | sed -n 's/.*Collected : \([0-9]*\).*/\1/p'
 }
 
@@ -54,10 +61,15 @@ instructions() {
     for name in $names; do [ "$name" = smallwood ] || printf -- '---|'; done
     echo
     for size in $("$build/bench" sizes); do
-        for operation in commit open check; do
+        for operation in commit open check length; do
             printf '| %s | %s | %s ' "$size" "$operation" "$("$build/bench" permutations "$operation" "$size")"
             ratios=
             for name in $names; do
+                if lacks "$operation" "$name"; then
+                    printf '| - '
+                    ratios="$ratios| - "
+                    continue
+                fi
                 found=$(count "$operation" "$size" "$name")
                 [ -n "$found" ] || fail "callgrind gave no count for ${name}_$operation"
                 printf '| %s ' "$found"
