@@ -1,7 +1,7 @@
 /*
- * The argument layer's side of a commitment, in C: it commits to two polynomials, asks for their values at two points, has the
- * question opened, checks the reply and reads the values; then it shows what a refusal does. It checks each result and exits
- * with 1 at the first that is not as it should be.
+ * The argument layer's side of a commitment, in C: it commits to two polynomials, asks for their values at two points, takes as
+ * many bytes as the reply will have, has the question opened, checks the reply and reads the values; then it shows what a refusal
+ * does. It checks each result and exits with 1 at the first that is not as it should be.
  *
  *     gcc -std=c11 -Wall -Wextra -Werror -Iinclude examples/argument_layer.c target/staticlib/libsmallwood.a
  */
@@ -25,7 +25,7 @@ enum {
     TABLE = N * (MU + ETA),
     TREE = 32 * (2 * N - 1),
     QUESTION = 14 + 32 + 4 * ETA + 4 * M + 2 * L,
-    REPLY_BOUND = 4 * WIDTH * (ETA + M) + L * (4 * (MU + ETA) + 32) + 32 * L * H,
+    REPLY_BOUND = 4 * WIDTH * (ETA + M) + L * (4 * (MU + ETA) + 32) + 32 * L * H, /* what no reply exceeds */
     VALUES = 4 * W * M
 };
 
@@ -100,7 +100,8 @@ static uint32_t evaluate(const uint32_t *coefficients, size_t count, uint32_t z)
 }
 
 static uint32_t coefficients[COEFFICIENTS], tails[TAILS], masks[MASKS], table[TABLE];
-static uint8_t nonces[NONCES], tree[TREE], question[QUESTION], reply[REPLY_BOUND], values[VALUES], untouched[VALUES];
+static uint8_t nonces[NONCES], tree[TREE], question[QUESTION], values[VALUES], untouched[VALUES];
+static uint8_t *reply, longer[REPLY_BOUND];
 
 static uint32_t open_into(uint8_t *buffer, size_t size, uint64_t *length)
 {
@@ -122,7 +123,7 @@ static bool values_untouched(void)
 int main(void)
 {
     const uint32_t challenges[ETA] = {10, 4294967290u}, points[M] = {6, 0}, indices[L] = {1, 6};
-    uint64_t length = 77;
+    uint64_t size = 0, length = 0;
 
     memset(untouched, 0xAA, VALUES);
     for (uint32_t i = 0; i < COEFFICIENTS; i++)
@@ -139,10 +140,12 @@ int main(void)
     /* The verifier asks. A real one draws challenges, points and indices after it has seen the root. */
     write_question(question, tree + TREE - 32, challenges, points, indices);
 
-    /* The prover opens. Its buffer has room for every missing node; the reply is shorter. */
-    expect(open_into(reply, REPLY_BOUND, &length) == 0, "opens");
-    expect(length <= REPLY_BOUND, "the reply fits its buffer");
-    printf("question of %d bytes, reply of %llu bytes\n", QUESTION, (unsigned long long)length);
+    /* The prover takes a buffer of the reply's length, and opens. */
+    expect(smallwood_reply_length(question, QUESTION, &size) == 0, "gives the reply's length");
+    printf("question of %d bytes, reply of %llu bytes\n", QUESTION, (unsigned long long)size);
+    reply = malloc((size_t)size);
+    expect(reply != NULL, "has memory for the reply");
+    expect(open_into(reply, (size_t)size, &length) == 0 && length == size, "opens, and the reply has that length");
 
     /* The verifier checks, and reads the values point by point. */
     expect(check_reply(length) == 0, "the reply is accepted");
@@ -177,10 +180,12 @@ int main(void)
     expect(check_reply(length - 1) == 7 && values_untouched(), "a reply that is cut is refused with 7");
     expect(smallwood_check(question, QUESTION, reply, (size_t)length, values, VALUES - 1) == 2, "a value buffer of wrong length is refused with 2");
     expect(smallwood_check(NULL, 0, NULL, 0, NULL, 0) == 6, "nothing at all is refused with 6");
-    uint64_t before = length;
-    expect(open_into(reply, REPLY_BOUND - 1, &length) == 2 && length == before, "a refusal to open leaves the length as it was");
+    expect(size < REPLY_BOUND, "this reply is shorter than the bound");
+    expect(open_into(longer, REPLY_BOUND, &length) == 2 && length == size, "a longer buffer is refused with 2, and the length is as it was");
+    expect(smallwood_reply_length(question, QUESTION - 1, &size) == 6 && size == length, "a cut question is refused with 6, and the length is as it was");
     expect(smallwood_commit(H, MU, NU, W, N, ETA, coefficients, COEFFICIENTS, tails, TAILS, masks, MASKS, nonces, NONCES,
                             table, TABLE, tree, TREE) == 1, "sizes that do not fit are refused with 1");
     expect(check_reply(length) == 0, "the honest reply is accepted again");
+    free(reply);
     return 0;
 }

@@ -1,14 +1,14 @@
 /*
  * SmallWood: a polynomial commitment over the field of q = 4294967291 elements.
  *
- * Three entries: commit, open, check. Each is proved to return the number and to leave the contents that the definitions give, for
- * every input that keeps the rules below. Link with libsmallwood.a; it needs no other library.
+ * Four entries: commit, reply_length, open, check. Each is proved to return the number and to leave the contents that the definitions
+ * give, for every input that keeps the rules below. Link with libsmallwood.a; it needs no other library.
  *
  * Rules for a caller
  *
  *   Slices      A pointer and a length in elements (not in bytes, where the elements are 32-bit words). A slice of length 0 may be NULL.
- *   Alignment   A pointer to 32-bit words is aligned for uint32_t, one to a 64-bit number for uint64_t.
- *   Overlap     A slice that a call writes overlaps no other slice of that call. Slices that a call only reads may overlap.
+ *   Alignment   A pointer to 32-bit words is aligned for uint32_t, one to a 64-bit number for uint64_t; the latter is never NULL.
+ *   Overlap     A slice or a number that a call writes overlaps no other of that call. Slices that a call only reads may overlap.
  *   Threads     No entry keeps anything between calls: no globals, no heap, no files. Any number of threads may call at once on slices
  *               of their own; slices that are only read may be shared. A call takes at most about 34 kilobytes of stack (measured).
  *   Numbers     Words are in the machine's order. Multi-byte numbers in questions, replies and the check's values are little-endian.
@@ -16,7 +16,7 @@
  * What a call returns
  *
  *   0 where none of the tests below holds, and then the slices are filled. Otherwise the number of the first test that holds, and then
- *   every slice, and the length that opening writes, is as it was: all tests come before the first write.
+ *   every slice, and *length, is as it was: all tests come before the first write.
  *
  *    1   a size is outside its range, or w nu + l > N
  *    2   a lent slice is of wrong length
@@ -88,15 +88,25 @@ uint32_t smallwood_commit(uint32_t h, uint32_t mu, uint32_t nu, uint32_t w, uint
                           uint8_t *tree, size_t tree_length);
 
 /*
+ * Gives the length of a question's reply, before it is made and from the question alone.
+ *
+ *   Fills
+ *     length         the reply's length in bytes
+ *
+ * Returns 0, or the first of: 6, for under 14 bytes; 5; 1; 6, for another length than the header's; 3; 4.
+ */
+uint32_t smallwood_reply_length(const uint8_t *question, size_t question_length, uint64_t *length);
+
+/*
  * Opens a commitment: writes the reply to a question, from what was lent to smallwood_commit and what it left in table and tree.
  * The table and the tree are taken as they are. The sizes are those of the question's header.
  *
  *   Fills
- *     reply          a buffer for a reply with l h nodes        4 width (eta + m) + l (4 (mu + eta) + 32) + 32 l h
- *     length         the reply's true length; the buffer's bytes after it stay as they were. A refusal leaves *length as it was.
+ *     reply          the reply                                  what smallwood_reply_length gives, and no other
+ *     length         the same number again
  *
- * Returns 0, or the first of: 6, 5, 1, 6, 3, 4 for the question (6 for under 14 bytes, then 6 for another length than the header's);
- * 2, for any of the seven other slices; 3, in any lent words, the table too; 8, where the tree's last 32 bytes are not the question's root.
+ * Returns 0, or the first of: 6, 5, 1, 6, 3, 4 for the question, as above; 2, for any of the seven other slices; 3, in any lent words,
+ * the table too; 8, where the tree's last 32 bytes are not the question's root.
  */
 uint32_t smallwood_open(const uint8_t *question, size_t question_length,
                         const uint32_t *coefficients, size_t coefficients_length,
