@@ -1,7 +1,7 @@
 -- Tests: each is a Bool, and the first of an entry's tests that holds gives its verdict.
 use mathlib.Core.Path.{_≡_, refl, sym, ap, ap₂, _∙_, subst}
-use mathlib.Core.Bool.{Bool, true, false, not, _&&_, false≢true}
-use mathlib.Core.Logic.{⊎-elim}
+use mathlib.Core.Bool.{Bool, true, false, _&&_, false≢true}
+use mathlib.Core.Logic.{⊎-elim, _≢_}
 use mathlib.Core.List.{List, [], _∷_, _++_}
 use Prim.Native.Nat.{ℕ, zero, suc, _+_, _≤_, _<_, suc-le-suc}
 use native.Mathlib.Nat.{not-suc-le-zero, le-of-suc-le-suc, zero-lt-suc, le-suc-iff, suc-inj}
@@ -36,6 +36,11 @@ all f (x ∷ xs) = f x && all f xs
 unfoldable pub each : ℕ → (ℕ → Bool) → Bool
 each zero f = true
 each (suc n) f = each n f && f n
+
+-- how many numbers below n the test holds of
+unfoldable pub tally : ℕ → (ℕ → Bool) → ℕ
+tally zero f = 0
+tally (suc n) f = pick (f n) (suc (tally n f)) (tally n f)
 
 -- n stands from low to high
 abbrev pub within : ℕ → ℕ → ℕ → Bool
@@ -105,6 +110,16 @@ verdict-within n (t ∷ ts) h = step (verdict-within n ts (h .1)) (t .1)
     step : verdictOf ts ≤ n → (b : Bool) → pick b (t .0) (verdictOf ts) ≤ n
     step g true = h .0
     step g false = g
+
+-- the number n is not given where no test with this number holds
+pub verdict-other : (n : ℕ) (ts : List Test) → n ≢ 0 → All (λ (t : Test). eqb (t .0) n && t .1 ≡ false) ts → verdictOf ts ≢ n
+unfolding verdictOf
+verdict-other n [] z h = λ e. z (sym e)
+verdict-other n (t ∷ ts) z h = step (verdict-other n ts z (h .1)) (t .1) (h .0)
+  where
+    step : verdictOf ts ≢ n → (b : Bool) → eqb (t .0) n && b ≡ false → pick b (t .0) (verdictOf ts) ≢ n
+    step g true k = λ e. false≢true (sym k ∙ ap (λ (x : Bool). x && true) (eq-eqb (t .0) n e))
+    step g false k = g
 
 -- ---- all of some tests
 
@@ -188,6 +203,43 @@ all-is-each {A} t d xs =
     iff (all t xs) (each (length xs) (λ k. t (getD xs k d)))
     (λ e. true-each (length xs) (λ k. t (getD xs k d)) (λ k l. all-at (λ (x : A). t x ≡ true) d xs (all-true t xs e) k l))
     (λ e. all-places t d xs (λ k l. each-true (length xs) (λ k. t (getD xs k d)) e k l))
+
+-- ---- how many numbers below n
+
+pub tally-none : (f : ℕ → Bool) → tally 0 f ≡ 0
+unfolding tally
+tally-none f = refl
+
+pub tally-next : (f : ℕ → Bool) (i : ℕ) → tally (i + 1) f ≡ pick (f i) (tally i f + 1) (tally i f)
+unfolding tally
+tally-next f i = ap (λ (n : ℕ). tally n f) (add-one i) ∙ ap (λ (n : ℕ). pick (f i) n (tally i f)) (sym (add-one (tally i f)))
+
+-- the first number apart
+pub tally-front : (n : ℕ) (f : ℕ → Bool) → tally (suc n) f ≡ pick (f 0) (suc (tally n (λ i. f (suc i)))) (tally n (λ i. f (suc i)))
+unfolding tally
+tally-front zero f = refl
+tally-front (suc n) f =
+    ap (λ (k : ℕ). pick (f (suc n)) (suc k) k) (tally-front n f) ∙ swapped (f 0) (f (suc n)) (tally n (λ i. f (suc i)))
+  where
+    swapped : (a b : Bool) (k : ℕ) → pick b (suc (pick a (suc k) k)) (pick a (suc k) k) ≡ pick a (suc (pick b (suc k) k)) (pick b (suc k) k)
+    swapped true true k = refl
+    swapped true false k = refl
+    swapped false true k = refl
+    swapped false false k = refl
+
+pub tally-ext : (n : ℕ) (f g : ℕ → Bool) → ((i : ℕ) → f i ≡ g i) → tally n f ≡ tally n g
+unfolding tally
+tally-ext zero f g h = refl
+tally-ext (suc n) f g h = ap₂ (λ (b : Bool) (k : ℕ). pick b (suc k) k) (h n) (tally-ext n f g h)
+
+pub tally-few : (n : ℕ) (f : ℕ → Bool) → tally n f ≤ n
+unfolding tally
+tally-few zero f = omega arith
+tally-few (suc n) f = step (tally-few n f) (f n)
+  where
+    step : tally n f ≤ n → (b : Bool) → pick b (suc (tally n f)) (tally n f) ≤ suc n
+    step h true = omega arith
+    step h false = omega arith
 
 -- ---- equal lists
 

@@ -1,7 +1,7 @@
 -- Sets of leaf indices: from the tests that a caller makes to what the functions on sets of nodes ask for.
 use mathlib.Core.Bool.{true}
 use mathlib.Core.List.{List}
-use mathlib.Core.Path.{_≡_, sym, ap, subst}
+use mathlib.Core.Path.{_≡_, refl, sym, ap, subst}
 use Prim.Native.Nat.{ℕ, zero, _*_, _/_, _^_, _≤_, _<_}
 use native.Mathlib.Nat.{mul-one, mul-le-mul}
 use native.Mathlib.Omega.{arith}
@@ -32,6 +32,17 @@ index-set h s d e f r b = record {
 pub missing-few : (h : ℕ) (s : List ℕ) → Rising s → length (missing 2 h s) ≤ length s * h
 missing-few h s r = omega (arith, missing-bound 1 h s r, ap (λ (k : ℕ). k * h) (mul-one (length s)))
 
+pub index-count : {h : ℕ} {s : List ℕ} → IndexSet h s → CanCount 2 1 h s
+index-count {h} {s} i = record {
+  arity = refl;
+  few = omega arith;
+  deep = omega (arith, i .depth);
+  some = i .some;
+  count = i .few;
+  rising = i .rising;
+  total = omega (arith, missing-few h s (i .rising), mul-le-mul (i .few) (i .depth));
+}
+
 module _ {h : ℕ} {s idx : List ℕ} (i : IndexSet h s) (long : length idx ≡ 64) (copied : take (length s) idx ≡ s) where
   index-nodes : NodeSet 2 idx (length s)
   index-nodes = record {
@@ -40,14 +51,6 @@ module _ {h : ℕ} {s idx : List ℕ} (i : IndexSet h s) (long : length idx ≡ 
     indices = omega (arith, i .few);
     rising = subst Rising (sym copied) (i .rising);
     small = subst (Below 2147483648) (sym copied) (all-imp (λ (k : ℕ) (l : k < 2 ^ h). omega (arith, pow-mono (i .depth))) s (i .leaves));
-  }
-
-  pub index-count : CanCount 2 h idx (length s)
-  index-count = record {
-    set = index-nodes;
-    total = subst (λ (x : List ℕ). length (missing 2 h x) < 4294967296) (sym copied)
-        (omega (arith, missing-few h s (i .rising), mul-le-mul (i .few) (i .depth)));
-    count = omega (arith, i .few);
   }
 
   pub index-list : {width : ℕ} {tree out : Bytes} → width ≡ 2 ^ h → length tree ≡ 32 * treeSize 2 h → 32 * length (missing 2 h s) ≤ length out

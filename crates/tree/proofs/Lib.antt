@@ -15,6 +15,7 @@ pub mod Digests
 pub mod Walk
 pub mod Turns
 pub mod Children
+pub mod Ancestors
 -- the functions, in the order of the code
 pub mod Copies
 pub mod Leaves

@@ -48,11 +48,15 @@ pub record CanFillLevels (b h n : ℕ) (tree buf : Bytes) (off : ℕ) : Type 0 w
 
 -- ---- counting the missing nodes
 
--- `count_nodes`: the numbers fit
-pub record CanCount (b h : ℕ) (idx : List ℕ) (n : ℕ) : Type 0 where
-  pub set : NodeSet b idx n
-  pub total : length (missing b h (take n idx)) < 4294967296
-  pub count : b * n < 4294967296
+-- `count_nodes`: some leaves of a tree whose nodes have 2 ^ bits children, and the numbers fit
+pub record CanCount (b bits h : ℕ) (s : List ℕ) : Type 0 where
+  pub arity : b ≡ 2 ^ bits
+  pub few : b ≤ 16
+  pub deep : bits * h < 64
+  pub some : zero < length s
+  pub count : length s ≤ 64
+  pub rising : Rising s
+  pub total : length (missing b h s) < 4294967296
 
 -- ---- listing the missing nodes
 

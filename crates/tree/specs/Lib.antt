@@ -1,6 +1,7 @@
 -- The definitions: strings, sets of nodes, the tree; then what the contracts of the functions cite.
 pub mod Leaf
 pub mod Sets
+pub mod Ancestors
 pub mod Tree
 pub mod Walk
 pub mod Clauses

@@ -11,6 +11,7 @@ ghost use lib.Seq.{paste};
 ghost use Rattle.sponge.specs.Digest.{digest};
 ghost use Rattle.tree.specs.Leaf.{leafString};
 ghost use Rattle.tree.specs.Sets.{parents, missing, treeSize};
+ghost use Rattle.tree.specs.Ancestors.{changes};
 ghost use Rattle.tree.specs.Tree.{parts, allParts, rootFrom, opened, tree as treeOf};
 ghost use Rattle.tree.specs.Walk.{heads, used};
 ghost use Rattle.tree.specs.Clauses.{IndexSet, CanGather, Gathered, CanHashParents, ParentsHashed, CanRoot, CanHashLevel, withLevel, CanFillLevels, CanList, Listed, CanListLevel, LevelListed, CanListNodes, NodesListed, NodeSet, CanCount};
@@ -211,16 +212,33 @@ fn to_parents(b: usize, idx: &mut [usize], n: usize) -> usize
 
 // ---- Counting the missing nodes
 
-// On each level, b for each parent less those of the set.
-fn count_nodes(b: usize, h: usize, idx: &mut [usize], n: usize) -> usize
-    requires { ⌜ CanCount b h (now idx) n ⌝ }
-    ensures { λ r. ⌜ r ≡ length (missing b h (take n (now (idx .entry)))) ⌝ }
+// How many of the indices differ from the next one without their last `shift` bits.
+fn count_changes(shift: usize, indices: &[usize]) -> usize
+    requires { ⌜ (shift < 64) × (0 < length (now indices)) ⌝ }
+    ensures { λ r. ⌜ r ≡ changes (2 ^ shift) (now (indices .entry)) ⌝ }
 {
-    let mut n = n;
+    let last = indices.len() - 1;
+    let mut n = 0;
+    for a in 0..last {
+        if indices[a] >> shift != indices[a + 1] >> shift {
+            n += 1;
+        }
+    }
+    n
+}
+
+// On each level b for each parent, of which there is one more than changes, less those of the set. A node has b = 2^bits children.
+fn count_nodes(b: usize, bits: usize, h: usize, indices: &[usize]) -> usize
+    requires { ⌜ CanCount b bits h (now indices) ⌝ }
+    ensures { λ r. ⌜ r ≡ length (missing b h (now (indices .entry))) ⌝ }
+{
+    let mut n = indices.len();
     let mut t = 0;
+    let mut shift = 0;
     let mut left = h;
     while 0 < left {
-        let w = to_parents(b, idx, n);
+        shift += bits;
+        let w = count_changes(shift, indices) + 1;
         t += b * w - n;
         n = w;
         left -= 1;
@@ -233,9 +251,7 @@ pub fn count_missing(h: usize, indices: &[usize]) -> usize
     requires { ⌜ IndexSet h (now indices) ⌝ }
     ensures { λ r. ⌜ r ≡ length (missing 2 h (now (indices .entry))) ⌝ }
 {
-    let mut idx = [0usize; 64];
-    copy_indices(&mut idx, indices);
-    count_nodes(2, h, &mut idx, indices.len())
+    count_nodes(2, 1, h, indices)
 }
 
 // ---- Listing the missing nodes
