@@ -6,13 +6,13 @@ use Prim.Native.Nat.{ℕ, _+_, _-_, _*_, _/_, _<_}
 use native.Mathlib.Nat.{zero-add, pow-suc}
 use native.Mathlib.Omega.{arith}
 use lib.ListN.{length, getD, take, drop, length-map, length-append, length-drop}
-use lib.Seq.{length-take-le, take-at, getD-append-add, take-all}
+use lib.Seq.{take-at, getD-append-add, take-all}
 use borrow.Author.Tests.{eq-eqb}
 use Rattle.sponge.specs.Digest.{digest}
 use Rattle.sponge.specs.Digest.{digest-length}
 use Rattle.lists.specs.Range.{upFrom, at-run, length-upFrom}
 use Rattle.tree.specs.Sets.{treeSize, start}
-use Rattle.lists.specs.Bytes.{Bytes, words, bytesOf, length-bytesOf}
+use Rattle.lists.specs.Bytes.{Bytes, words, bytesOf}
 use Rattle.tree.specs.Tree.{at, tree, root, allParts}
 use Rattle.lists.specs.All.{Sized, All, all-flatten, all-each}
 use Rattle.tree.proofs.Rows.{tree-size, tree-length, tree-sized, tree-root, root-place}
@@ -25,7 +25,7 @@ use Rattle.scheme.specs.Sizes.{elements}
 use Rattle.scheme.specs.Sizes.{Sizes, arity, levels, nodePrefix, leaves, rows, recordValues}
 use Rattle.scheme.specs.Layers.{Lent, rowPolynomials, maskPolynomial}
 use Rattle.tree.specs.Leaf.{leafString}
-use Rattle.scheme.specs.Reply.{recordWords, rowValues, maskValue, recordLength}
+use Rattle.scheme.specs.Reply.{recordWords, rowValues, maskValue}
 use Rattle.scheme.specs.Commit.{lentOk, filledOk, commitTests, leafValues, tableOf, leafRecord, leafDigests, treeOf, lastDigest, commitVerdict, committing}
 use Rattle.scheme.specs.Honest.{Right}
 use Rattle.scheme.proofs.Bound.{some-children, leaves-are}
@@ -105,13 +105,6 @@ module _ (s : Sizes) (l : Lent) (r : Rights s l) where
   record-words i m =
       ap (λ (x : List ℕ). words (recordValues s) (bytesOf x ++ piece 32 i (l .nonces))) (table-at i m)
       ∙ words-one (recordValues s) (leafValues s l i) (piece 32 i (l .nonces)) (leafValues-length i) (small (leafValues s l i) (leafValues-below i))
-
-  pub record-length : (i : ℕ) → i < leaves s → length (rec i) ≡ recordLength s
-  unfolding leafRecord
-  record-length i m =
-      length-append (bytesOf (piece (recordValues s) i table)) (piece 32 i (l .nonces))
-      ∙ ap₂ _+_ (length-bytesOf (piece (recordValues s) i table) ∙ ap (λ (n : ℕ). 4 * n) (ap length (table-at i m) ∙ leafValues-length i))
-      (length-take-le 32 (drop (32 * i) (l .nonces)) (omega (arith, length-drop (32 * i) (l .nonces), r .n-length)))
 
   pub record-below : (i : ℕ) → i < leaves s → Elements (recordWords s (rec i))
   record-below i m = subst Elements (sym (record-words i m)) (leafValues-below i)

@@ -1,31 +1,28 @@
 -- Completeness: to each well-formed question that names a commitment's root and sizes the opener makes a reply, and it is accepted with the true values.
 use mathlib.Core.Path.{_≡_, refl, sym, ap, ap₂, _∙_, subst}
 use mathlib.Core.Bool.{true, false, not}
-use mathlib.Core.List.{List, [], _∷_, _++_, map, flatten, append-nil, map-map, List·Memᴰ as Mem, List·Memᴰ·head as here, List·Memᴰ·tail as there}
-use Prim.Native.Nat.{ℕ, zero, suc, _+_, _-_, _*_, _^_, _<_}
-use native.Mathlib.Nat.{zero-add, le-of-eq}
+use mathlib.Core.List.{List, [], _∷_, _++_, map, flatten, append-nil, map-map, List·Memᴰ as Mem}
+use Prim.Native.Nat.{ℕ, zero, suc, _+_, _*_, _<_}
+use native.Mathlib.Nat.{zero-add}
 use native.Mathlib.Omega.{arith}
 use lib.Dec.{eqb}
-use lib.ListN.{length, getD, length-map}
+use lib.ListN.{length, getD}
 use borrow.Author.Tests.{eq-eqb}
 use Rattle.sponge.specs.Digest.{digest}
-use Rattle.lists.specs.Range.{upFrom, at-run, length-upFrom, upFrom-of}
-use Rattle.tree.specs.Sets.{missing}
-use Rattle.lists.specs.Bytes.{Bytes, bytesOf, Small}
-use Rattle.tree.specs.Tree.{at, allParts, opened, rootFrom}
+use Rattle.lists.specs.Range.{upFrom, at-run, upFrom-of}
+use Rattle.lists.specs.Bytes.{Bytes, bytesOf}
+use Rattle.tree.specs.Tree.{at, opened, rootFrom}
 use Rattle.lists.specs.Maps.{getD-in, map-cong, getD-map-in}
-use Rattle.lists.specs.All.{Sized, Below, below-mem, All, all-imp, all-append, all-each}
-use Rattle.tree.proofs.Counts.{missing-bound}
+use Rattle.lists.specs.All.{below-mem, All, all-imp, all-append}
 use Rattle.tree.proofs.Complete.{complete}
-use Rattle.tree.proofs.RoundTrip.{opened-sized}
-use Rattle.algebra.specs.Numbers.{evalN, interpN, valuesAtN, Elements}
+use Rattle.algebra.specs.Numbers.{evalN, interpN, valuesAtN}
 use Rattle.lists.specs.Pieces.{pieces}
 use Rattle.lists.specs.Tests.{Test, all, each, same, passed, pass, every-true, true-every, true-all, true-each, same-refl}
 use Rattle.scheme.specs.Sizes.{elements}
-use Rattle.scheme.specs.Sizes.{Sizes, arity, levels, nodePrefix, leaves, rows, width, points}
+use Rattle.scheme.specs.Sizes.{Sizes, arity, levels, nodePrefix, leaves, points}
 use Rattle.scheme.specs.Layers.{Lent, rowPolynomials, polynomialValues, evaluationAnswer, batchingAnswer}
 use Rattle.scheme.specs.Question.{Question, readQuestion, questionTests, questionVerdict}
-use Rattle.scheme.specs.Reply.{Reply, readReply, replyLength, replyBound, recordWords, rowValues, maskValue, recordLength, missingNodes}
+use Rattle.scheme.specs.Reply.{Reply, readReply, replyLength, recordWords, rowValues, maskValue}
 use Rattle.tree.specs.Leaf.{leafString}
 use Rattle.scheme.specs.Commit.{lentOk, filledOk, lentElements, tableOf, treeOf, leafRecord, lastDigest}
 use Rattle.scheme.specs.Open.{openedBatching, openedAnswers, openedRecords, openedNodes, replyOf, openTests, openVerdict, opening}
@@ -33,10 +30,12 @@ use Rattle.scheme.specs.Check.{leafAt, recordAt, challengeOf, batchingOf
 use Rattle.scheme.specs.Honest.{trueValues, Right, Replied, Completeness}
 use Rattle.scheme.proofs.Accepted.{Asked, well-formed, question-numbers}
 use Rattle.scheme.proofs.Bound.{some-children, leaves-are, indices-length, points-length}
-use Rattle.scheme.proofs.Row.{combination-length, combination-below, evaluation-honest, batching-honest, values-honest}
-use Rattle.scheme.proofs.Whole.{whole-length, back-batching, back-answers, back-records, back-nodes}
-use Rattle.scheme.proofs.Lent.{small, below-elements, Rights, rights}
-use Rattle.scheme.proofs.Committed.{committing-is, rec, record-length, record-below, record-rows, record-mask, level, level-length, level-at, digests, digests-sized, digests-length, tree-parts, last-is, filled, table-below}
+use Rattle.scheme.proofs.Row.{evaluation-honest, batching-honest, values-honest}
+use Rattle.scheme.proofs.Whole.{FourParts, whole-length, back-batching, back-answers, back-records, back-nodes}
+use Rattle.scheme.proofs.Lent.{below-elements, Rights, rights}
+use Rattle.scheme.proofs.Parts.{all-in, in-tree, batching-below, answers-below, four-parts}
+use Rattle.scheme.proofs.Opening.{sizing-is}
+use Rattle.scheme.proofs.Committed.{committing-is, rec, record-below, record-rows, record-mask, level, level-length, level-at, digests, tree-parts, last-is, filled, table-below}
 
 -- ---- lists
 
@@ -53,16 +52,8 @@ all-places f (y ∷ ys) = ap (λ (t : List _). f y ∷ t) (shift f y ys 0 (lengt
 map-places : {A : Type 0} (f : ℕ → A) (xs : List ℕ) (n : ℕ) → length xs ≡ n → map (λ a. f (getD xs a 0)) (upFrom 0 n) ≡ map f xs
 map-places f xs n e = ap (λ (k : ℕ). map (λ a. f (getD xs a 0)) (upFrom 0 k)) (sym e) ∙ all-places f xs
 
-all-in : {A : Type 0} (P : A → Type 0) (f : ℕ → A) (xs : List ℕ) → ((x : ℕ) → Mem x xs → P (f x)) → All P (map f xs)
-all-in P f [] h = tt
-all-in P f (x ∷ xs) h = (h x (here refl), all-in P f xs (λ y m. h y (there m)))
-
 in-run : (n p : ℕ) → Mem p (upFrom 0 n) → p < n
 in-run n p m = subst (λ (k : ℕ). p < k) (zero-add n) (upFrom-of 0 n p m .1)
-
-opened-length : (b h : ℕ) (t : List Bytes) (s : List ℕ) → length (opened b h t s) ≡ length (missing b h s)
-unfolding opened
-opened-length b h t s = length-map (missing b h s) _
 
 module _ (question : Bytes) (l : Lent) (wf : questionVerdict question ≡ 0) (right : Right (readQuestion question .sizes) l)
     (named : readQuestion question .root ≡ lastDigest (treeOf (readQuestion question .sizes) l)) where
@@ -87,9 +78,6 @@ module _ (question : Bytes) (l : Lent) (wf : questionVerdict question ≡ 0) (ri
   pub leaf-in : (b : ℕ) → b < s .ℓ → leafAt u b < leaves s
   leaf-in b m = below-mem (leaves s) (u .indices) (a .indices-below) (leafAt u b) (getD-in (u .indices) b (subst (λ (n : ℕ). b < n) (sym ci) m))
 
-  in-tree : Below (arity s ^ levels s) (u .indices)
-  in-tree = subst (λ (n : ℕ). Below n (u .indices)) (sym (leaves-are s)) (a .indices-below)
-
   -- ---- the four parts of the reply
   abbrev pub bs : List (List ℕ)
   bs = openedBatching u l
@@ -109,65 +97,30 @@ module _ (question : Bytes) (l : Lent) (wf : questionVerdict question ≡ 0) (ri
   abbrev pub R : Reply
   R = readReply u reply
 
-  cb : length bs ≡ s .η
-  cb = length-map (upFrom 0 (s .η)) _ ∙ length-upFrom 0 (s .η)
+  parts : FourParts u bs ans xs ns
+  parts = four-parts question l (tableOf s l) (treeOf s l) a (right .lengths) (filled s l r)
 
-  ca : length ans ≡ u .m
-  ca = length-map (u .evaluationPoints) _ ∙ points-length question
-
-  cx : length xs ≡ s .ℓ
-  cx = length-map (u .indices) _ ∙ ci
+  reply-length : length reply ≡ replyLength u
+  reply-length = whole-length u bs ans xs ns parts
 
   ns-are : ns ≡ opened (arity s) (levels s) (digests s l r) (u .indices)
   ns-are = ap (λ (t : List Bytes). opened (arity s) (levels s) t (u .indices)) (tree-parts s l r)
 
-  cn : length ns ≡ length (missingNodes u)
-  cn = opened-length (arity s) (levels s) (allParts (treeOf s l)) (u .indices)
-
-  lb : Sized (width s) bs
-  lb = all-each (λ (x : List ℕ). length x ≡ width s) _ (upFrom 0 (s .η)) (λ k. combination-length (width s) _ _)
-
-  la : Sized (width s) ans
-  la = all-each (λ (x : List ℕ). length x ≡ width s) _ (u .evaluationPoints) (λ z. combination-length (width s) z _)
-
-  lx : Sized (recordLength s) xs
-  lx = all-in (λ (x : Bytes). length x ≡ recordLength s) _ (u .indices) (λ i m. record-length s l r i (below-mem (leaves s) (u .indices) (a .indices-below) i m))
-
-  ln : Sized 32 ns
-  ln =
-      subst (λ (x : List Bytes). Sized 32 x) (sym ns-are)
-      (opened-sized (arity s) (levels s) (digests s l r) (u .indices) (some-children s) (digests-sized s l r) (le-of-eq (sym (digests-length s l r))) in-tree)
-
-  bb : All Elements bs
-  bb = all-each Elements _ (upFrom 0 (s .η)) (λ k. combination-below (width s) _ _)
-
-  ba : All Elements ans
-  ba = all-each Elements _ (u .evaluationPoints) (λ z. combination-below (width s) z _)
-
-  sb : All Small bs
-  sb = all-imp small bs bb
-
-  sa : All Small ans
-  sa = all-imp small ans ba
-
-  reply-length : length reply ≡ replyLength u
-  reply-length = whole-length u bs ans xs ns cb ca cx cn lb la lx ln sb sa
-
   -- ---- what stands in it
   pub batching-is : (k : ℕ) → k < s .η → batchingOf R k ≡ batchingAnswer s l k (challengeOf u k)
   batching-is k m =
-      ap (λ (x : List (List ℕ)). getD x k []) (back-batching u bs ans xs ns cb ca cx cn lb la lx ln sb sa)
+      ap (λ (x : List (List ℕ)). getD x k []) (back-batching u bs ans xs ns parts)
       ∙ at-run (λ k. batchingAnswer s l k (challengeOf u k)) 0 (s .η) k [] m
       ∙ ap (λ (k : ℕ). batchingAnswer s l k (challengeOf u k)) (zero-add k)
 
   answer-is : (p : ℕ) → p < u .m → answerOf R p ≡ evaluationAnswer s l (pointOf u p)
   answer-is p m =
-      ap (λ (x : List (List ℕ)). getD x p []) (back-answers u bs ans xs ns cb ca cx cn lb la lx ln sb sa)
+      ap (λ (x : List (List ℕ)). getD x p []) (back-answers u bs ans xs ns parts)
       ∙ getD-map-in (evaluationAnswer s l) (u .evaluationPoints) p 0 [] (subst (λ (n : ℕ). p < n) (sym (points-length question)) m)
 
   pub record-is : (b : ℕ) → b < s .ℓ → recordAt R b ≡ rec s l r (leafAt u b)
   record-is b m =
-      ap (λ (x : List Bytes). getD x b []) (back-records u bs ans xs ns cb ca cx cn lb la lx ln sb sa)
+      ap (λ (x : List Bytes). getD x b []) (back-records u bs ans xs ns parts)
       ∙ getD-map-in (leafRecord s (tableOf s l) (l .nonces)) (u .indices) b 0 [] (subst (λ (n : ℕ). b < n) (sym ci) m)
 
   -- ---- its tests
@@ -175,11 +128,11 @@ module _ (question : Bytes) (l : Lent) (wf : questionVerdict question ≡ 0) (ri
   unfolding replyElements
   elements-ok =
       true-every _ (
-        ap (all elements) (back-batching u bs ans xs ns cb ca cx cn lb la lx ln sb sa) ∙ true-all elements bs (all-imp below-elements bs bb),
+        ap (all elements) (back-batching u bs ans xs ns parts) ∙ true-all elements bs (all-imp below-elements bs (batching-below question l (tableOf s l) (treeOf s l) a (right .lengths) (filled s l r))),
         (
-          ap (all elements) (back-answers u bs ans xs ns cb ca cx cn lb la lx ln sb sa) ∙ true-all elements ans (all-imp below-elements ans ba),
+          ap (all elements) (back-answers u bs ans xs ns parts) ∙ true-all elements ans (all-imp below-elements ans (answers-below question l (tableOf s l) (treeOf s l) a (right .lengths) (filled s l r))),
           (
-            ap (all (λ x. elements (recordWords s x))) (back-records u bs ans xs ns cb ca cx cn lb la lx ln sb sa)
+            ap (all (λ x. elements (recordWords s x))) (back-records u bs ans xs ns parts)
                 ∙ true-all (λ x. elements (recordWords s x)) xs
                 (all-in (λ (x : Bytes). elements (recordWords s x) ≡ true) _ (u .indices) (λ i m. below-elements (recordWords s (rec s l r i)) (record-below s l r i (below-mem (leaves s) (u .indices) (a .indices-below) i m)))),
             tt,
@@ -203,8 +156,8 @@ module _ (question : Bytes) (l : Lent) (wf : questionVerdict question ≡ 0) (ri
   unfolding replyRoot
   root-ok =
       ap₂ (λ (ds : List Bytes) (x : List Bytes). rootFrom digest (arity s) (nodePrefix s) (levels s) (u .indices) ds x) digests-are
-      (back-nodes u bs ans xs ns cb ca cx cn lb la lx ln sb sa ∙ ns-are ∙ sym (append-nil (opened (arity s) (levels s) (digests s l r) (u .indices))))
-      ∙ complete digest (arity s) (nodePrefix s) (some-children s) (levels s) (level s l r) (u .indices) [] (level-length s l r ∙ sym (leaves-are s)) in-tree (leafAt u 0)
+      (back-nodes u bs ans xs ns parts ∙ ns-are ∙ sym (append-nil (opened (arity s) (levels s) (digests s l r) (u .indices))))
+      ∙ complete digest (arity s) (nodePrefix s) (some-children s) (levels s) (level s l r) (u .indices) [] (level-length s l r ∙ sym (leaves-are s)) (in-tree question l (tableOf s l) (treeOf s l) a (right .lengths) (filled s l r)) (leafAt u 0)
       (getD-in (u .indices) 0 (subst (λ (n : ℕ). 0 < n) (sym ci) (a .sizes-good .ℓ-low)))
       ∙ sym (last-is s l r)
       ∙ sym named
@@ -268,12 +221,12 @@ module _ (question : Bytes) (l : Lent) (wf : questionVerdict question ≡ 0) (ri
   unfolding checkingC
   checksC values e = rw (check-passes 4 (length values) e, values-are)
 
-  open-passes : (buffer : Bytes) → length buffer ≡ replyBound s (u .m) → openVerdict question l (tableOf s l) (treeOf s l) buffer ≡ 0
+  open-passes : (buffer : Bytes) → length buffer ≡ replyLength u → openVerdict question l (tableOf s l) (treeOf s l) buffer ≡ 0
   unfolding openVerdict openTests
   open-passes buffer e =
       pass _
       (all-append (λ (t : Test). t .1 ≡ false) (questionTests question) _ question-passed (
-        ap not (true-every (lentOk s l ∷ filledOk s (tableOf s l) (treeOf s l) ∷ eqb (length buffer) (replyBound s (u .m)) ∷ []) (right .lengths, (filled s l r, (eq-eqb _ _ e, tt)))),
+        ap not (true-every (lentOk s l ∷ filledOk s (tableOf s l) (treeOf s l) ∷ eqb (length buffer) (replyLength u) ∷ []) (right .lengths, (filled s l r, (eq-eqb _ _ e, tt)))),
         (
           ap not (true-every (elements (tableOf s l) ∷ lentElements l) (below-elements (tableOf s l) (table-below s l r), every-true (lentElements l) (right .elements))),
           (ap not (ap (same (lastDigest (treeOf s l))) named ∙ same-refl (lastDigest (treeOf s l))), tt),
@@ -288,12 +241,11 @@ module _ (question : Bytes) (l : Lent) (wf : questionVerdict question ≡ 0) (ri
   pub rows-are : (b : ℕ) → b < s .ℓ → rowValues s (recordAt R b) ≡ valuesAtN P (leafAt u b)
   rows-are b m = ap (rowValues s) (record-is b m) ∙ record-rows s l r (leafAt u b) (leaf-in b m)
 
-  replied : (buffer : Bytes) → length buffer ≡ replyBound s (u .m) → Replied s l question buffer
+  replied : (buffer : Bytes) → length buffer ≡ replyLength u → Replied s l question buffer
   unfolding opening replyOf
   replied buffer e = record {
     reply = reply;
-    length-right = reply-length;
-    length-fits = omega (arith, reply-length, e, missing-bound 1 (s .h) (u .indices) (a .indices-rising), ap (λ (n : ℕ). n * 1 * s .h) ci);
+    sized = sizing-is question wf ∙ ap (λ (n : ℕ). (0, n)) (sym reply-length);
     opened = rw (open-passes buffer e, ← reply-length);
     checked = checks;
     checkedC = checksC;
@@ -303,6 +255,6 @@ pub completeness : (s : Sizes) (l : Lent) → Completeness s l
 completeness s l right = (
   committing-is s l right,
   λ question buffer names e.
-      subst (λ (t : Sizes). Right t l → readQuestion question .root ≡ lastDigest (treeOf t l) → length buffer ≡ replyBound t (readQuestion question .m) → Replied t l question buffer)
-      (names .sizes) (λ rt nm le. replied question l (names .well-formed) rt nm buffer le) right (names .root) e,
+      subst (λ (t : Sizes). Right t l → readQuestion question .root ≡ lastDigest (treeOf t l) → Replied t l question buffer)
+      (names .sizes) (λ rt nm. replied question l (names .well-formed) rt nm buffer e) right (names .root),
 )

@@ -6,6 +6,9 @@ pub mod Replies
 pub mod Lent
 pub mod Row
 pub mod Whole
+pub mod Parts
+pub mod Opening
+pub mod Lengths
 pub mod Committed
 pub mod Complete
 pub mod Cases

@@ -1,9 +1,9 @@
 -- Reading aids: short laws that say of a definition what the paper says of its word.
 use mathlib.Core.Path.{_≡_, sym, ap}
-use mathlib.Core.Logic.{_⊎_, ⊎-elim, _≢_}
+use mathlib.Core.Logic.{⊎-elim, _≢_}
 use mathlib.Core.Bool.{Bool, true, false}
 use mathlib.Core.List.{List, map, List·Memᴰ as Mem}
-use Prim.Native.Nat.{ℕ, _-_, _≤_, _<_}
+use Prim.Native.Nat.{ℕ, _≤_, _<_}
 use native.Mathlib.Omega.{arith}
 use lib.Dec.{eqb}
 use lib.ListN.{length}
@@ -19,8 +19,9 @@ use Rattle.tree.proofs.Missing.{Above, Missing, sibling, missing-of, missing-in
 use Rattle.scheme.specs.Sizes.{Sizes}
 use Rattle.scheme.specs.Layers.{Lent}
 use Rattle.scheme.specs.Question.{questionTests, questionVerdict}
+use Rattle.scheme.specs.Sizing.{sizingC}
 use Rattle.scheme.specs.Commit.{commitTests, commitVerdict, committing}
-use Rattle.scheme.specs.Open.{openTests, openVerdict, opening}
+use Rattle.scheme.specs.Open.{openTests, openVerdict, opening, openingC}
 use Rattle.scheme.specs.Check.{replyTests, checkVerdict, checking, checkingC}
 
 -- ---- `interpN xs ys` is the one polynomial of degree below the number of points that takes the values ys at the points xs
@@ -40,9 +41,9 @@ missing-means h s k p m = let o : Missing 2 h s (k, p) = missing-of 2 h s (k, p)
 pub means-missing : (h : ℕ) (s : List ℕ) (k p : ℕ) → k < h → (Above 2 s (k, p) → ⊥) → Above 2 s (k, sibling p) → Mem (k, p) (missing 2 h s)
 means-missing h s k p l n a = missing-in 2 h s k p (omega arith) (sibling-missing h s k p l n a)
 
--- ---- a refusal leaves every lent slice as it was
+-- ---- a refusal leaves every lent slice, and every lent length, as it was
 
-kept : (v : ℕ) (filled before : List ℕ) → v ≢ 0 → pick (eqb v 0) filled before ≡ before
+kept : {A : Type 0} (v : ℕ) (filled before : A) → v ≢ 0 → pick (eqb v 0) filled before ≡ before
 kept v filled before n = ⊎-elim (λ (h : eqb v 0 ≡ true). absurd (n (eqb-true v 0 h))) (λ (h : eqb v 0 ≡ false). ap (λ (t : Bool). pick t filled before) h) (tested (eqb v 0))
 
 pub commit-refused : (s : Sizes) (l : Lent) (table : List ℕ) (nodes : Bytes) → committing s l table nodes .0 ≢ 0
@@ -54,6 +55,15 @@ pub open-refused : (question : Bytes) (l : Lent) (table : List ℕ) (nodes buffe
     → opening question l table nodes buffer .2 ≡ buffer
 unfolding opening
 open-refused question l table nodes buffer n = kept _ _ buffer n
+
+pub size-refused-C : (question : Bytes) (before : ℕ) → sizingC question before .0 ≢ 0 → sizingC question before .1 ≡ before
+unfolding sizingC
+size-refused-C question before n = kept _ _ before n
+
+pub open-refused-C : (question : Bytes) (l : Lent) (table : List ℕ) (nodes buffer : Bytes) (before : ℕ) → openingC question l table nodes buffer before .0 ≢ 0
+    → (openingC question l table nodes buffer before .1 ≡ before) × (openingC question l table nodes buffer before .2 ≡ buffer)
+unfolding openingC
+open-refused-C question l table nodes buffer before n = (kept _ _ before n, open-refused question l table nodes buffer n)
 
 pub check-refused : (question reply : Bytes) (values : List ℕ) → checking question reply values .0 ≢ 0 → checking question reply values .1 ≡ values
 unfolding checking

@@ -1,7 +1,7 @@
 -- A reply that is put together is read back.
 use mathlib.Core.Path.{_≡_, refl, sym, ap, ap₂, _∙_}
 use mathlib.Core.List.{List, [], _∷_, _++_, map, flatten, append-assoc, append-nil}
-use Prim.Native.Nat.{ℕ, _+_, _-_, _*_, _<_}
+use Prim.Native.Nat.{ℕ, _+_, _*_, _<_}
 use native.Mathlib.Omega.{arith}
 use lib.ListN.{length, getD, take, drop, length-append}
 use lib.Seq.{take-at, drop-at, drop-drop}
@@ -38,11 +38,20 @@ piece-flatten k xs i h l =
     ∙ ap (λ (x : List _). getD (pieces k (length xs) x) i []) (sym (append-nil (flatten xs)))
     ∙ ap (λ (x : List (List _)). getD x i []) (pieces-flatten k xs [] h)
 
--- the four parts of a reply
-module _ (u : Question) (bs as′ : List (List ℕ)) (xs ns : List Bytes)
-    (cb : length bs ≡ u .sizes .η) (ca : length as′ ≡ u .m) (cx : length xs ≡ u .sizes .ℓ) (cn : length ns ≡ length (missingNodes u))
-    (lb : Sized (width (u .sizes)) bs) (la : Sized (width (u .sizes)) as′) (lx : Sized (recordLength (u .sizes)) xs) (ln : Sized 32 ns)
-    (sb : All Small bs) (sa : All Small as′) where
+-- the four parts of a reply: as many as the question asks, each of its length, words of four bytes
+pub record FourParts (u : Question) (bs as′ : List (List ℕ)) (xs ns : List Bytes) : Type 0 where
+  pub batching-count : length bs ≡ u .sizes .η
+  pub answers-count : length as′ ≡ u .m
+  pub records-count : length xs ≡ u .sizes .ℓ
+  pub nodes-count : length ns ≡ length (missingNodes u)
+  pub batching-sized : Sized (width (u .sizes)) bs
+  pub answers-sized : Sized (width (u .sizes)) as′
+  pub records-sized : Sized (recordLength (u .sizes)) xs
+  pub nodes-sized : Sized 32 ns
+  pub batching-small : All Small bs
+  pub answers-small : All Small as′
+
+module _ (u : Question) (bs as′ : List (List ℕ)) (xs ns : List Bytes) (p : FourParts u bs as′ xs ns) where
   abbrev B : Bytes
   B = bytesOf (flatten bs)
 
@@ -59,16 +68,16 @@ module _ (u : Question) (bs as′ : List (List ℕ)) (xs ns : List Bytes)
   r = B ++ (A ++ (X ++ N))
 
   B-length : length B ≡ answersAt (u .sizes)
-  B-length = length-bytesOf (flatten bs) ∙ ap (λ (k : ℕ). 4 * k) (length-flatten (width (u .sizes)) bs lb ∙ ap (λ (k : ℕ). width (u .sizes) * k) cb) ∙ omega arith
+  B-length = length-bytesOf (flatten bs) ∙ ap (λ (k : ℕ). 4 * k) (length-flatten (width (u .sizes)) bs (p .batching-sized) ∙ ap (λ (k : ℕ). width (u .sizes) * k) (p .batching-count)) ∙ omega arith
 
   A-length : length A ≡ 4 * width (u .sizes) * u .m
-  A-length = length-bytesOf (flatten as′) ∙ ap (λ (k : ℕ). 4 * k) (length-flatten (width (u .sizes)) as′ la ∙ ap (λ (k : ℕ). width (u .sizes) * k) ca) ∙ omega arith
+  A-length = length-bytesOf (flatten as′) ∙ ap (λ (k : ℕ). 4 * k) (length-flatten (width (u .sizes)) as′ (p .answers-sized) ∙ ap (λ (k : ℕ). width (u .sizes) * k) (p .answers-count)) ∙ omega arith
 
   X-length : length X ≡ recordLength (u .sizes) * u .sizes .ℓ
-  X-length = length-flatten (recordLength (u .sizes)) xs lx ∙ ap (λ (k : ℕ). recordLength (u .sizes) * k) cx
+  X-length = length-flatten (recordLength (u .sizes)) xs (p .records-sized) ∙ ap (λ (k : ℕ). recordLength (u .sizes) * k) (p .records-count)
 
   N-length : length N ≡ 32 * length (missingNodes u)
-  N-length = length-flatten 32 ns ln ∙ ap (λ (k : ℕ). 32 * k) cn
+  N-length = length-flatten 32 ns (p .nodes-sized) ∙ ap (λ (k : ℕ). 32 * k) (p .nodes-count)
 
   pub whole-length : length r ≡ replyLength u
   whole-length =
@@ -94,20 +103,20 @@ module _ (u : Question) (bs as′ : List (List ℕ)) (xs ns : List Bytes)
   pub back-batching : readReply u r .batching ≡ bs
   unfolding readReply
   back-batching =
-      ap (λ (k : ℕ). map (words (width (u .sizes))) (pieces (4 * width (u .sizes)) k r)) (sym cb) ∙ parse-words (width (u .sizes)) bs (A ++ (X ++ N)) lb sb
+      ap (λ (k : ℕ). map (words (width (u .sizes))) (pieces (4 * width (u .sizes)) k r)) (sym (p .batching-count)) ∙ parse-words (width (u .sizes)) bs (A ++ (X ++ N)) (p .batching-sized) (p .batching-small)
 
   pub back-answers : readReply u r .answers ≡ as′
   unfolding readReply
   back-answers =
-      ap₂ (λ (k : ℕ) (b : Bytes). map (words (width (u .sizes))) (pieces (4 * width (u .sizes)) k b)) (sym ca) from-answers
-      ∙ parse-words (width (u .sizes)) as′ (X ++ N) la sa
+      ap₂ (λ (k : ℕ) (b : Bytes). map (words (width (u .sizes))) (pieces (4 * width (u .sizes)) k b)) (sym (p .answers-count)) from-answers
+      ∙ parse-words (width (u .sizes)) as′ (X ++ N) (p .answers-sized) (p .answers-small)
 
   pub back-records : readReply u r .records ≡ xs
   unfolding readReply
   back-records =
-      ap₂ (λ (k : ℕ) (b : Bytes). pieces (recordLength (u .sizes)) k b) (sym cx) from-records ∙ pieces-flatten (recordLength (u .sizes)) xs N lx
+      ap₂ (λ (k : ℕ) (b : Bytes). pieces (recordLength (u .sizes)) k b) (sym (p .records-count)) from-records ∙ pieces-flatten (recordLength (u .sizes)) xs N (p .records-sized)
 
   pub back-nodes : readReply u r .nodes ≡ ns
   unfolding readReply
   back-nodes =
-      ap₂ (λ (k : ℕ) (b : Bytes). parts k b) (sym cn) (from-nodes ∙ sym (append-nil N)) ∙ pieces-flatten 32 ns [] ln
+      ap₂ (λ (k : ℕ) (b : Bytes). parts k b) (sym (p .nodes-count)) (from-nodes ∙ sym (append-nil N)) ∙ pieces-flatten 32 ns [] (p .nodes-sized)

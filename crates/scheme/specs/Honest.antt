@@ -1,9 +1,9 @@
 -- Completeness: what is committed is opened, and what is opened is accepted with the true values.
 use mathlib.Core.Path.{_≡_}
-use mathlib.Core.List.{List, _++_, map, flatten}
+use mathlib.Core.List.{List, map, flatten}
 use mathlib.Core.Bool.{true}
-use Prim.Native.Nat.{ℕ, _+_, _*_, _≤_}
-use lib.ListN.{length, drop}
+use Prim.Native.Nat.{ℕ, _*_}
+use lib.ListN.{length}
 use Rattle.lists.specs.Bytes.{Bytes, bytesOf}
 use Rattle.algebra.specs.Numbers.{evalN}
 use Rattle.lists.specs.Pieces.{pieces}
@@ -11,7 +11,8 @@ use Rattle.lists.specs.Tests.{every}
 use Rattle.scheme.specs.Sizes.{Sizes, sizesOk}
 use Rattle.scheme.specs.Layers.{Lent}
 use Rattle.scheme.specs.Question.{readQuestion, questionVerdict}
-use Rattle.scheme.specs.Reply.{replyLength, replyBound}
+use Rattle.scheme.specs.Reply.{replyLength}
+use Rattle.scheme.specs.Sizing.{sizing}
 use Rattle.scheme.specs.Commit.{lentOk, filledOk, lentElements, tableOf, treeOf, lastDigest, committing}
 use Rattle.scheme.specs.Open.{opening}
 use Rattle.scheme.specs.Check.{checking, checkingC}
@@ -32,12 +33,11 @@ pub record Names (s : Sizes) (l : Lent) (question : Bytes) : Type 0 where
   pub sizes : readQuestion question .sizes ≡ s
   pub root : readQuestion question .root ≡ lastDigest (treeOf s l)
 
--- a reply that the opener makes, and that is accepted with the true values, by both entries
+-- a reply of the length that sizing answers, that the opener makes, and that is accepted with the true values, by both entries
 pub record Replied (s : Sizes) (l : Lent) (question buffer : Bytes) : Type 0 where
   pub reply : Bytes
-  pub length-right : length reply ≡ replyLength (readQuestion question)
-  pub length-fits : length reply ≤ length buffer
-  pub opened : opening question l (tableOf s l) (treeOf s l) buffer ≡ (0, length reply, reply ++ drop (length reply) buffer)
+  pub sized : sizing question ≡ (0, length reply)
+  pub opened : opening question l (tableOf s l) (treeOf s l) buffer ≡ (0, length reply, reply)
   pub checked : (values : List ℕ) → length values ≡ s .w * readQuestion question .m
       → checking question reply values ≡ (0, trueValues s l (readQuestion question .evaluationPoints))
   pub checkedC : (values : Bytes) → length values ≡ 4 * (s .w * readQuestion question .m)
@@ -47,4 +47,4 @@ abbrev pub Completeness : Sizes → Lent → Type 0
 Completeness s l =
     Right s l
     → ((table : List ℕ) (nodes : Bytes) → filledOk s table nodes ≡ true → committing s l table nodes ≡ (0, tableOf s l, treeOf s l))
-    × ((question buffer : Bytes) → Names s l question → length buffer ≡ replyBound s (readQuestion question .m) → Replied s l question buffer)
+    × ((question buffer : Bytes) → Names s l question → length buffer ≡ replyLength (readQuestion question) → Replied s l question buffer)

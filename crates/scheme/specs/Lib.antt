@@ -2,10 +2,12 @@ pub mod Sizes
 pub mod Layers
 pub mod Question
 pub mod Reply
+pub mod Sizing
 pub mod Commit
 pub mod Open
 pub mod Check
 pub mod Collect
+pub mod Lengths
 pub mod Honest
 pub mod HonestCalls
 pub mod Cases

@@ -1,19 +1,19 @@
 -- Opening: its tests, and the reply to a question.
-use mathlib.Core.Bool.{not}
+use mathlib.Core.Bool.{Bool, not}
 use mathlib.Core.List.{List, [], _∷_, _++_, map, flatten}
-use Prim.Native.Nat.{ℕ, _+_, _-_}
+use Prim.Native.Nat.{ℕ, _+_}
 use lib.Dec.{eqb}
-use lib.ListN.{length, getD, drop}
+use lib.ListN.{length, getD}
 use Rattle.lists.specs.Choice.{pick}
 use Rattle.lists.specs.Range.{upFrom}
 use Rattle.lists.specs.Bytes.{Bytes, bytesOf}
 use Rattle.tree.specs.Tree.{allParts, opened}
 use Rattle.lists.specs.Tests.{Test, verdictOf, every, same}
 use Rattle.scheme.specs.Sizes.{elements}
-use Rattle.scheme.specs.Sizes.{Sizes, arity, levels}
+use Rattle.scheme.specs.Sizes.{arity, levels}
 use Rattle.scheme.specs.Layers.{Lent, batchingAnswer, evaluationAnswer}
 use Rattle.scheme.specs.Question.{Question, readQuestion, questionTests}
-use Rattle.scheme.specs.Reply.{replyBound, replyLength}
+use Rattle.scheme.specs.Reply.{replyLength}
 use Rattle.scheme.specs.Commit.{lentOk, filledOk, lentElements, leafRecord, lastDigest, after}
 
 -- the reply: R_k for each repetition, an answer for each point, a record for each index, the missing nodes
@@ -34,26 +34,32 @@ replyOf u l table nodes =
     bytesOf (flatten (openedBatching u l))
     ++ (bytesOf (flatten (openedAnswers u l)) ++ (flatten (openedRecords u l table) ++ flatten (openedNodes u nodes)))
 
--- its tests
+-- 2: each lent slice has its length, and the buffer exactly the reply's
+abbrev pub lengthsOk : Question → Lent → List ℕ → Bytes → Bytes → Bool
+lengthsOk u l table nodes buffer = every (lentOk (u .sizes) l ∷ filledOk (u .sizes) table nodes ∷ eqb (length buffer) (replyLength u) ∷ [])
+
+-- 3: each lent word is an element, those of the table too
+abbrev pub wordsOk : Lent → List ℕ → Bool
+wordsOk l table = every (elements table ∷ lentElements l)
+
+-- 8: the lent tree has the question's root
+abbrev pub rootOk : Question → Bytes → Bool
+rootOk u nodes = same (lastDigest nodes) (u .root)
+
 unfoldable pub openTests : Bytes → Lent → List ℕ → Bytes → Bytes → List Test
 openTests question l table nodes buffer =
     let u : Question = readQuestion question in
-    let s : Sizes = u .sizes in
-    questionTests question
-    ++ ((2, not (every (lentOk s l ∷ filledOk s table nodes ∷ eqb (length buffer) (replyBound s (u .m)) ∷ [])))
-    ∷ (3, not (every (elements table ∷ lentElements l)))
-    ∷ (8, not (same (lastDigest nodes) (u .root)))
-    ∷ [])
+    questionTests question ++ ((2, not (lengthsOk u l table nodes buffer)) ∷ (3, not (wordsOk l table)) ∷ (8, not (rootOk u nodes)) ∷ [])
 
 unfoldable pub openVerdict : Bytes → Lent → List ℕ → Bytes → Bytes → ℕ
 openVerdict question l table nodes buffer = verdictOf (openTests question l table nodes buffer)
 
--- what opening does: its verdict, the reply's true length (0 with a refusal), and the buffer, whose bytes after the reply stay
+-- what opening does: its verdict, the reply's length (0 with a refusal), and the buffer, which holds the reply and nothing else
 unfoldable pub opening : Bytes → Lent → List ℕ → Bytes → Bytes → ℕ × ℕ × Bytes
 opening question l table nodes buffer =
     let u : Question = readQuestion question in
     let v : ℕ = openVerdict question l table nodes buffer in
-    (v, pick (eqb v 0) (replyLength u) 0, after v (replyOf u l table nodes ++ drop (replyLength u) buffer) buffer)
+    (v, pick (eqb v 0) (replyLength u) 0, after v (replyOf u l table nodes) buffer)
 
 -- its entry for C, where the length is lent: a refusal leaves it as it was
 unfoldable pub openingC : Bytes → Lent → List ℕ → Bytes → Bytes → ℕ → ℕ × ℕ × Bytes
