@@ -1,18 +1,23 @@
 -- What an answer says of a question.
 use mathlib.Core.Path.{_≡_, refl, sym, ap, _∙_, subst}
 use mathlib.Core.Bool.{Bool, true, false, false≢true}
-use Prim.Native.Nat.{ℕ, _≤_, _<_}
+use mathlib.Core.List.{List, _++_}
+use Prim.Native.Nat.{ℕ, _+_, _*_, _^_, _≤_, _<_}
 use native.Mathlib.Nat.{pos-of-ne-zero}
 use native.Mathlib.Omega.{arith}
 use lib.Dec.{eqb}
 use lib.ListN.{length, take, drop}
+use lib.Seq.{take-at}
 use borrow.Author.Tests.{eqb-true, eqb-false, ltb-false, not-false}
+use Rattle.lists.specs.All.{Below}
 use Rattle.lists.specs.Bytes.{Bytes, words, halves}
 use Rattle.lists.specs.Choice.{pick, and-true}
 use Rattle.lists.specs.Tests.{verdictOf, passed, Numbered}
-use Rattle.scheme.specs.Sizes.{sizesOk, pointsOk}
+use Rattle.tree.specs.Clauses.{IndexSet}
+use Rattle.scheme.specs.Sizes.{Sizes, sizesOk, pointsOk}
 use Rattle.scheme.specs.Question.{readQuestion, headerTests, headerPoints, questionTests, questionVerdict, headerLength, challengesAt, pointsAt, indicesAt, questionLength}
-use Rattle.scheme.proofs.Accepted.{Asked, well-formed, question-numbers}
+use Rattle.scheme.proofs.Accepted.{Good, good, Asked, well-formed, question-numbers}
+use Rattle.scheme.proofs.Bound.{indices-length}
 use Rattle.commitment.specs.Shape.{sizesIn}
 use Rattle.commitment.specs.Questioned.{numberOf, headerShape, answered, headed, questioned}
 use Rattle.commitment.specs.declared.Shape.{Shape}
@@ -123,3 +128,29 @@ pub taken : (b : Bytes) (s : Shape) (m : ℕ) → questioned b ≡ WellFormed s 
 taken b s m e =
     let a = answered-well (questionVerdict b) b s m e in
     subst (λ (n : ℕ). Taken b s n) (sym (a .2)) (subst (λ (x : Shape). Taken b x (headerPoints b)) (sym (a .1)) (taken-from b (a .0)))
+
+-- its indices: a set of ℓ leaves
+pub asked-indices : (b : Bytes) (s : Shape) (m : ℕ) → questioned b ≡ WellFormed s m → (length (readQuestion b .indices) ≡ s .l) × IndexSet (s .h) (readQuestion b .indices)
+asked-indices b s m e =
+    let a = well-asked b s m e in
+    let k : Asked (readQuestion b) = taken b s m e .asks in
+    let n : length (readQuestion b .indices) ≡ s .l = indices-length b ∙ ap (λ (t : Sizes). t .ℓ) (sym (a .1)) in
+    let g : Good (sizesIn s) = good (sizesIn s) (taken b s m e .sizes-ok) in (
+      n,
+      record {
+        depth = g .h-high;
+        some = subst (λ (j : ℕ). 0 < j) (sym n) (g .ℓ-low);
+        few = subst (λ (j : ℕ). j ≤ 64) (sym n) (g .ℓ-high);
+        rising = k .indices-rising;
+        leaves = subst (λ (t : Sizes). Below (2 ^ t .h) (readQuestion b .indices)) (sym (a .1)) (k .indices-below);
+      },
+    )
+
+-- read from their place into a room
+pub indices-read : (b : Bytes) (s : Shape) (m : ℕ) (room x : List ℕ) → questioned b ≡ WellFormed s m
+    → x ≡ halves (s .l) (drop (challengesAt + 4 * (s .eta + m)) b) ++ drop (s .l) room → take (s .l) x ≡ readQuestion b .indices
+indices-read b s m room x e f =
+    let t = taken b s m e in
+    let place : challengesAt + 4 * (s .eta + m) ≡ indicesAt (sizesIn s) m = omega arith in
+    let front : x ≡ readQuestion b .indices ++ drop (s .l) room = f ∙ ap (λ (n : ℕ). halves (s .l) (drop n b) ++ drop (s .l) room) place ∙ ap (λ (y : List ℕ). y ++ drop (s .l) room) (sym (t .indices)) in
+    ap (take (s .l)) front ∙ take-at (readQuestion b .indices) (drop (s .l) room) (s .l) (asked-indices b s m e .0)

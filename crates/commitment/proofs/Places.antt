@@ -1,8 +1,13 @@
 -- How large the numbers of a reply's layout can be.
 use mathlib.Core.Path.{_≡_, ap₂}
+use mathlib.Core.List.{List}
 use Prim.Native.Nat.{ℕ, _+_, _*_, _≤_}
-use native.Mathlib.Nat.{mul-le-mul, mul-le-mul-left}
+use native.Mathlib.Nat.{mul-le-mul, mul-le-mul-left, le-trans}
 use native.Mathlib.Omega.{arith}
+use lib.ListN.{length}
+use Rattle.tree.specs.Sets.{missing}
+use Rattle.tree.specs.Clauses.{IndexSet}
+use Rattle.tree.proofs.Counts.{missing-bound}
 use Rattle.scheme.specs.Sizes.{Sizes, width, recordValues}
 use Rattle.scheme.specs.Reply.{recordLength, answersAt, recordsAt, nodesAt}
 use Rattle.scheme.proofs.Accepted.{Good}
@@ -38,6 +43,11 @@ module _ (s : Sizes) (g : Good s) where
 
     pub nodes-high : nodesAt s m ≤ 34816
     nodes-high = omega (arith, records-high, all-records-high)
+
+pub missing-high : (h : ℕ) (indices : List ℕ) → IndexSet h indices → length (missing 2 h indices) ≤ 768
+missing-high h indices g =
+    let a : length indices * 1 ≤ 64 = omega (arith, g .few) in
+    le-trans (missing-bound 1 h indices (g .rising)) (mul-le-mul {n₂ = 64} {m₂ = 12} a (g .depth))
 
 -- the bytes of the evaluation answers
 pub answers-fit : (s : Sizes) (m wide from n : ℕ) → wide ≡ width s → from ≡ answersAt s → recordsAt s m ≤ n → from + 4 * (wide * m) ≤ n

@@ -9,7 +9,7 @@ ghost use Rattle.lists.specs.Bytes.{fromBytes, littleEndian, halves, words, byt
 ghost use Rattle.lists.specs.Rising.{rising};
 ghost use Rattle.lists.specs.Tests.{every, all, within, same};
 ghost use Rattle.scheme.specs.Sizes.{elements, sizesOk, columns, width, recordValues};
-ghost use Rattle.scheme.specs.Question.{mark};
+ghost use Rattle.scheme.specs.Question.{mark, readQuestion};
 ghost use Rattle.scheme.specs.Reply.{recordLength, answersAt, recordsAt, nodesAt};
 ghost use Rattle.scheme.proofs.Accepted.{Good};
 ghost use Rattle.commitment.specs.Shape.{sizesIn};
@@ -360,4 +360,18 @@ pub fn ask(question: &[u8]) -> Questioned
         Questioned::WellFormed(s, m) => body(question, s, m),
         Questioned::Refused(v) => Questioned::Refused(v),
     }
+}
+
+// Room for as many indices as a question can have.
+pub fn blank_indices() -> [usize; 64] {
+    [0usize; 64]
+}
+
+// The indices of a well-formed question, to the front of `out`.
+pub fn question_indices(question: &[u8], s: Shape, m: u32, out: &mut [usize])
+    requires { ⌜ (questioned (now question) ≡ WellFormed s m) × (64 ≤ length (now out)) ⌝ }
+    ensures { λ _. ⌜ take (s .l) (now (out .exit)) ≡ readQuestion (now (question .entry)) .indices ⌝ }
+{
+    let elements = s.eta as usize + m as usize;
+    read_indices(question, CHALLENGES + 4 * elements, s.l as usize, out);
 }
