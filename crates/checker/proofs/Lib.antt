@@ -1,5 +1,4 @@
 pub mod Values
-pub mod Bounds
 pub mod Flat
 pub mod Roots
 pub mod ReplyTests

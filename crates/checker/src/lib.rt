@@ -10,7 +10,7 @@ ghost use Rattle.tree.specs.Sets.{missing};
 ghost use Rattle.tree.specs.Clauses.{IndexSet};
 ghost use Rattle.scheme.specs.Sizes.{elements, width};
 ghost use Rattle.scheme.specs.Question.{questionLength};
-ghost use Rattle.scheme.specs.Reply.{readReply, recordsAt, nodesAt, replyLength};
+ghost use Rattle.scheme.specs.Reply.{readReply, recordsAt, replyLength};
 ghost use Rattle.scheme.specs.Check.{replyTests, checkValues, checking};
 ghost use Rattle.scheme.proofs.Accepted.{Good};
 ghost use Rattle.commitment.specs.Shape.{sizesIn};
@@ -20,7 +20,6 @@ ghost use Rattle.checker.specs.Words.{recordElementsAt, leafDigestAt, ro
 use commitment::Questioned;
 use commitment::Shape;
 use commitment::answers_at;
-use commitment::nodes_at;
 use commitment::record_length;
 use commitment::record_values;
 use commitment::records_at;
@@ -28,17 +27,8 @@ use commitment::row_width;
 use equations::batching_ok;
 use equations::evaluation_ok;
 use field::Element;
+use planner::length_for;
 use tree::LeafIndex;
-
-// ---- the reply's length
-
-// The length that a reply must have.
-fn reply_length(s: Shape, m: usize, indices: &[usize]) -> usize
-    requires { ⌜ Good (sizesIn s) × (m ≤ 8) × IndexSet (s .h) (now indices) ⌝ }
-    ensures { λ r. ⌜ r ≡ nodesAt (sizesIn s) m + 32 * length (missing 2 (s .h) (now (indices .entry))) ⌝ }
-{
-    nodes_at(s, m) + 32 * tree::count_missing(s.h as usize, indices)
-}
 
 // ---- the reply's words
 
@@ -281,7 +271,7 @@ fn reply_verdict(
     requires { ⌜ Posed (sizesIn s) (now challenges) (now points) (now indices) ⌝ }
     ensures { λ r. ⌜ r ≡ verdictOf (replyTests (posed (sizesIn s) (now (root .entry)) (now (challenges .entry)) (now (points .entry)) (now (indices .entry))) (now (reply .entry))) ⌝ }
 {
-    if reply.len() != reply_length(s, points.len(), indices) {
+    if reply.len() != length_for(s, points.len(), indices) {
         return 7;
     }
     if row_width(s) <= 32 {
@@ -318,11 +308,6 @@ fn blank_challenges() -> [u32; 4] {
     [0u32; 4]
 }
 
-// Room for 64 indices.
-fn blank_indices() -> [usize; 64] {
-    [0usize; 64]
-}
-
 // The reply's tests, with the challenges, points, indices and root of the question.
 fn asked_verdict(question: &[u8], s: Shape, m: usize, reply: &[u8]) -> u32
     requires { ⌜ Formed (sizesIn s) m (now question) ⌝ }
@@ -335,7 +320,7 @@ fn asked_verdict(question: &[u8], s: Shape, m: usize, reply: &[u8]) -> u32
     commitment::read_words(question, 46, eta, &mut challenges);
     let mut points = blank_points();
     commitment::read_words(question, points_at, m, &mut points);
-    let mut indices = blank_indices();
+    let mut indices = commitment::blank_indices();
     commitment::read_indices(question, points_at + 4 * m, l, &mut indices);
     reply_verdict(
         s,

@@ -1,29 +1,33 @@
 -- What is given where a question is well formed, and where all tests have passed.
-use mathlib.Core.Path.{_≡_, sym, ap₂, _∙_, subst}
-use mathlib.Core.Bool.{Bool, true, false, not}
-use mathlib.Core.List.{List, [], _∷_, _++_}
-use Prim.Native.Nat.{ℕ, _+_, _-_, _*_, _≤_, _<_}
+use mathlib.Core.Path.{_≡_, sym, ap, ap₂, _∙_, subst}
+use mathlib.Core.Bool.{Bool, true}
+use mathlib.Core.List.{List, [], _∷_}
+use Prim.Native.Nat.{ℕ, _-_, _*_, _≤_}
+use native.Mathlib.Nat.{le-of-eq}
 use native.Mathlib.Omega.{arith}
 use lib.Dec.{eqb}
 use lib.Pow.{pow-pos}
 use lib.ListN.{length}
-use borrow.Author.Tests.{eqb-true, not-false}
-use Rattle.lists.specs.All.{Below, all-append, all-right}
+use borrow.Author.Tests.{eqb-true}
+use Rattle.lists.specs.All.{All, Below}
 use Rattle.lists.specs.Rising.{Rising}
 use Rattle.lists.specs.Bytes.{Bytes}
-use Rattle.lists.specs.Tests.{Test, every, same, passed, every-true, true-every}
-use Rattle.scheme.specs.Sizes.{Sizes, leaves, sizesOk, elements}
+use Rattle.lists.specs.Tests.{every-true, true-every}
+use Rattle.tree.specs.Clauses.{IndexSet}
+use Rattle.scheme.specs.Sizes.{Sizes, leaves, sizesOk}
 use Rattle.scheme.specs.Layers.{Lent}
-use Rattle.scheme.specs.Question.{Question, readQuestion, questionTests, questionVerdict, questionLength}
-use Rattle.scheme.specs.Reply.{replyBound}
-use Rattle.scheme.specs.Commit.{lentOk, filledOk, lentElements, lastDigest}
-use Rattle.scheme.specs.Open.{openTests, openVerdict}
-use Rattle.scheme.proofs.Accepted.{well-formed, question-numbers}
+use Rattle.scheme.specs.Question.{Question, readQuestion, questionVerdict, questionLength}
+use Rattle.scheme.specs.Reply.{replyLength}
+use Rattle.scheme.specs.Commit.{lentOk, filledOk, lentElements}
+use Rattle.scheme.specs.Open.{lengthsOk, openVerdict}
+use Rattle.scheme.proofs.Accepted.{good, well-formed}
+use Rattle.scheme.proofs.Opening.{lent-passed}
 use Rattle.commitment.specs.Shape.{sizesIn}
 use Rattle.commitment.specs.Questioned.{questioned}
 use Rattle.commitment.specs.declared.Shape.{Shape}
 use Rattle.commitment.specs.declared.Questioned.the-variants.{WellFormed}
-use Rattle.commitment.proofs.Answer.{well-asked, taken}
+use Rattle.commitment.proofs.Answer.{well-asked, taken, asked-indices}
+use Rattle.commitment.proofs.Places.{nodes-high, missing-high}
 use Rattle.opener.specs.Ready.{questionOf, Ready}
 
 -- ---- the question
@@ -66,37 +70,29 @@ root-room s table nodes e =
 
 -- ---- all tests have passed
 
-module _ (b : Bytes) (l : Lent) (table : List ℕ) (nodes reply : Bytes) where
-  abbrev u : Question
-  u = readQuestion b
+pub reply-small : (b : Bytes) (s : Shape) (m : ℕ) → questioned b ≡ WellFormed s m → replyLength (questionOf b (sizesIn s) m) ≤ 65536
+reply-small b s m e =
+    let i : IndexSet (s .h) (questionOf b (sizesIn s) m .indices) = subst (λ (u : Question). IndexSet (s .h) (u .indices)) (sym (question-is b s m e)) (asked-indices b s m e .1) in
+    omega (arith, nodes-high (sizesIn s) (good (sizesIn s) (sizes-ok b s m e)) m (points-few b s m e), missing-high (s .h) (questionOf b (sizesIn s) m .indices) i)
 
-  abbrev lengths : Sizes → ℕ → Bool
-  lengths s m = every (lentOk s l ∷ filledOk s table nodes ∷ eqb (length reply) (replyBound s m) ∷ [])
+module _ (b : Bytes) (l : Lent) (table : List ℕ) (nodes reply : Bytes) (s : Shape) (m : ℕ) (e : questioned b ≡ WellFormed s m) (z : openVerdict b l table nodes reply ≡ 0) where
+  -- the lengths, for the sizes that the code holds
+  lengths : All (λ (t : Bool). t ≡ true) (lentOk (sizesIn s) l ∷ filledOk (sizesIn s) table nodes ∷ eqb (length reply) (replyLength (questionOf b (sizesIn s) m)) ∷ [])
+  lengths = every-true _ (ap (λ (u : Question). lengthsOk u l table nodes reply) (question-is b s m e) ∙ lent-passed b l table nodes reply z .0)
 
-  abbrev words-are : Bool
-  words-are = every (elements table ∷ lentElements l)
+  pub exact : length reply ≡ replyLength (questionOf b (sizesIn s) m)
+  exact = eqb-true _ _ (lengths .1 .1 .0)
 
-  lent-passed : openVerdict b l table nodes reply ≡ 0 → (lengths (u .sizes) (u .m) ≡ true) × (words-are ≡ true)
-  unfolding openVerdict openTests
-  lent-passed z =
-      let lent : List Test = (2, not (lengths (u .sizes) (u .m))) ∷ (3, not words-are) ∷ (8, not (same (lastDigest nodes) (u .root))) ∷ [] in
-      let t = all-right (λ (t : Test). t .1 ≡ false) (questionTests b) lent
-      (passed (questionTests b ++ lent) (all-append (λ (t : Test). 0 < t .0) (questionTests b) lent (question-numbers b) (omega arith)) z) in
-      (not-false _ (t .0), not-false _ (t .1 .0))
-
-  pub ready : (s : Shape) (m : ℕ) → questioned b ≡ WellFormed s m → openVerdict b l table nodes reply ≡ 0 → Ready b (sizesIn s) m l table nodes reply
-  ready s m e z =
-      let p = lent-passed z in
-      let t = every-true _ (ap₂ lengths (sizes-are b s m e) (points-are b s m e) ∙ p .0) in
-      let w = every-true _ (p .1) in
-      record {
-        sizes = sizes-ok b s m e;
-        points = points-few b s m e;
-        long = long b s m e;
-        rising = rising b s m e;
-        leaf = leaf b s m e;
-        lengths = t .0;
-        filled = t .1 .0;
-        elements = true-every (lentElements l) (w .1);
-        room = eqb-true _ _ (t .1 .1 .0);
-      }
+  pub ready : Ready b (sizesIn s) m l table nodes reply
+  ready = record {
+    sizes = sizes-ok b s m e;
+    points = points-few b s m e;
+    long = long b s m e;
+    rising = rising b s m e;
+    leaf = leaf b s m e;
+    lengths = lengths .0;
+    filled = lengths .1 .0;
+    elements = true-every (lentElements l) (every-true _ (lent-passed b l table nodes reply z .1) .1);
+    room = le-of-eq (sym exact);
+    small = subst (λ (n : ℕ). n ≤ 65536) (sym exact) (reply-small b s m e);
+  }

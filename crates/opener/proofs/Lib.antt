@@ -1,7 +1,7 @@
 pub mod Records
 pub mod Places
-pub mod Order
 pub mod Given
+pub mod Order
 pub mod Sums
 pub mod Leaves
 pub mod Replying

@@ -1,12 +1,13 @@
 -- What opening does, by the answer to the question and the verdict.
 use mathlib.Core.Path.{_≡_, sym, ap, ap₂, _∙_}
-use mathlib.Core.List.{List, _++_}
+use mathlib.Core.List.{List, [], _++_, append-nil}
 use Prim.Native.Nat.{ℕ}
 use native.Mathlib.Nat.{pos-of-ne-zero}
 use lib.ListN.{drop}
+use lib.Seq.{drop-length}
 use Rattle.lists.specs.Bytes.{Bytes}
 use Rattle.scheme.specs.Layers.{Lent}
-use Rattle.scheme.specs.Question.{Question, readQuestion}
+use Rattle.scheme.specs.Question.{Question}
 use Rattle.scheme.specs.Reply.{replyLength}
 use Rattle.scheme.specs.Open.{replyOf, openVerdict, opening}
 use Rattle.commitment.specs.Shape.{sizesIn}
@@ -15,8 +16,8 @@ use Rattle.commitment.specs.declared.Shape.{Shape}
 use Rattle.commitment.specs.declared.Questioned.the-variants.{WellFormed, Refused}
 use Rattle.commitment.proofs.Answer.{refused}
 use Rattle.opener.specs.Ready.{questionOf, Ready}
-use Rattle.opener.proofs.Given.{question-is, ready}
-use Rattle.opener.proofs.Order.{asked-verdict, opening-refused, opening-done}
+use Rattle.scheme.proofs.Opening.{asked-verdict, opening-refused, opening-done}
+use Rattle.opener.proofs.Given.{question-is, exact, ready}
 
 module _ (b : Bytes) (l : Lent) (table : List ℕ) (nodes reply : Bytes) where
   -- the question is refused
@@ -34,11 +35,12 @@ module _ (b : Bytes) (l : Lent) (table : List ℕ) (nodes reply : Bytes) where
     pub is-ready : Ready b (sizesIn s) m l table nodes reply
     is-ready = ready b l table nodes reply s m asked passed
 
-    -- nothing is refused
+    -- nothing is refused: the reply takes the whole buffer
     pub replied : (n : ℕ) (out : Bytes) → n ≡ replyLength (questionOf b (sizesIn s) m) → out ≡ replyOf (questionOf b (sizesIn s) m) l table nodes ++ drop n reply
         → (0, n, out) ≡ opening b l table nodes reply
     replied n out k o =
-        let u : Question = readQuestion b in
-        let i : n ≡ replyLength u = k ∙ ap replyLength (question-is b s m asked) in
-        ap₂ (λ (x : ℕ) (y : Bytes). (0, x, y)) i (o ∙ ap₂ (λ (w : Question) (x : ℕ). replyOf w l table nodes ++ drop x reply) (question-is b s m asked) i)
+        let w : Question = questionOf b (sizesIn s) m in
+        let none : drop n reply ≡ [] = ap (λ (j : ℕ). drop j reply) (k ∙ sym (exact b l table nodes reply s m asked passed)) ∙ drop-length reply in
+        ap₂ (λ (x : ℕ) (y : Bytes). (0, x, y)) k (o ∙ ap (λ (y : Bytes). replyOf w l table nodes ++ y) none ∙ append-nil (replyOf w l table nodes))
+        ∙ ap (λ (v : Question). (0, replyLength v, replyOf v l table nodes)) (question-is b s m asked)
         ∙ sym (opening-done b l table nodes reply passed)

@@ -1,17 +1,17 @@
 -- The records of the opened leaves.
-use mathlib.Core.Path.{_≡_, sym, ap, ap₂, _∙_, subst}
+use mathlib.Core.Path.{_≡_, ap, ap₂, _∙_}
 use mathlib.Core.List.{List}
 use Prim.Native.Nat.{ℕ, _+_, _*_, _≤_, _<_, _-_}
-use native.Mathlib.Nat.{mul-comm}
 use native.Mathlib.Omega.{arith}
-use lib.ListN.{length, getD, drop, length-append, take}
+use lib.ListN.{length, getD, take, drop}
 use Rattle.lists.specs.All.{all-at}
 use Rattle.lists.specs.Bytes.{Bytes, bytesOf, length-bytesOf}
 use Rattle.lists.specs.Pieces.{piece}
 use Rattle.scheme.specs.Sizes.{Sizes, leaves, recordValues}
 use Rattle.scheme.specs.Reply.{recordLength}
 use Rattle.scheme.specs.Commit.{leafRecord}
-use Rattle.lists.specs.Parts.{row-fits, length-piece}
+use Rattle.lists.specs.Parts.{length-piece}
+use Rattle.scheme.proofs.Parts.{values-room as one-values-room, nonce-room as one-nonce-room, record-sized as one-sized}
 use Rattle.answers.specs.Answers.{written}
 use Rattle.opener.specs.Parts.{CanRecord}
 use Rattle.commitment.proofs.Splice.{spliced-more}
@@ -48,17 +48,10 @@ module _ (s : Sizes) (table : List ℕ) (nonces : Bytes) (indices : List ℕ) (c
   leaf-low = all-at (λ (i : ℕ). i < leaves s) 0 indices (can .leaf) k l
 
   pub values-room : recordValues s * getD indices k 0 + recordValues s ≤ length table
-  values-room = subst (λ (n : ℕ). recordValues s * getD indices k 0 + recordValues s ≤ n) (mul-comm (recordValues s) (leaves s) ∙ sym (can .values)) (row-fits (recordValues s) (getD indices k 0) (leaves s) leaf-low)
+  values-room = one-values-room s table nonces (can .values) (can .nonce) (getD indices k 0) leaf-low
 
   pub nonce-room : 32 * getD indices k 0 + 32 ≤ length nonces
-  nonce-room = omega (arith, leaf-low, can .nonce)
+  nonce-room = one-nonce-room s table nonces (can .values) (can .nonce) (getD indices k 0) leaf-low
 
   pub record-sized : length (leafRecord s table nonces (getD indices k 0)) ≡ recordLength s
-  unfolding leafRecord
-  record-sized =
-      let n : ℕ = recordValues s in
-      let i : ℕ = getD indices k 0 in
-      length-append (bytesOf (piece n i table)) (piece 32 i nonces)
-      ∙ ap₂ _+_
-      (length-bytesOf (piece n i table) ∙ ap (λ (j : ℕ). 4 * j) (length-piece n i table values-room))
-      (length-piece 32 i nonces nonce-room)
+  record-sized = one-sized s table nonces (can .values) (can .nonce) (getD indices k 0) leaf-low

@@ -1,38 +1,27 @@
 -- The whole reply, where all tests have passed.
 use mathlib.Core.Path.{_≡_, sym, ap, ap₂, _∙_, subst}
-use mathlib.Core.Bool.{true}
 use mathlib.Core.List.{List, [], _++_, map, flatten, append-assoc}
 use Prim.Native.Nat.{ℕ, _+_, _-_, _*_, _≤_, _<_}
-use native.Mathlib.Nat.{pow-suc, le-of-eq}
 use native.Mathlib.Omega.{arith}
 use lib.ListN.{length, take, drop, length-map}
 use lib.Seq.{take-at, drop-at, drop-drop}
-use borrow.Author.Tests.{eqb-true}
-use Rattle.lists.specs.Bytes.{Bytes, bytesOf, halves}
+use Rattle.lists.specs.Bytes.{Bytes, bytesOf}
 use Rattle.lists.specs.Pieces.{pieces, length-pieces}
-use Rattle.lists.specs.Tests.{every-true}
-use Rattle.tree.specs.Sets.{missing, treeSize}
+use Rattle.tree.specs.Sets.{missing}
 use Rattle.tree.specs.Tree.{allParts, opened}
-use Rattle.tree.proofs.Counts.{missing-bound}
-use Rattle.tree.proofs.Rows.{tree-size}
-use Rattle.scheme.specs.Sizes.{Sizes, leaves, recordValues}
+use Rattle.scheme.specs.Sizes.{Sizes, leaves}
 use Rattle.scheme.specs.Layers.{Lent, lentOf, extendedRows}
 use Rattle.scheme.specs.Question.{Question, indicesAt}
 use Rattle.scheme.specs.Reply.{recordsAt, nodesAt, replyLength}
-use Rattle.scheme.specs.Commit.{filledOk, leafRecord}
+use Rattle.scheme.specs.Commit.{leafRecord}
 use Rattle.scheme.specs.Open.{openedBatching, openedAnswers, replyOf}
 use Rattle.scheme.proofs.Accepted.{Good, good}
 use Rattle.scheme.proofs.Lent.{Rights, rights}
+use Rattle.scheme.proofs.Parts.{filled-lengths, tree-length}
 use Rattle.lent.proofs.Rows.{rows-lent}
 use Rattle.opener.specs.Parts.{CanList, CanSum, sums}
 use Rattle.opener.specs.Ready.{questionOf, Ready}
-use Rattle.opener.proofs.Places.{paths-high}
-use Rattle.commitment.proofs.Places.{nodes-high}
 use Rattle.opener.proofs.Sums.{sums-length, sums-opened}
-
-filled-lengths : (s : Sizes) (table nodes : List ℕ) → filledOk s table nodes ≡ true → (length table ≡ leaves s * recordValues s) × (length nodes ≡ 32 * (2 * leaves s - 1))
-unfolding filledOk
-filled-lengths s table nodes e = let t = every-true _ e in (eqb-true _ _ (t .0), eqb-true _ _ (t .1 .0))
 
 module _ (question : Bytes) (t : Sizes) (m : ℕ) (l : Lent) (table : List ℕ) (nodes reply : Bytes) (ready : Ready question t m l table nodes reply) where
   abbrev u : Question
@@ -67,25 +56,10 @@ module _ (question : Bytes) (t : Sizes) (m : ℕ) (l : Lent) (table : List ℕ) 
 
   -- ---- the indices
 
-  pub indices-ask : (b : List ℕ) → length b ≡ 64 → (46 + 4 * t .η + 4 * m + 2 * t .ℓ ≤ length question) × (t .ℓ ≤ length b)
-  indices-ask b e = (le-of-eq (sym (ready .long)), subst (λ (k : ℕ). t .ℓ ≤ k) (sym e) (g .ℓ-high))
-
   count : length (u .indices) ≡ t .ℓ
   count = length-map (pieces 2 (t .ℓ) (drop (indicesAt t m) question)) _ ∙ length-pieces 2 (t .ℓ) (drop (indicesAt t m) question)
 
-  pub indices-front : (b x : List ℕ) → x ≡ halves (t .ℓ) (drop (46 + 4 * t .η + 4 * m) question) ++ drop (t .ℓ) b → take (t .ℓ) x ≡ u .indices
-  indices-front b x e = ap (take (t .ℓ)) e ∙ take-at (u .indices) (drop (t .ℓ) b) (t .ℓ) count
-
-  pub indices-length : (x : List ℕ) → x ≡ u .indices → t .ℓ ≡ length x
-  indices-length x e = sym (ap length e ∙ count)
-
   -- ---- records and nodes
-
-  tree-length : length nodes ≡ 32 * treeSize 2 (t .h)
-  tree-length = filled-lengths t table nodes (ready .filled) .1 ∙ ap (λ (k : ℕ). 32 * k) (omega (arith, tree-size 1 (t .h), pow-suc 2 (t .h)))
-
-  nodes-few : length (missing 2 (t .h) (u .indices)) ≤ t .ℓ * t .h
-  nodes-few = omega (arith, missing-bound 1 (t .h) (u .indices) (ready .rising), ap (λ (n : ℕ). n * 1 * t .h) count)
 
   can-list : (o : Bytes) → length o ≡ length reply → CanList t m table (l .nonces) (u .indices) nodes o
   can-list o e = record {
@@ -100,9 +74,9 @@ module _ (question : Bytes) (t : Sizes) (m : ℕ) (l : Lent) (table : List ℕ) 
       rising = ready .rising;
       leaves = ready .leaf;
     };
-    tree-length = tree-length;
-    room = omega (arith, nodes-few, ready .room, e);
-    small = omega (arith, nodes-high t g m (ready .points), paths-high t g, ready .room, e);
+    tree-length = tree-length t table nodes (ready .filled);
+    room = omega (arith, ready .room, e);
+    small = omega (arith, ready .small, e);
   }
 
   pub leaves-ask : (x : List ℕ) (o : Bytes) → x ≡ u .indices → length o ≡ length reply → CanList t m table (l .nonces) x nodes o

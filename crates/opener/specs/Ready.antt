@@ -11,7 +11,7 @@ use Rattle.lists.specs.Tests.{every}
 use Rattle.scheme.specs.Sizes.{Sizes, leaves, sizesOk}
 use Rattle.scheme.specs.Layers.{Lent}
 use Rattle.scheme.specs.Question.{Question, headerLength, challengesAt, pointsAt, indicesAt, questionLength}
-use Rattle.scheme.specs.Reply.{replyBound}
+use Rattle.scheme.specs.Reply.{replyLength}
 use Rattle.scheme.specs.Commit.{lentOk, filledOk, lentElements}
 
 -- what a question's bytes hold, where its header gives these sizes and points
@@ -34,4 +34,5 @@ pub record Ready (question : Bytes) (s : Sizes) (m : ℕ) (l : Lent) (table : Li
   pub lengths : lentOk s l ≡ true
   pub filled : filledOk s table nodes ≡ true
   pub elements : every (lentElements l) ≡ true
-  pub room : length reply ≡ replyBound s m
+  pub room : replyLength (questionOf question s m) ≤ length reply
+  pub small : length reply ≤ 65536

@@ -9,11 +9,12 @@ ghost use Rattle.lists.specs.Tests.{every, same};
 ghost use Rattle.scheme.specs.Layers.{lentOf, extendedRows};
 ghost use Rattle.scheme.specs.Commit.{lentOk, filledOk, lentElements, lastDigest, leafRecord};
 ghost use Rattle.scheme.specs.Sizes.{sizesOk, elements, recordValues};
-ghost use Rattle.scheme.specs.Question.{headerLength};
-ghost use Rattle.scheme.specs.Reply.{recordLength, recordsAt, nodesAt, replyLength, replyBound};
+ghost use Rattle.scheme.specs.Question.{headerLength, readQuestion};
+ghost use Rattle.scheme.specs.Reply.{recordLength, recordsAt, nodesAt, replyLength};
 ghost use Rattle.scheme.specs.Open.{replyOf, openVerdict, opening};
 ghost use Rattle.tree.specs.Sets.{missing};
 ghost use Rattle.tree.specs.Tree.{allParts, opened};
+ghost use Rattle.tree.specs.Clauses.{IndexSet};
 ghost use Rattle.commitment.specs.Shape.{sizesIn};
 ghost use Rattle.commitment.specs.Questioned.{questioned};
 ghost use Rattle.commitment.specs.declared.Questioned.the-variants.{WellFormed};
@@ -26,13 +27,14 @@ use answers::put_batchings;
 use commitment::Questioned;
 use commitment::Shape;
 use commitment::ask;
+use commitment::blank_indices;
 use commitment::both;
 use commitment::elements_ok;
 use commitment::leaf_count;
 use commitment::nodes_at;
 use commitment::put_bytes;
 use commitment::put_words;
-use commitment::read_indices;
+use commitment::question_indices;
 use commitment::records_at;
 use commitment::row_width;
 use commitment::same_bytes;
@@ -40,6 +42,7 @@ use field::Element;
 use lent::filled_ok;
 use lent::lent_elements;
 use lent::lent_ok;
+use planner::length_for;
 use tree::list_missing;
 
 // Where the root and the challenges begin in a question.
@@ -74,22 +77,13 @@ fn put_records(s: Shape, table: &[u32], nonces: &[u8], indices: &[usize], out: &
     }
 }
 
-// ---- the room of a reply
-
-// The length of a reply with as many nodes as a path to each opened leaf has.
-fn reply_bound(s: Shape, m: u32) -> usize
-    requires { ⌜ (sizesOk (sizesIn s) ≡ true) × (m ≤ 8) ⌝ }
-    ensures { λ r. ⌜ r ≡ replyBound (sizesIn s) m ⌝ }
-{
-    nodes_at(s, m as usize) + 32 * (s.l as usize * s.h as usize)
-}
-
 // ---- tests
 
-// Is each lent slice of its length?
+// Is each lent slice of its length, the reply that of the leaves that are opened?
 fn lengths_ok(
     s: Shape,
     m: u32,
+    indices: &[usize],
     coefficients: &[u32],
     tails: &[u32],
     masks: &[u32],
@@ -98,12 +92,12 @@ fn lengths_ok(
     tree: &[u8],
     reply: &[u8],
 ) -> bool
-    requires { ⌜ (sizesOk (sizesIn s) ≡ true) × (m ≤ 8) ⌝ }
-    ensures { λ r. ⌜ r ≡ every (lentOk (sizesIn s) (lentOf (now (coefficients .entry)) (now (tails .entry)) (now (masks .entry)) (now (nonces .entry))) ∷ filledOk (sizesIn s) (now (table .entry)) (now (tree .entry)) ∷ eqb (length (now (reply .entry))) (replyBound (sizesIn s) m) ∷ []) ⌝ }
+    requires { ⌜ (sizesOk (sizesIn s) ≡ true) × (m ≤ 8) × IndexSet (s .h) (now indices) ⌝ }
+    ensures { λ r. ⌜ r ≡ every (lentOk (sizesIn s) (lentOf (now (coefficients .entry)) (now (tails .entry)) (now (masks .entry)) (now (nonces .entry))) ∷ filledOk (sizesIn s) (now (table .entry)) (now (tree .entry)) ∷ eqb (length (now (reply .entry))) (nodesAt (sizesIn s) m + 32 * length (missing 2 (s .h) (now (indices .entry)))) ∷ []) ⌝ }
 {
     let lent = lent_ok(s, coefficients, tails, masks, nonces);
     let filled = filled_ok(s, table, tree);
-    let room = reply.len() == reply_bound(s, m);
+    let room = reply.len() == length_for(s, m as usize, indices);
     both(lent, both(filled, room))
 }
 
@@ -131,6 +125,7 @@ fn lent_verdict(
     s: Shape,
     m: u32,
     question: &[u8],
+    indices: &[usize],
     coefficients: &[u32],
     tails: &[u32],
     masks: &[u32],
@@ -139,10 +134,21 @@ fn lent_verdict(
     tree: &[u8],
     reply: &[u8],
 ) -> u32
-    requires { ⌜ questioned (now question) ≡ WellFormed s m ⌝ }
+    requires { ⌜ (questioned (now question) ≡ WellFormed s m) × (now indices ≡ readQuestion (now question) .indices) ⌝ }
     ensures { λ r. ⌜ r ≡ openVerdict (now (question .entry)) (lentOf (now (coefficients .entry)) (now (tails .entry)) (now (masks .entry)) (now (nonces .entry))) (now (table .entry)) (now (tree .entry)) (now (reply .entry)) ⌝ }
 {
-    if lengths_ok(s, m, coefficients, tails, masks, table, nonces, tree, reply) {
+    if lengths_ok(
+        s,
+        m,
+        indices,
+        coefficients,
+        tails,
+        masks,
+        table,
+        nonces,
+        tree,
+        reply,
+    ) {
         if words_ok(coefficients, tails, masks, table) {
             if root_ok(question, tree) {
                 return 0;
@@ -226,16 +232,12 @@ fn put_leaves(
     nodes + 32 * count
 }
 
-// Room for the indices.
-fn blank_indices() -> [usize; 64] {
-    [0usize; 64]
-}
-
 // The whole reply; returns its length.
 fn write_reply(
     s: Shape,
     m: u32,
     question: &[u8],
+    indices: &[usize],
     coefficients: &[u32],
     tails: &[u32],
     masks: &[u32],
@@ -244,16 +246,12 @@ fn write_reply(
     tree: &[u8],
     reply: &mut [u8],
 ) -> usize
-    requires { ⌜ Ready (now question) (sizesIn s) m (lentOf (now coefficients) (now tails) (now masks) (now nonces)) (now table) (now tree) (now reply) ⌝ }
+    requires { ⌜ Ready (now question) (sizesIn s) m (lentOf (now coefficients) (now tails) (now masks) (now nonces)) (now table) (now tree) (now reply) × (now indices ≡ questionOf (now question) (sizesIn s) m .indices) ⌝ }
     ensures { λ r. ⌜ r ≡ replyLength (questionOf (now (question .entry)) (sizesIn s) m) ⌝ }
     ensures { λ r. ⌜ now (reply .exit) ≡ replyOf (questionOf (now (question .entry)) (sizesIn s) m) (lentOf (now (coefficients .entry)) (now (tails .entry)) (now (masks .entry)) (now (nonces .entry))) (now (table .entry)) (now (tree .entry)) ++ drop r (now (reply .entry)) ⌝ }
 {
     put_sums(s, m, question, coefficients, tails, masks, reply);
-    let l = s.l as usize;
-    let from = CHALLENGES + 4 * s.eta as usize + 4 * m as usize;
-    let mut indices = blank_indices();
-    read_indices(question, from, l, &mut indices);
-    put_leaves(s, m, &indices[..l], table, nonces, tree, reply)
+    put_leaves(s, m, indices, table, nonces, tree, reply)
 }
 
 // The answer of an opener: the reply's length, or the number of a refusal.
@@ -262,7 +260,7 @@ pub enum Opened {
     Refused(u32),
 }
 
-// Writes the reply to a question into the front of `reply`. A refusal leaves `reply` as it was.
+// Fills `reply` with the reply to a question. A refusal leaves it as it was.
 pub fn open(
     question: &[u8],
     coefficients: &[u32],
@@ -277,10 +275,14 @@ pub fn open(
 {
     match ask(question) {
         Questioned::WellFormed(s, m) => {
+            let l = s.l as usize;
+            let mut indices = blank_indices();
+            question_indices(question, s, m, &mut indices);
             let verdict = lent_verdict(
                 s,
                 m,
                 question,
+                &indices[..l],
                 coefficients,
                 tails,
                 masks,
@@ -294,6 +296,7 @@ pub fn open(
                     s,
                     m,
                     question,
+                    &indices[..l],
                     coefficients,
                     tails,
                     masks,

@@ -5,6 +5,7 @@ ghost use lib.ListN.{length};
 ghost use Rattle.scheme.specs.Sizes.{sizesOf};
 ghost use Rattle.scheme.specs.Layers.{lentOf};
 ghost use Rattle.scheme.specs.Commit.{committing};
+ghost use Rattle.scheme.specs.Sizing.{sizingC};
 ghost use Rattle.scheme.specs.Open.{openingC};
 ghost use Rattle.scheme.specs.Check.{checking, checkingC};
 ghost use Rattle.smallwood.specs.InBytes.{inBytes};
@@ -12,6 +13,7 @@ use commitment::Questioned;
 use commitment::ask;
 use commitment::put_words;
 use opener::Opened;
+use planner::Planned;
 
 // Commits: fills the table and the tree, or returns the number of a refusal and leaves them as they were.
 #[no_mangle]
@@ -47,7 +49,22 @@ pub extern "C" fn smallwood_commit(
     )
 }
 
-// Opens: writes the reply and its length, or returns the number of a refusal and leaves both as they were.
+// Sizes: writes the exact length of the reply to a question, or returns the number of a refusal and leaves the length as it was.
+#[no_mangle]
+pub extern "C" fn smallwood_reply_length(question: &[u8], length: &mut u64) -> u32
+    ensures { λ r. ⌜ (r, now (length .exit)) ≡ sizingC (now (question .entry)) (now (length .entry)) ⌝ }
+{
+    let answer = planner::reply_length(question);
+    match answer {
+        Planned::Length(n) => {
+            *length = n as u64;
+            0
+        }
+        Planned::Refused(v) => v,
+    }
+}
+
+// Opens: fills the reply and writes its length, or returns the number of a refusal and leaves both as they were.
 #[no_mangle]
 pub extern "C" fn smallwood_open(
     question: &[u8],

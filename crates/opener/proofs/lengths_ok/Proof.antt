@@ -4,6 +4,7 @@ use mathlib.Core.Bool.{Bool, _&&_}
 use Prim.Native.Nat.{ℕ}
 use lib.Dec.{eqb}
 use lib.ListN.{length}
+use Rattle.scheme.proofs.Accepted.{good}
 use Rattle.opener.proofs.Order.{three}
 use borrow.Author.Needs.{needs}
 use Rattle.opener.proofs.lengths_ok.Statement.{statement}
@@ -15,8 +16,9 @@ lent-ok-requires c κs = search needs
 filled-ok-requires : tie.Need-filled-ok-requires
 filled-ok-requires c κs = search needs
 
-reply-bound-requires : tie.Need-reply-bound-requires
-reply-bound-requires c κs = search needs
+length-for-requires : tie.Need-length-for-requires
+length-for-requires c κs =
+    (good _ (c .before .before .before .before .before .before .before .before .before .before .pre .0), c .before .before .before .before .before .before .before .before .before .before .pre .1, c .before .before .before .before .before .before .before .before .before .before .pre .2)
 
 both-requires : tie.Need-both-requires
 both-requires c κs = search needs
@@ -26,8 +28,8 @@ both-requires-2 c κs = search needs
 
 returns : tie.Need-returns
 returns c =
-    let n : ℕ = length (c .before .before .before .before .before .before .before .before .before .before .before .before .args .reply .now) in
-    three _ _ _ (c .both2 .result) (c .before .both .result) (c .before .both .ensures ∙ ap₂ _&&_ (c .before .before .before .filled-ok .ensures) (ap (eqb n) (c .before .before .reply-bound .ensures))) (c .both2 .ensures ∙ ap (λ (x : Bool). x && c .before .both .result) (c .before .before .before .before .lent-ok .ensures))
+    let n : ℕ = length (c .before .before .before .before .before .before .before .before .before .before .before .before .before .args .reply .now) in
+    three _ _ _ (c .both2 .result) (c .before .both .result) (c .before .both .ensures ∙ ap₂ _&&_ (c .before .before .before .filled-ok .ensures) (ap (eqb n) (c .before .before .length-for .ensures))) (c .both2 .ensures ∙ ap (λ (x : Bool). x && c .before .both .result) (c .before .before .before .before .lent-ok .ensures))
 
 pub lengths-ok-spec : {M : Type 1} → statement M
 lengths-ok-spec =
@@ -35,7 +37,7 @@ lengths-ok-spec =
     (tie.spec
     lent-ok-requires
     filled-ok-requires
-    reply-bound-requires
+    length-for-requires
     both-requires
     both-requires-2
     returns)
