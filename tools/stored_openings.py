@@ -42,13 +42,17 @@ def points(count):
 
 
 def lent(s):
-    """Coefficients, tails, masks, nonces; then table and tree before committing, and the reply buffer."""
+    """Coefficients, tails, masks, nonces; then table and tree before committing."""
     return (
         (words(1, s.w * s.mu * s.nu), words(2, s.mu * s.l), words(3, s.eta * s.width), octets(4, 32 * s.leaves)),
         words(7, s.leaves * s.record),
         octets(8, 32 * (2 * s.leaves - 1)),
-        octets(9, S.reply_bytes(s, s.l * s.h)),
     )
+
+
+def reply_room(length):
+    """What the reply's buffer holds before."""
+    return octets(9, length)
 
 
 def question_of(s, tree, first, step):
@@ -63,13 +67,17 @@ def sizes_text(s):
     return "h %d mu %d nu %d w %d l %d eta %d" % s[:6]
 
 
-def accepted(s, given, table, tree, buffer, ask):
+def size_text(question):
+    number, length = S.reply_length(question)
+    return "size %d" % number if number else "size 0 %d" % length
+
+
+def accepted(s, given, table, tree, before, ask):
     number, table, tree = S.commit(*s[:6], *given, table, tree)
     assert number == 0
     question = ask(tree)
-    number, length, buffer = S.open_reply(question, *given, table, tree, buffer)
+    number, length, reply = S.open_reply(question, *given, table, tree, before(S.reply_length(question)[1]))
     assert number == 0
-    reply = buffer[:length]
     assert S.judge(question, reply, 4 * s.w * s.m)[0] == 0
     yield sizes_text(s)
     yield "commit 0"
@@ -77,10 +85,10 @@ def accepted(s, given, table, tree, buffer, ask):
     yield "tree digest " + S.digest(tree).hex()
     yield "m %d" % s.m
     yield "question " + question.hex()
+    yield size_text(question)
     yield "open 0"
     yield "length %d" % length
     yield "reply " + reply.hex() if length < SHORT else "reply digest " + S.digest(reply).hex()
-    yield "buffer digest " + S.digest(buffer).hex()
 
 
 def case_p():
@@ -90,7 +98,7 @@ def case_p():
     def ask(tree):
         return S.write_question(Question(s, tree[-32:], [10], [6], [1]))
 
-    yield from accepted(s, given, [0] * 4, bytes(96), bytes(88), ask)
+    yield from accepted(s, given, [0] * 4, bytes(96), bytes, ask)
 
 
 SMALL = Sizes(2, 2, 1, 2, 2, 2, 1)  # those of the refusals
@@ -108,7 +116,7 @@ CASES = (  # the sizes, then the first index and the step
 
 
 def case(s, first, step):
-    yield from accepted(s, *lent(s), lambda tree: question_of(s, tree, first, step))
+    yield from accepted(s, *lent(s), reply_room, lambda tree: question_of(s, tree, first, step))
 
 
 # ---- Refused ----------------------------------------------------------------------------------------
@@ -121,7 +129,7 @@ def with_item(items, at, value):
 
 def refused_commits():
     s = SMALL
-    given, table, tree, _ = lent(s)
+    given, table, tree = lent(s)
 
     def line(expected, sizes, given, table, tree):
         number, table_after, tree_after = S.commit(*sizes[:6], *given, table, tree)
@@ -145,15 +153,16 @@ def refused_commits():
 
 def refused_opens():
     s = SMALL
-    given, table, tree, buffer = lent(s)
+    given, table, tree = lent(s)
     number, table, tree = S.commit(*s[:6], *given, table, tree)
     assert number == 0
     question = question_of(s, tree, 1, 2)
+    exact = S.reply_length(question)[1]
 
-    def line(expected, question=question, given=given, table=table, tree=tree, buffer=buffer):
-        number, _, after = S.open_reply(question, *given, table, tree, buffer)
+    def line(expected, question=question, given=given, table=table, tree=tree, room=exact):
+        number, _, after = S.open_reply(question, *given, table, tree, reply_room(room))
         assert number == expected, (number, expected)
-        return "open %d %s" % (number, "same" if after == buffer else "changed")
+        return "%s open %d %s" % (size_text(question), number, "same" if after == reply_room(room) else "changed")
 
     def shorter(k):
         return [g[:-1] if i == k else g for i, g in enumerate(given)]
@@ -182,7 +191,8 @@ def refused_opens():
         yield line(2, given=shorter(k))
     yield line(2, table=table[:-1])
     yield line(2, tree=tree[:-1])
-    yield line(2, buffer=buffer[:-1])
+    for room in (0, exact - 1, exact + 1, S.reply_bytes(s, s.l * s.h)):
+        yield line(2, room=room)
     for k in range(3):
         yield line(3, given=with_q(k))
     yield line(3, table=with_item(table, 15, Q))

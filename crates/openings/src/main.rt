@@ -1,4 +1,4 @@
-// Commits and opens at several sizes and prints what comes out, then refusals of every number. All inputs are made here by two rules, `word_of` and `byte_of`;
+// Commits, asks for a reply's length and opens at several sizes and prints what comes out, then refusals of every number. All inputs are made here by two rules, `word_of` and `byte_of`;
 // the file stdout is made by tools/stored_openings.py from a second implementation.
 ghost use Prim.Native.Nat.{_+_, _*_, _≤_};
 ghost use lib.ListN.{length};
@@ -11,6 +11,8 @@ use committer::commit;
 use libc::STDOUT_FILENO;
 use opener::Opened;
 use opener::open;
+use planner::Planned;
+use planner::reply_length;
 
 // ---- numbers
 
@@ -237,15 +239,30 @@ fn print_front(name: &[u8], n: usize, room: &[u8]) {
     print_bytes(name, &room[..end]);
 }
 
-// A short reply whole, a long one by its digest; then the digest of the whole buffer that was lent.
-fn print_reply(n: usize, lent: usize, reply: &[u8]) {
+// A short reply whole, a long one by its digest.
+fn print_reply(n: usize, reply: &[u8]) {
     print_number(b"open 0\nlength ", n as u64);
     if n < 1500 {
         print_front(b"\nreply ", n, reply);
     } else {
         print_front_digest(b"\nreply digest ", n, reply);
     }
-    print_front_digest(b"buffer digest ", lent, reply);
+}
+
+// Sizes the question in the first n bytes: prints the number, and with 0 the reply's length, and returns the length.
+fn print_size(n: usize, question: &[u8]) -> usize {
+    let end = at_most(n, question.len());
+    let answer = reply_length(&question[..end]);
+    match answer {
+        Planned::Length(k) => {
+            print_number(b"size 0 ", k as u64);
+            k
+        }
+        Planned::Refused(v) => {
+            print_number(b"size ", v as u64);
+            0
+        }
+    }
 }
 
 fn print_refusal(v: u32) {
@@ -264,7 +281,6 @@ struct Lengths {
     table: usize,
     tree: usize,
     question: usize,
-    reply: usize,
 }
 
 fn leaves_of(h: u32) -> usize
@@ -295,9 +311,6 @@ fn lengths_of(s: Shape, m: u32) -> Lengths {
         table: product(leaves, values),
         tree: 64 * leaves - 32,
         question: 46 + 4 * count + 2 * l,
-        reply: product(4 * width, count)
-            + product(4 * values + 32, l)
-            + product(32 * l, s.h as usize),
     }
 }
 
@@ -335,6 +348,7 @@ fn commit_front(
 
 fn open_front(
     n: Lengths,
+    room: usize,
     question: &[u8],
     coefficients: &[u32],
     tails: &[u32],
@@ -351,7 +365,7 @@ fn open_front(
     let v = at_most(n.table, table.len());
     let r = at_most(n.nonces, nonces.len());
     let d = at_most(n.tree, tree.len());
-    let b = at_most(n.reply, reply.len());
+    let b = at_most(room, reply.len());
     open(
         &question[..q],
         &coefficients[..c],
@@ -378,8 +392,11 @@ fn print_open(
     reply: &mut [u8],
 ) {
     print_front(b"question ", n.question, question);
+    let room = print_size(n.question, question);
+    print(b"\n");
     let answer = open_front(
         n,
+        room,
         question,
         coefficients,
         tails,
@@ -390,7 +407,7 @@ fn print_open(
         reply,
     );
     match answer {
-        Opened::Reply(k) => print_reply(k, n.reply, reply),
+        Opened::Reply(k) => print_reply(k, reply),
         Opened::Refused(v) => print_refusal(v),
     }
 }
@@ -676,7 +693,6 @@ fn shorter(n: Lengths, k: usize) -> Lengths {
         table: less(n.table, k == 4),
         tree: less(n.tree, k == 5),
         question: less(n.question, k == 6),
-        reply: less(n.reply, k == 7),
     }
 }
 
@@ -694,6 +710,11 @@ fn small() -> Shape {
 fn small_lengths() -> Lengths {
     lengths_of(small(), 1)
 }
+
+// The reply for them: three answers of 4 words, two records of 4 words and a nonce, and 2 missing nodes; and with as many nodes as two paths have.
+const SMALL_REPLY: usize = 208;
+
+const SMALL_BOUND: usize = 272;
 
 fn attempt_commit(
     s: Shape,
@@ -789,6 +810,7 @@ fn number_of(answer: Opened) -> u64 {
 
 fn attempt_open(
     n: Lengths,
+    room: usize,
     question: &[u8],
     coefficients: &[u32],
     tails: &[u32],
@@ -800,8 +822,10 @@ fn attempt_open(
 ) {
     let lent = state(coefficients, tails, masks, nonces, table, tree);
     let before = joined(lent, question, reply);
+    print_size(n.question, question);
     let answer = open_front(
         n,
+        room,
         question,
         coefficients,
         tails,
@@ -813,7 +837,7 @@ fn attempt_open(
     );
     let kept = state(coefficients, tails, masks, nonces, table, tree);
     let after = joined(kept, question, reply);
-    print_number(b"open ", number_of(answer));
+    print_number(b" open ", number_of(answer));
     print_same(before, after);
 }
 
@@ -835,7 +859,7 @@ fn commit_small(table: &mut [u32], tree: &mut [u8]) {
 }
 
 // Opens with the last word of coefficients (0), tails (1) or masks (2) made q.
-fn open_small(n: Lengths, question: &[u8], table: &[u32], tree: &[u8], k: usize) {
+fn open_small(n: Lengths, room: usize, question: &[u8], table: &[u32], tree: &[u8], k: usize) {
     let coefficients = spoiled_words(1, 3, k == 0);
     let tails = spoiled_words(2, 3, k == 1);
     let masks = spoiled_words(3, 7, k == 2);
@@ -843,6 +867,7 @@ fn open_small(n: Lengths, question: &[u8], table: &[u32], tree: &[u8], k: usize)
     let mut reply = filled_buffer(9);
     attempt_open(
         n,
+        room,
         question,
         &coefficients,
         &tails,
@@ -854,10 +879,11 @@ fn open_small(n: Lengths, question: &[u8], table: &[u32], tree: &[u8], k: usize)
     );
 }
 
-// Commits, asks with these challenges, points and indices, raises a byte of the question and one of the tree, and opens with these lengths
-// and the last word of coefficients (0), tails (1), masks (2) or table (3) made q.
+// Commits, asks with these challenges, points and indices, raises a byte of the question and one of the tree, and opens with these lengths,
+// this room for the reply and the last word of coefficients (0), tails (1), masks (2) or table (3) made q.
 fn refused_open(
     n: Lengths,
+    room: usize,
     challenges: [u32; 4],
     points: [u32; 8],
     first: usize,
@@ -884,7 +910,7 @@ fn refused_open(
     raise(&mut question, question_at);
     raise(&mut tree, tree_at);
     spoil(&mut table, 15, k == 3);
-    open_small(n, &question, &table, &tree, k);
+    open_small(n, room, &question, &table, &tree, k);
 }
 
 fn with_question_length(n: Lengths, question: usize) -> Lengths {
@@ -896,7 +922,6 @@ fn with_question_length(n: Lengths, question: usize) -> Lengths {
         table: n.table,
         tree: n.tree,
         question: question,
-        reply: n.reply,
     }
 }
 
@@ -905,12 +930,23 @@ const NOWHERE: usize = 65536;
 
 fn cut_question(length: usize) {
     let n = with_question_length(small_lengths(), length);
-    refused_open(n, the_challenges(), the_points(), 1, 2, NOWHERE, NOWHERE, 9);
+    refused_open(
+        n,
+        SMALL_REPLY,
+        the_challenges(),
+        the_points(),
+        1,
+        2,
+        NOWHERE,
+        NOWHERE,
+        9,
+    );
 }
 
 fn raised_question(at: usize) {
     refused_open(
         small_lengths(),
+        SMALL_REPLY,
         the_challenges(),
         the_points(),
         1,
@@ -924,6 +960,7 @@ fn raised_question(at: usize) {
 fn asked(challenges: [u32; 4], points: [u32; 8], first: usize, step: usize) {
     refused_open(
         small_lengths(),
+        SMALL_REPLY,
         challenges,
         points,
         first,
@@ -937,6 +974,21 @@ fn asked(challenges: [u32; 4], points: [u32; 8], first: usize, step: usize) {
 fn shorter_open(k: usize) {
     refused_open(
         shorter(small_lengths(), k),
+        SMALL_REPLY,
+        the_challenges(),
+        the_points(),
+        1,
+        2,
+        NOWHERE,
+        NOWHERE,
+        9,
+    );
+}
+
+fn room_open(room: usize) {
+    refused_open(
+        small_lengths(),
+        room,
         the_challenges(),
         the_points(),
         1,
@@ -950,6 +1002,7 @@ fn shorter_open(k: usize) {
 fn spoiled_open(tree_at: usize, k: usize) {
     refused_open(
         small_lengths(),
+        SMALL_REPLY,
         the_challenges(),
         the_points(),
         1,
@@ -980,7 +1033,10 @@ fn refused_opens() {
     shorter_open(3);
     shorter_open(4);
     shorter_open(5);
-    shorter_open(7);
+    room_open(0);
+    room_open(SMALL_REPLY - 1);
+    room_open(SMALL_REPLY + 1);
+    room_open(SMALL_BOUND);
     spoiled_open(NOWHERE, 0);
     spoiled_open(NOWHERE, 1);
     spoiled_open(NOWHERE, 2);
