@@ -211,7 +211,8 @@ static double run(const struct implementation *with, enum operation operation, s
     return (now() - start) / (double)times;
 }
 
-/* The first `count` implementations in turn, each round beginning with another one. */
+/* The first `count` implementations in turn, each round beginning with another one and every second round
+ * backwards: what runs before an implementation tells on its time. */
 static void measure(struct instance *a, enum operation operation, size_t count,
                     struct timing *found)
 {
@@ -221,7 +222,7 @@ static void measure(struct instance *a, enum operation operation, size_t count,
 
     for (size_t r = 0; r < ROUNDS; r++)
         for (size_t i = 0; i < count; i++) {
-            size_t turn = (r + i) % count;
+            size_t turn = (r % 2 == 0 ? r + i : r + count - i) % count;
             if (has(&implementations[turn], operation))
                 seconds[turn][r] = run(&implementations[turn], operation, a, times);
         }
