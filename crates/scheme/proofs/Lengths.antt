@@ -2,9 +2,9 @@
 use mathlib.Core.Path.{_≡_, refl, sym, ap, _∙_, subst}
 use mathlib.Core.Logic.{_≢_}
 use mathlib.Core.Bool.{Bool, true, false, not, _&&_}
-use mathlib.Core.List.{List, _∷_, _++_}
+use mathlib.Core.List.{List, [], _∷_, _++_}
 use Prim.Native.Nat.{ℕ, _*_, _≤_, _<_}
-use native.Mathlib.Nat.{pos-of-ne-zero, ne-of-gt, mul-le-mul}
+use native.Mathlib.Nat.{pos-of-ne-zero, ne-of-gt, mul-le-mul, one-mul, suc-inj, suc-ne-zero}
 use native.Mathlib.Omega.{arith}
 use lib.Dec.{eqb}
 use lib.ListN.{length}
@@ -12,7 +12,8 @@ use borrow.Author.Tests.{eq-eqb, ne-eqb}
 use Rattle.lists.specs.Bytes.{Bytes}
 use Rattle.lists.specs.Choice.{and-false}
 use Rattle.lists.specs.Tests.{every, every-true, verdict-hit, verdict-miss, verdict-go, verdict-stop, verdict-other}
-use Rattle.tree.proofs.Counts.{missing-bound}
+use Rattle.tree.specs.Sets.{missing}
+use Rattle.tree.proofs.Counts.{missing-bound, missing-one}
 use Rattle.scheme.specs.Sizes.{width}
 use Rattle.scheme.specs.Layers.{Lent}
 use Rattle.scheme.specs.Question.{Question, readQuestion, questionTests, questionVerdict}
@@ -34,7 +35,18 @@ reply-bounded question wf =
     let u : Question = readQuestion question in
     omega (arith, missing-bound 1 (u .sizes .h) (u .indices) (well-formed question wf .indices-rising), ap (λ (n : ℕ). n * 1 * u .sizes .h) (indices-length question))
 
--- and it has some bytes
+-- and has as many where one leaf is opened
+missing-alone : (h : ℕ) (s : List ℕ) → length s ≡ 1 → length (missing 2 h s) ≡ h
+missing-alone h [] e = absurd (suc-ne-zero 0 (sym e))
+missing-alone h (i ∷ []) e = missing-one 1 h i ∙ one-mul h
+missing-alone h (i ∷ j ∷ s) e = absurd (suc-ne-zero (length s) (suc-inj e))
+
+pub bound-reached : (question : Bytes) → readQuestion question .sizes .ℓ ≡ 1 → replyLength (readQuestion question) ≡ replyBound (readQuestion question .sizes) (readQuestion question .m)
+bound-reached question e =
+    let u : Question = readQuestion question in
+    omega (arith, missing-alone (u .sizes .h) (u .indices) (indices-length question ∙ e), ap (λ (n : ℕ). n * u .sizes .h) e)
+
+-- it has some bytes
 pub some-bytes : (u : Question) → Asked u → 0 < replyLength u
 some-bytes u a =
     let w : 1 ≤ 4 * width (u .sizes) = omega (arith, a .sizes-good .ℓ-low) in

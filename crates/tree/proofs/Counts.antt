@@ -1,10 +1,10 @@
 -- How many nodes are missing: on each level b for each parent, less those of the set; in all at most (b - 1) for each leaf and level.
 use mathlib.Core.Bool.{true, false}
 use mathlib.Core.List.{List, [], _∷_, _++_, List·Memᴰ as Mem, List·Memᴰ·head as here, List·Memᴰ·tail as there, List·Memᴰ·cases-cons as cases-cons, List·Memᴰ·not-nil as not-nil, List·Memᴰ·append-cases as in-cases}
-use mathlib.Core.Logic.{_⊎_, ⊎-elim}
+use mathlib.Core.Logic.{⊎-elim}
 use mathlib.Core.Path.{_≡_, refl, sym, ap, _∙_}
 use Prim.Native.Nat.{ℕ, zero, suc, _+_, _*_, _/_, _≤_, _<_, zero-le}
-use native.Mathlib.Nat.{lt-div-mul-add, zero-lt-suc, mul-le-mul-right, zero-mul, le-refl, le-div-iff-mul-le, div-mul-le-self}
+use native.Mathlib.Nat.{lt-div-mul-add, zero-lt-suc, mul-le-mul-right, mul-suc, mul-zero, one-mul, zero-mul, le-refl, le-div-iff-mul-le, div-mul-le-self}
 use native.Mathlib.Omega.{arith}
 use lib.Dec.{eqb}
 use lib.ListN.{length, length-append, length-map}
@@ -128,3 +128,13 @@ missing-bound c (suc h) s r =
     let up : p ≤ n = parents-count (suc c) s in
     let ih = missing-bound c h (parents (suc c) s) (parents-rising (suc c) s (zero-lt-suc c) r) in
     omega (arith, missing-count (suc c) h s, siblings-count (suc c) s (zero-lt-suc c) r, ih, up, mul-le-mul-right c up, mul-le-mul-right h (mul-le-mul-right c up))
+
+-- of a single leaf: c on each level
+pub missing-one : (c h i : ℕ) → length (missing (suc c) h (i ∷ [])) ≡ c * h
+missing-one c zero i = unfold missing in sym (mul-zero c)
+missing-one c (suc h) i =
+    let up : parents (suc c) (i ∷ []) ≡ (i / suc c) ∷ [] = unfold parents push in refl in
+    let own : length (siblings (suc c) (i ∷ [])) + 1 ≡ suc c =
+    siblings-count (suc c) (i ∷ []) (zero-lt-suc c) (λ j m. absurd (not-nil m), tt) ∙ ap (λ (s : List ℕ). length s * suc c) up ∙ one-mul (suc c) in
+    let rest : length (missing (suc c) h (parents (suc c) (i ∷ []))) ≡ c * h = ap (λ (s : List ℕ). length (missing (suc c) h s)) up ∙ missing-one c h (i / suc c) in
+    omega (arith, missing-count (suc c) h (i ∷ []), own, rest, mul-suc c h)
