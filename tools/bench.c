@@ -163,11 +163,6 @@ static void compare(struct instance *a, enum operation operation)
 
 /* ---- Permutations of Keccak, from the lengths of the strings hashed ------------------------------- */
 
-static uint64_t permutations_of(size_t string)
-{
-    return string / RATE_BYTES + 1;
-}
-
 static uint64_t permutations(const struct instance *a, enum operation operation)
 {
     const struct sizes *s = &a->s;
@@ -444,8 +439,7 @@ static void once(const char *operation, const char *size, const char *name)
     struct instance *a = prepared(*sizes_numbered(size), operation_named(operation));
 
 #ifdef PLAIN_OPENSSL
-    uint8_t digest[DIGEST_BYTES];
-    evp_digest(NULL, 0, digest); /* looks the algorithm up, outside the call that is counted */
+    evp_start(); /* outside the call that is counted */
 #endif
     for (size_t i = 0; i < IMPLEMENTATIONS; i++)
         if (strcmp(implementations[i].name, name) == 0) {

@@ -46,8 +46,7 @@ lacks() {
 count() {
     entry=$1
     [ "$entry" != length ] || entry=reply_length
-    valgrind --tool=callgrind --callgrind-out-file=/dev/null --toggle-collect="$3_$entry" \
-        "$build/bench" once "$1" "$2" "$3" 2>&1 | sed -n 's/.*Collected : \([0-9]*\).*/\1/p'
+    count_inside "$3_$entry" "$build/bench" once "$1" "$2" "$3"
 }
 
 instructions() {
@@ -71,7 +70,6 @@ instructions() {
                     continue
                 fi
                 found=$(count "$operation" "$size" "$name")
-                [ -n "$found" ] || fail "callgrind gave no count for ${name}_$operation"
                 printf '| %s ' "$found"
                 if [ "$name" = smallwood ]; then
                     library=$found

@@ -78,6 +78,16 @@ find_before() {
     objcopy --redefine-syms="$build/before.names" "$build/before.o"
 }
 
+# count_inside FUNCTION COMMAND [WORDS...]: instructions inside that function, as callgrind counts them
+count_inside() {
+    inside=$1
+    shift
+    counted=$(valgrind --tool=callgrind --callgrind-out-file=/dev/null --toggle-collect="$inside" "$@" 2>&1 |
+        sed -n 's/.*Collected : \([0-9]*\).*/\1/p')
+    [ "${counted:-0}" -gt 0 ] || fail "callgrind gave no count for $inside"
+    echo "$counted"
+}
+
 # Sets given_archive, given_before, given_program, without_program, stand_in; the other words stay in `words`.
 given_archive=
 given_before=

@@ -4,8 +4,9 @@
   tools/sponge_vectors.py           write the file
   tools/sponge_vectors.py --check   compare it, and fail where it differs
 
-Each line is 32 bytes of SHAKE256 in hexadecimal: of the empty message, of 200 bytes 0xa3, and of the first n bytes of the
-pattern, for n from 0 to 307. Byte i of the pattern is (7 i + 3) mod 256.
+Each line is 32 bytes of SHAKE256 in hexadecimal: of the empty message, of 200 bytes 0xa3, of the first n bytes of the
+pattern, for n from 0 to 307, and of leaf 4095's string with 25, 26, 59 and 60 values. Byte i of the pattern is
+(7 i + 3) mod 256; values and nonce of a leaf are the pattern's first bytes.
 """
 
 import hashlib
@@ -25,12 +26,21 @@ def digest(message):
     return hashlib.shake_256(message).hexdigest(32)
 
 
+def leaf_string(index, values_and_nonce):
+    return b"\x00" + index.to_bytes(2, "little") + values_and_nonce
+
+
 def main():
     for message, published in PUBLISHED:
         if digest(message) != published:
             sys.exit("hashlib disagrees with a published example of %d bytes" % len(message))
     pattern = bytes((7 * i + 3) % 256 for i in range(307))
-    lines = [published for _, published in PUBLISHED] + [digest(pattern[:n]) for n in range(308)]
+    leaves = [leaf_string(4095, pattern[: 4 * values + 32]) for values in (25, 26, 59, 60)]
+    if [len(leaf) for leaf in leaves] != [135, 139, 271, 275]:
+        sys.exit("a leaf's string has another length than was meant")
+    lines = [published for _, published in PUBLISHED]
+    lines += [digest(pattern[:n]) for n in range(308)]
+    lines += [digest(leaf) for leaf in leaves]
     text = "".join(line + "\n" for line in lines)
     if sys.argv[1:] == []:
         STDOUT.write_text(text)

@@ -7,7 +7,7 @@
 static EVP_MD_CTX *context;
 
 /* Looking the algorithm up costs more than hashing a short string, so it is done once. */
-static void start(void)
+void evp_start(void)
 {
     context = EVP_MD_CTX_new();
     if (context == NULL || EVP_DigestInit_ex(context, EVP_shake256(), NULL) != 1) {
@@ -19,7 +19,7 @@ static void start(void)
 void evp_digest(const uint8_t *string, size_t length, uint8_t digest[DIGEST_BYTES])
 {
     if (context == NULL)
-        start();
+        evp_start();
     if (EVP_DigestInit_ex(context, NULL, NULL) != 1 ||
         EVP_DigestUpdate(context, string, length) != 1 ||
         EVP_DigestFinalXOF(context, digest, DIGEST_BYTES) != 1) {

@@ -8,10 +8,18 @@
 #define DIGEST_BYTES 32
 #define RATE_BYTES 136
 
+/* Permutations of Keccak in one digest. */
+static inline uint64_t permutations_of(size_t length)
+{
+    return length / RATE_BYTES + 1;
+}
+
 /* In keccak.c: plain C. */
 void keccak_digest(const uint8_t *string, size_t length, uint8_t digest[DIGEST_BYTES]);
 
-/* In evp.c: OpenSSL's. It keeps one context for the whole program: one thread at a time. */
+/* In evp.c: OpenSSL's. It keeps one context for the whole program: one thread at a time. The first digest makes it,
+ * unless evp_start has. */
+void evp_start(void);
 void evp_digest(const uint8_t *string, size_t length, uint8_t digest[DIGEST_BYTES]);
 
 #endif

@@ -3,3 +3,4 @@ pub mod Rotation
 pub mod Complement
 pub mod Linear
 pub mod Chi
+pub mod Carried

@@ -1,5 +1,5 @@
 // The permutation KECCAK-f[1600]. The 25 lanes of a state are named one by one, which lets the compiler keep them in registers. Within the permutation
-// six lanes are held complemented: χ then takes five complements a round, and not 25.
+// six lanes are held complemented: χ then takes five complements a round, and not 25. The parities of the columns go from round to round with the lanes.
 ghost use mathlib.Core.Path.{_≡_};
 ghost use Prim.Native.Nat.{_<_};
 ghost use lib.ListN.{length};
@@ -7,6 +7,7 @@ ghost use Rattle.lists.specs.Tabulate.{tabulate};
 ghost use Rattle.keccak.specs.Lane.{rotl};
 ghost use Rattle.keccak.specs.Keccak as K;
 ghost use Rattle.keccak.specs.Held.{held, roundWith};
+ghost use Rattle.keccak.specs.Parities.{lanesOf, withParities, HasParities};
 
 // The lane rotated to the left by n. The mask keeps the second shift below 64 where n is 0.
 fn rotate(x: u64, n: u32) -> u64
@@ -16,28 +17,97 @@ fn rotate(x: u64, n: u32) -> u64
     (x << n) | (x >> ((64 - n) & 63))
 }
 
+// The state, and behind its 25 lanes C[0] to C[4] of θ: C[x] is the parity of each column of sheet x.
+fn with_parities(a: [u64; 25]) -> [u64; 30]
+    ensures { λ r. ⌜ r ≡ withParities a ⌝ }
+{
+    [
+        a[0],
+        a[1],
+        a[2],
+        a[3],
+        a[4],
+        a[5],
+        a[6],
+        a[7],
+        a[8],
+        a[9],
+        a[10],
+        a[11],
+        a[12],
+        a[13],
+        a[14],
+        a[15],
+        a[16],
+        a[17],
+        a[18],
+        a[19],
+        a[20],
+        a[21],
+        a[22],
+        a[23],
+        a[24],
+        a[0] ^ a[5] ^ a[10] ^ a[15] ^ a[20],
+        a[1] ^ a[6] ^ a[11] ^ a[16] ^ a[21],
+        a[2] ^ a[7] ^ a[12] ^ a[17] ^ a[22],
+        a[3] ^ a[8] ^ a[13] ^ a[18] ^ a[23],
+        a[4] ^ a[9] ^ a[14] ^ a[19] ^ a[24],
+    ]
+}
+
+// The 25 lanes.
+fn lanes(a: [u64; 30]) -> [u64; 25]
+    ensures { λ r. ⌜ r ≡ lanesOf a ⌝ }
+{
+    [
+        a[0],
+        a[1],
+        a[2],
+        a[3],
+        a[4],
+        a[5],
+        a[6],
+        a[7],
+        a[8],
+        a[9],
+        a[10],
+        a[11],
+        a[12],
+        a[13],
+        a[14],
+        a[15],
+        a[16],
+        a[17],
+        a[18],
+        a[19],
+        a[20],
+        a[21],
+        a[22],
+        a[23],
+        a[24],
+    ]
+}
+
 // θ: D[0] to D[4] of the standard, where D[x] is what θ adds to each lane of sheet x.
-fn theta_effect(a: [u64; 25]) -> [u64; 5]
+fn theta_effect(a: [u64; 30]) -> [u64; 5]
+    requires { ⌜ HasParities a ⌝ }
     ensures { λ r. ⌜ r ≡ tabulate 5 (K.effect a) ⌝ }
 {
-    let c0 = a[0] ^ a[5] ^ a[10] ^ a[15] ^ a[20];
-    let c1 = a[1] ^ a[6] ^ a[11] ^ a[16] ^ a[21];
-    let c2 = a[2] ^ a[7] ^ a[12] ^ a[17] ^ a[22];
-    let c3 = a[3] ^ a[8] ^ a[13] ^ a[18] ^ a[23];
-    let c4 = a[4] ^ a[9] ^ a[14] ^ a[19] ^ a[24];
     [
-        c4 ^ rotate(c1, 1),
-        c0 ^ rotate(c2, 1),
-        c1 ^ rotate(c3, 1),
-        c2 ^ rotate(c4, 1),
-        c3 ^ rotate(c0, 1),
+        a[29] ^ rotate(a[26], 1),
+        a[25] ^ rotate(a[27], 1),
+        a[26] ^ rotate(a[28], 1),
+        a[27] ^ rotate(a[29], 1),
+        a[28] ^ rotate(a[25], 1),
     ]
 }
 
 // A round with the round constant k, plane by plane, of the state that `a` holds: θ, ρ and π at once, where each lane has its D[x] added and is rotated
-// by its offset; then χ, by De Morgan's laws where lanes are complemented; and ι.
-fn round(a: [u64; 25], k: u64) -> [u64; 25]
-    ensures { λ r. ⌜ r ≡ held (roundWith (held a) k) ⌝ }
+// by its offset; then χ, by De Morgan's laws where lanes are complemented; and ι. The parities of the next round are summed here, while the planes are
+// at hand. The planes come in an order that leaves the compiler the fewest copies of lanes: another one is right too.
+fn round(a: [u64; 30], k: u64) -> [u64; 30]
+    requires { ⌜ HasParities a ⌝ }
+    ensures { λ r. ⌜ r ≡ withParities (held (roundWith (held a) k)) ⌝ }
 {
     let d = theta_effect(a);
     let d0 = d[0];
@@ -55,6 +125,26 @@ fn round(a: [u64; 25], k: u64) -> [u64; 25]
     let e2 = b2 ^ (b3 & b4);
     let e3 = b3 ^ (b4 | b0);
     let e4 = b4 ^ (b0 & b1);
+    let b20 = rotate(a[2] ^ d2, 62);
+    let b21 = rotate(a[8] ^ d3, 55);
+    let b22 = rotate(a[14] ^ d4, 39);
+    let b23 = rotate(a[15] ^ d0, 41);
+    let b24 = rotate(a[21] ^ d1, 2);
+    let e20 = b20 ^ (!b21 & b22);
+    let e21 = !b21 ^ (b22 | b23);
+    let e22 = b22 ^ (b23 & b24);
+    let e23 = b23 ^ (b24 | b20);
+    let e24 = b24 ^ (b20 & b21);
+    let b15 = rotate(a[4] ^ d4, 27);
+    let b16 = rotate(a[5] ^ d0, 36);
+    let b17 = rotate(a[11] ^ d1, 10);
+    let b18 = rotate(a[17] ^ d2, 15);
+    let b19 = rotate(a[23] ^ d3, 56);
+    let e15 = b15 ^ (b16 & b17);
+    let e16 = b16 ^ (b17 | b18);
+    let e17 = b17 ^ (!b18 | b19);
+    let e18 = !b18 ^ (b19 & b15);
+    let e19 = b19 ^ (b15 | b16);
     let b5 = rotate(a[3] ^ d3, 28);
     let b6 = rotate(a[9] ^ d4, 20);
     let b7 = rotate(a[10] ^ d0, 3);
@@ -75,26 +165,6 @@ fn round(a: [u64; 25], k: u64) -> [u64; 25]
     let e12 = b12 ^ (!b13 & b14);
     let e13 = !b13 ^ (b14 | b10);
     let e14 = b14 ^ (b10 & b11);
-    let b15 = rotate(a[4] ^ d4, 27);
-    let b16 = rotate(a[5] ^ d0, 36);
-    let b17 = rotate(a[11] ^ d1, 10);
-    let b18 = rotate(a[17] ^ d2, 15);
-    let b19 = rotate(a[23] ^ d3, 56);
-    let e15 = b15 ^ (b16 & b17);
-    let e16 = b16 ^ (b17 | b18);
-    let e17 = b17 ^ (!b18 | b19);
-    let e18 = !b18 ^ (b19 & b15);
-    let e19 = b19 ^ (b15 | b16);
-    let b20 = rotate(a[2] ^ d2, 62);
-    let b21 = rotate(a[8] ^ d3, 55);
-    let b22 = rotate(a[14] ^ d4, 39);
-    let b23 = rotate(a[15] ^ d0, 41);
-    let b24 = rotate(a[21] ^ d1, 2);
-    let e20 = b20 ^ (!b21 & b22);
-    let e21 = !b21 ^ (b22 | b23);
-    let e22 = b22 ^ (b23 & b24);
-    let e23 = b23 ^ (b24 | b20);
-    let e24 = b24 ^ (b20 & b21);
     [
         e0,
         e1,
@@ -121,6 +191,11 @@ fn round(a: [u64; 25], k: u64) -> [u64; 25]
         e22,
         e23,
         e24,
+        e0 ^ e20 ^ e15 ^ e5 ^ e10,
+        e1 ^ e21 ^ e16 ^ e6 ^ e11,
+        e2 ^ e22 ^ e17 ^ e7 ^ e12,
+        e3 ^ e23 ^ e18 ^ e8 ^ e13,
+        e4 ^ e24 ^ e19 ^ e9 ^ e14,
     ]
 }
 
@@ -197,13 +272,13 @@ pub fn keccak_f(a: &mut [u64; 25])
     requires { ⌜ length (now a) ≡ 25 ⌝ }
     ensures { λ _. ⌜ now (a .exit) ≡ K.keccakF (now (a .entry)) ⌝ }
 {
-    let mut s = complement_six(*a);
+    let mut s = with_parities(complement_six(*a));
     for i in 0..12 {
         for j in 0..2 {
             let t = round(s, round_constant(2 * i + j));
             s = t;
         }
     }
-    let t = complement_six(s);
+    let t = complement_six(lanes(s));
     *a = t;
 }

@@ -4,10 +4,10 @@ use mathlib.Core.List.{List, [], _∷_, _++_, map, flatten, append-assoc}
 use Prim.Native.Nat.{ℕ, zero, suc, _+_, _*_, _/_, _%_, _^_, _≤_, _<_}
 use native.Mathlib.Nat.{pow-suc, pow-zero}
 use native.Mathlib.Omega.{arith}
-use lib.ListN.{length, getD, take, drop, length-map}
-use lib.Seq.{drop-cons, drop-drop, take-take}
+use lib.ListN.{length, getD, take, drop, length-map, length-drop}
+use lib.Seq.{drop-cons, drop-drop, take-take, take-add, take-all, length-take-le}
 use Rattle.lists.specs.All.{Below, Sized}
-use Rattle.lists.specs.Number.{number}
+use Rattle.lists.specs.Number.{number, number-append}
 use Rattle.lists.specs.Maps.{getD-map-in}
 use Rattle.lists.specs.Pieces.{pieces, piece, length-pieces, pieces-at, pieces-flatten, length-flatten, drop-take}
 
@@ -80,6 +80,28 @@ unfolding flatten
 bytesOf-append [] ys = refl
 bytesOf-append (x ∷ xs) ys = ap (λ (t : Bytes). littleEndian 4 x ++ t) (bytesOf-append xs ys) ∙ sym (append-assoc (littleEndian 4 x) (bytesOf xs) (bytesOf ys))
 
+-- ---- the next bytes of a string from `at` on, or those left, as one number
+
+-- j bytes, and then k or those left
+pub bytes-split : (j k at : ℕ) (x : Bytes) → at + j ≤ length x
+    → fromBytes (take (j + k) (drop at x)) ≡ fromBytes (take j (drop at x)) + 256 ^ j * fromBytes (take k (drop (at + j) x))
+bytes-split j k at x h =
+    let fit : j ≤ length (drop at x) = omega (arith, length-drop at x) in
+    ap fromBytes (take-add j k (drop at x) ∙ ap (λ (y : Bytes). take j (drop at x) ++ take k y) (drop-drop j at x))
+    ∙ number-append 256 (take j (drop at x)) (take k (drop (at + j) x))
+    ∙ ap (λ (n : ℕ). fromBytes (take j (drop at x)) + 256 ^ n * fromBytes (take k (drop (at + j) x))) (length-take-le j (drop at x) fit)
+
+-- lo of j bytes and hi of the k after them, or of those left, put together
+pub bytes-joined : (j k at : ℕ) (x : Bytes) {r lo hi : ℕ} → at + j ≤ length x → r ≡ lo + 256 ^ j * hi → lo ≡ fromBytes (take j (drop at x))
+    → hi ≡ fromBytes (take k (drop (at + j) x)) → r ≡ fromBytes (take (j + k) (drop at x))
+bytes-joined j k at x h e low high = e ∙ ap₂ (λ (l m : ℕ). l + 256 ^ j * m) low high ∙ sym (bytes-split j k at x h)
+
+-- where at most j are left, no more than j are taken
+pub bytes-left : (j k at : ℕ) (x : Bytes) → length x ≤ at + j → j ≤ k → fromBytes (take k (drop at x)) ≡ fromBytes (take j (drop at x))
+bytes-left j k at x h l =
+    let few : length (drop at x) ≤ j = omega (arith, length-drop at x) in
+    ap fromBytes (take-all k (drop at x) (omega arith) ∙ sym (take-all j (drop at x) few))
+
 -- ---- single words
 
 pub words-at : (n i : ℕ) (x : Bytes) → i < n → getD (words n x) i 0 ≡ fromBytes (piece 4 i x)
@@ -89,25 +111,18 @@ words-at n i x l =
 pub word-from : (n at i : ℕ) (x : Bytes) → i < n → getD (words n (drop at x)) i 0 ≡ fromBytes (take 4 (drop (at + 4 * i) x))
 word-from n at i x l = words-at n i (drop at x) l ∙ ap (λ (y : Bytes). fromBytes (take 4 y)) (drop-drop (4 * i) at x)
 
-pub four-bytes : (a : ℕ) (x : Bytes) → a + 4 ≤ length x
-    → fromBytes (take 4 (drop a x)) ≡ getD x a 0 + 256 * (getD x (a + 1) 0 + 256 * (getD x (a + 2) 0 + 256 * (getD x (a + 3) 0 + 256 * 0)))
+pub one-byte : (a : ℕ) (x : Bytes) → a < length x → fromBytes (take 1 (drop a x)) ≡ getD x a 0
 unfolding number
-four-bytes a x l =
-    let e₁ : suc a ≡ a + 1 = omega arith in
-    let e₂ : suc (a + 1) ≡ a + 2 = omega arith in
-    let e₃ : suc (a + 2) ≡ a + 3 = omega arith in
-    ap (λ (y : Bytes). fromBytes (take 4 y))
-    (drop-cons x a 0 (omega arith)
-    ∙ ap (λ (y : Bytes). getD x a 0 ∷ y) (ap (λ (k : ℕ). drop k x) e₁ ∙ drop-cons x (a + 1) 0 (omega arith)
-    ∙ ap (λ (y : Bytes). getD x (a + 1) 0 ∷ y) (ap (λ (k : ℕ). drop k x) e₂ ∙ drop-cons x (a + 2) 0 (omega arith)
-    ∙ ap (λ (y : Bytes). getD x (a + 2) 0 ∷ y) (ap (λ (k : ℕ). drop k x) e₃ ∙ drop-cons x (a + 3) 0 (omega arith)))))
+one-byte a x l = ap (λ (y : Bytes). fromBytes (take 1 y)) (drop-cons x a 0 l) ∙ omega arith
 
 pub two-bytes : (a : ℕ) (x : Bytes) → a + 2 ≤ length x → fromBytes (take 2 (drop a x)) ≡ getD x a 0 + 256 * (getD x (a + 1) 0 + 256 * 0)
-unfolding number
-two-bytes a x l =
-    let e₁ : suc a ≡ a + 1 = omega arith in
-    ap (λ (y : Bytes). fromBytes (take 2 y))
-    (drop-cons x a 0 (omega arith) ∙ ap (λ (y : Bytes). getD x a 0 ∷ y) (ap (λ (k : ℕ). drop k x) e₁ ∙ drop-cons x (a + 1) 0 (omega arith)))
+two-bytes a x l = omega (arith, bytes-split 1 1 a x (omega arith), one-byte a x (omega arith), one-byte (a + 1) x (omega arith))
+
+pub four-bytes : (a : ℕ) (x : Bytes) → a + 4 ≤ length x
+    → fromBytes (take 4 (drop a x)) ≡ getD x a 0 + 256 * (getD x (a + 1) 0 + 256 * (getD x (a + 2) 0 + 256 * (getD x (a + 3) 0 + 256 * 0)))
+four-bytes a x l =
+    let last : getD x (a + 2 + 1) 0 ≡ getD x (a + 3) 0 = let e : a + 2 + 1 ≡ a + 3 = omega arith in ap (λ (i : ℕ). getD x i 0) e in
+    omega (arith, bytes-split 2 2 a x (omega arith), two-bytes a x (omega arith), two-bytes (a + 2) x (omega arith), last)
 
 -- words of a piece that holds them all
 pub words-of-piece : (n : ℕ) (x : Bytes) → words n (take (4 * n) x) ≡ words n x

@@ -1,13 +1,13 @@
 -- Lists given by a function of the place, and what a loop leaves that writes a list from the front.
 use mathlib.Core.Path.{_≡_, refl, sym, ap, ap₂, _∙_}
 use mathlib.Core.List.{List, [], _∷_, _++_, append-nil}
-use Prim.Native.Nat.{ℕ, zero, suc, _+_, _<_, _≤_}
+use Prim.Native.Nat.{ℕ, zero, suc, _+_, _<_}
 use native.Mathlib.Decide.{ℕ-discrete}
 use native.Mathlib.Nat.{add-zero, zero-add, suc-add, add-suc, le-of-suc-le-suc, not-suc-le-zero}
 use native.Mathlib.Numerals.{add-one}
 use native.Mathlib.Omega.{arith}
-use lib.ListN.{length, getD, take, drop, set, length-set, length-drop}
-use lib.Seq.{drop-cons, drop-length, getD-at, set-at, append-snoc, ext-getD, getD-take, getD-drop, getD-set-same, getD-set-other, length-take-le}
+use lib.ListN.{length, getD, drop, set, length-set}
+use lib.Seq.{drop-cons, drop-length, getD-at, set-at, append-snoc, ext-getD, getD-set-same, getD-set-other}
 
 -- f i, f (i + 1), .., f (i + n - 1)
 abbrev pub tabulateFrom : ℕ → ℕ → (ℕ → ℕ) → List ℕ
@@ -52,13 +52,6 @@ tabulate-is n f s e h =
 
 pub tabulate-ext : (n : ℕ) (f g : ℕ → ℕ) → ((k : ℕ) → k < n → f k ≡ g k) → tabulate n f ≡ tabulate n g
 tabulate-ext n f g h = tabulate-is n g (tabulate n f) (length-tabulate n f) (λ k b. getD-tabulate n f k b ∙ h k b)
-
--- n elements of s from `at` on
-pub run-of : (s : List ℕ) (n at : ℕ) → at + n ≤ length s → take n (drop at s) ≡ tabulate n (λ k. getD s (at + k) 0)
-run-of s n at h =
-    let fit : n ≤ length (drop at s) = rw (length-drop at s) (omega arith) in
-    tabulate-is n (λ k. getD s (at + k) 0) (take n (drop at s)) (length-take-le n (drop at s) fit)
-    (λ k b. getD-take n (drop at s) k 0 b ∙ getD-drop at s k 0)
 
 -- entry k set to v
 pub set-tabulate : (n k v : ℕ) (f g : ℕ → ℕ) → k < n → g k ≡ v → ((j : ℕ) → (j ≡ k → ⊥) → f j ≡ g j) → set (tabulate n f) k v ≡ tabulate n g

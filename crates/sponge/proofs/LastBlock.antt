@@ -1,79 +1,23 @@
--- Blocks of the padded string: one that the string fills, and the last one, made from the string's own words by two exclusive ors.
+-- The last block of the padded string, made from the words that the string has of it by two exclusive ors. m is what the string has of the block.
 use mathlib.Core.Path.{_≡_, refl, sym, ap, ap₂, _∙_}
 use mathlib.Core.Bool.{Bool, cond}
 use mathlib.Core.List.{List, _++_}
 use mathlib.Core.Logic.{⊎-elim}
-use Prim.Native.Nat.{ℕ, zero, suc, _+_, _-_, _*_, _/_, _%_, _^_, _<_, _≤_}
-use native.Mathlib.Nat.{add-zero, add-comm, add-assoc, mul-comm, mul-add, mul-left-comm}
-use native.Mathlib.Numerals.{add-one}
+use Prim.Native.Nat.{ℕ, suc, _+_, _-_, _*_, _/_, _%_, _^_, _<_, _≤_}
+use native.Mathlib.Nat.{add-comm, add-assoc, mul-comm, mul-add, mul-left-comm}
 use native.Mathlib.Omega.{arith}
 use lib.Bits.{bitXor, xor-zero-r, xor-comm, xor-shifted}
 use lib.Dec.{eqb, lit<}
-use lib.ListN.{length, getD, set, take, drop, length-append, length-drop, List·getD-append}
+use lib.ListN.{length, getD, set, take, drop, List·getD-append}
 use lib.Pow.{pow-add, pow-mono, shl-exact}
-use lib.Seq.{set-append-left, set-getD}
+use lib.Seq.{set-append-left}
 use borrow.Author.Tests.{eq-eqb, ne-eqb}
-use Rattle.lists.specs.Tabulate.{tabulate, length-tabulate, getD-tabulate, tabulate-ext, set-tabulate, filled, fill-more, fill-kept}
+use Rattle.lists.specs.Tabulate.{tabulate, length-tabulate, getD-tabulate, tabulate-ext, set-tabulate}
 use Rattle.lists.specs.Number.{number, order}
 use Rattle.sponge.specs.Shake.{padded, word, xorBlock}
 use Rattle.sponge.proofs.Padding.{padding, padded-is, padding-front, padding-whole, padding-middle, padding-end}
 use Rattle.sponge.proofs.Appended.{word-before, word-across, word-after, word-past, word-lt, pow-bytes}
 use Rattle.keccak.specs.Xor.{xor-assoc}
-
--- a state of 25 lanes has 25 after a block
-pub length-xorBlock : (a p : List ℕ) (at : ℕ) → length a ≡ 25 → length (xorBlock a p at) ≡ 25
-unfolding xorBlock
-length-xorBlock a p at h =
-    let f : ℕ → ℕ = λ j. bitXor (getD a j 0) (word p (at + 8 * j)) in
-    let size : length (xorBlock a p at) ≡ 17 + length (drop 17 a) = length-append (tabulate 17 f) (drop 17 a) in
-    omega (arith, size, length-drop 17 a)
-
--- a block that the string fills
-pub full-block : (a m : List ℕ) (at : ℕ) → at + 136 ≤ length m → xorBlock a m at ≡ xorBlock a (padded m) at
-unfolding xorBlock
-full-block a m at h =
-    let p : List ℕ = padding (136 - length m % 136) in
-    ap (λ (l : List ℕ). l ++ drop 17 a)
-    (tabulate-ext 17 (λ j. bitXor (getD a j 0) (word m (at + 8 * j))) (λ j. bitXor (getD a j 0) (word (m ++ p) (at + 8 * j)))
-    (λ j b. ap (bitXor (getD a j 0)) (sym (word-before m p (at + 8 * j) (omega arith)))))
-    ∙ ap (λ (l : List ℕ). xorBlock a l at) (sym (padded-is m))
-
--- ---- a block that the string ends in, from its words alone
-
--- what lane j becomes
-unfoldable pub xored : List ℕ → List ℕ → ℕ → ℕ → ℕ
-xored a s at j = bitXor (getD a j 0) (word s (at + 8 * j))
-
--- a lane past the string stays
-kept : (a s : List ℕ) (at j : ℕ) → length s ≤ at + 8 * j → getD a j 0 ≡ xored a s at j
-unfolding xored
-kept a s at j h = sym (ap (bitXor (getD a j 0)) (word-past s (at + 8 * j) h) ∙ xor-zero-r (getD a j 0))
-
-past-end : (a s : List ℕ) (at n k : ℕ) → length s ≤ at + 8 * n → n + k ≤ length a → filled (xored a s at) n a ≡ filled (xored a s at) (n + k) a
-past-end a s at n zero h b = ap (λ (i : ℕ). filled (xored a s at) i a) (sym (add-zero n))
-past-end a s at n (suc k) h b =
-    let i : ℕ = n + k in
-    let inside : i < length a = omega arith in
-    past-end a s at n k h (omega arith)
-    ∙ sym (set-getD (filled (xored a s at) i a) i 0)
-    ∙ ap (set (filled (xored a s at) i a) i) (fill-kept (xored a s at) i a inside ∙ kept a s at i (omega arith))
-    ∙ fill-more (xored a s at) i a inside
-    ∙ ap (λ (j : ℕ). filled (xored a s at) j a) (add-assoc n k 1 ∙ ap (λ (j : ℕ). n + j) (add-one k))
-
--- the string's full words from `at` on, and then the one word that is not full
-pub short-block : (a s b d : List ℕ) (at : ℕ) → length a ≡ 25 → at ≤ length s → length s < at + 136
-    → b ≡ filled (xored a s at) ((length s - at) / 8) a
-    → d ≡ set b ((length s - at) / 8) (bitXor (getD b ((length s - at) / 8) 0) (word s (at + 8 * ((length s - at) / 8))))
-    → d ≡ xorBlock a s at
-unfolding xorBlock xored
-short-block a s b d at size low high e step =
-    let n : ℕ = (length s - at) / 8 in
-    let inside : n < length a = omega arith in
-    let rest : n + 1 + (16 - n) ≡ 17 = omega arith in
-    step
-    ∙ rw (e, fill-kept (xored a s at) n a inside) (fill-more (xored a s at) n a inside)
-    ∙ past-end a s at (n + 1) (16 - n) (omega arith) (omega arith)
-    ∙ ap (λ (k : ℕ). filled (xored a s at) k a) rest
 
 -- ---- the two exclusive ors: 0x1f after the string's last byte, and the last bit of the block
 
@@ -108,13 +52,13 @@ here k c j e = ap (λ (b : Bool). cond b c 0) (eq-eqb j k e)
 elsewhere : (k c j : ℕ) → (j ≡ k → ⊥) → only k c j ≡ 0
 elsewhere k c j h = ap (λ (b : Bool). cond b c 0) (ne-eqb j k h)
 
--- ---- word j of the last block of m, which has n bytes of m
-module _ (m : List ℕ) (at j : ℕ) (bytes : (i : ℕ) → getD m i 0 < 256) (low : at ≤ length m) (high : length m < at + 136) (rate : j < 17) where
+-- ---- word j of the block
+module _ (m : List ℕ) (j : ℕ) (bytes : (i : ℕ) → getD m i 0 < 256) (high : length m < 136) (rate : j < 17) where
   abbrev n : ℕ
-  n = length m - at
+  n = length m
 
   abbrev q : ℕ
-  q = at + 8 * j
+  q = 0 + 8 * j
 
   abbrev suffix : ℕ
   suffix = 31 * 2 ^ (n % 8 * 8) % 2 ^ 64
@@ -207,25 +151,25 @@ xor-entry f n k c d b =
     ∙ set-append-left (tabulate n f) d k (bitXor (f k) c) inside
     ∙ ap (λ (l : List ℕ). l ++ d) (set-tabulate n k (bitXor (f k) c) f g b there other)
 
--- the bytes that are left, and then 0x1f and the last bit: the last block of the padded string
-pub last-block : (a m : List ℕ) (at : ℕ) → ((i : ℕ) → getD m i 0 < 256) → at ≤ length m → length m < at + 136 → at % 136 ≡ 0
-    → (let n = length m - at in let b = xorBlock a m at in
+-- the string's words, and then 0x1f and the last bit
+pub last-block : (a m : List ℕ) → ((i : ℕ) → getD m i 0 < 256) → length m < 136
+    → (let n = length m in let b = xorBlock a m 0 in
     let c = set b (n / 8) (bitXor (getD b (n / 8) 0) (31 * 2 ^ (n % 8 * 8) % 2 ^ 64)) in
-    set c 16 (bitXor (getD c 16 0) (2 ^ 63)) ≡ xorBlock a (padded m) at)
+    set c 16 (bitXor (getD c 16 0) (2 ^ 63)) ≡ xorBlock a (padded m) 0)
 unfolding xorBlock
-last-block a m at bytes low high whole =
-    let n : ℕ = length m - at in
+last-block a m bytes high =
+    let n : ℕ = length m in
     let x : ℕ = 31 * 2 ^ (n % 8 * 8) % 2 ^ 64 in
-    let f : ℕ → ℕ = λ j. bitXor (getD a j 0) (word m (at + 8 * j)) in
+    let f : ℕ → ℕ = λ j. bitXor (getD a j 0) (word m (0 + 8 * j)) in
     let g : ℕ → ℕ = λ j. bitXor (f j) (only (n / 8) x j) in
     let size : 136 - length m % 136 ≡ suc (135 - n) = omega arith in
     let p : List ℕ = m ++ padding (suc (135 - n)) in
     ap (λ (l : List ℕ). set l 16 (bitXor (getD l 16 0) (2 ^ 63))) (xor-entry f 17 (n / 8) x (drop 17 a) (omega arith))
     ∙ xor-entry g 17 16 (2 ^ 63) (drop 17 a) (lit< tt)
     ∙ ap (λ (l : List ℕ). l ++ drop 17 a)
-    (tabulate-ext 17 (λ j. bitXor (g j) (only 16 (2 ^ 63) j)) (λ j. bitXor (getD a j 0) (word p (at + 8 * j)))
+    (tabulate-ext 17 (λ j. bitXor (g j) (only 16 (2 ^ 63) j)) (λ j. bitXor (getD a j 0) (word p (0 + 8 * j)))
     (λ i b.
-    ap (λ (y : ℕ). bitXor y (only 16 (2 ^ 63) i)) (xor-assoc (getD a i 0) (word m (at + 8 * i)) (only (n / 8) x i))
-    ∙ xor-assoc (getD a i 0) (bitXor (word m (at + 8 * i)) (only (n / 8) x i)) (only 16 (2 ^ 63) i)
-    ∙ ap (bitXor (getD a i 0)) (sym (padded-word m at i bytes low high b))))
-    ∙ ap (λ (l : List ℕ). xorBlock a l at) (sym (padded-is m ∙ ap (λ (k : ℕ). m ++ padding k) size))
+    ap (λ (y : ℕ). bitXor y (only 16 (2 ^ 63) i)) (xor-assoc (getD a i 0) (word m (0 + 8 * i)) (only (n / 8) x i))
+    ∙ xor-assoc (getD a i 0) (bitXor (word m (0 + 8 * i)) (only (n / 8) x i)) (only 16 (2 ^ 63) i)
+    ∙ ap (bitXor (getD a i 0)) (sym (padded-word m i bytes high b))))
+    ∙ ap (λ (l : List ℕ). xorBlock a l 0) (sym (padded-is m ∙ ap (λ (k : ℕ). m ++ padding k) size))

@@ -1,3 +1,5 @@
 pub mod Appended
 pub mod Padding
+pub mod Steps
+pub mod Blocks
 pub mod LastBlock

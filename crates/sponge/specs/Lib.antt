@@ -1,2 +1,3 @@
 pub mod Shake
+pub mod Step
 pub mod Digest

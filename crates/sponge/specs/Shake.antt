@@ -29,7 +29,7 @@ padded m = m ++ octets (length (added (length m)) / 8) (added (length m))
 
 -- ---- section 4, algorithm 8: SPONGE[KECCAK-f[1600], pad10*1, 1088]
 
--- the eight bytes of p from `at` on, or those left, as a lane (section 3.1.2)
+-- the next eight bytes of p from `at` on, or those left, as one number: a lane (section 3.1.2)
 unfoldable pub word : List ℕ → ℕ → ℕ
 word p at = number 256 (take 8 (drop at p))
 

@@ -1,60 +1,48 @@
 // SHAKE256 of FIPS 202, cut to 32 bytes.
 ghost use mathlib.Core.Path.{_≡_};
-ghost use Prim.Native.Nat.{_+_, _*_, _/_, _%_, _<_, _≤_};
-ghost use lib.Bits.{bitXor};
-ghost use lib.ListN.{length, getD, set, take};
-ghost use Rattle.lists.specs.Tabulate.{filled};
+ghost use Prim.Native.Nat.{_≤_, _<_, _/_};
+ghost use lib.ListN.{length, take};
 ghost use Rattle.sponge.specs.Shake as S;
+ghost use Rattle.sponge.specs.Step as W;
 ghost use Rattle.sponge.specs.Digest as D;
 
 mod words; // words.rt: bytes as lanes
 
-// One lane ⊕ the eight bytes from `at` on.
-fn xor_full_word(a: &mut [u64; 25], lane: usize, s: &[u8], at: usize)
-    requires { ⌜ (lane < 25) × (at + 8 ≤ length (now s)) ⌝ }
-    ensures { λ _. ⌜ now (a .exit) ≡ set (now (a .entry)) lane (bitXor (getD (now (a .entry)) lane 0) (S.word (now (s .entry)) at)) ⌝ }
-{
-    let w = words::full_word(s, at);
-    a[lane] = a[lane] ^ w;
-}
+const RATE: usize = 136; // bytes of a block
 
-// One lane ⊕ the eight bytes from `at` on, or those left.
+// The step by which every string goes in: one lane ⊕ the next eight bytes from `at` on, or those left, as one number; all others unchanged.
 fn xor_word(a: &mut [u64; 25], lane: usize, s: &[u8], at: usize)
-    requires { ⌜ lane < 25 ⌝ }
-    ensures { λ _. ⌜ now (a .exit) ≡ set (now (a .entry)) lane (bitXor (getD (now (a .entry)) lane 0) (S.word (now (s .entry)) at)) ⌝ }
+    requires { ⌜ (lane < 25) × (at ≤ length (now s)) ⌝ }
+    ensures { λ _. ⌜ now (a .exit) ≡ W.xorWord (now (a .entry)) lane (now (s .entry)) at ⌝ }
 {
     let w = words::word(s, at);
     a[lane] = a[lane] ^ w;
 }
 
-// The first n lanes ⊕ the 8 n bytes from `at` on.
-fn xor_words(a: &mut [u64; 25], s: &[u8], at: usize, n: usize)
-    requires { ⌜ (length (now a) ≡ 25) × (n ≤ 17) × (at + 8 * n ≤ length (now s)) ⌝ }
-    ensures { λ _. ⌜ now (a .exit) ≡ filled (λ j. bitXor (getD (now (a .entry)) j 0) (S.word (now (s .entry)) (at + 8 * j))) n (now (a .entry)) ⌝ }
+// The lanes of the rate ⊕ the bytes of a block, or of what the string has of it: full words, and then those left. Full words cost no test of their own:
+// the loop's test is that of `word`, and of a whole block the compiler knows the length.
+fn xor_words(a: &mut [u64; 25], s: &[u8])
+    requires { ⌜ (length (now a) ≡ 25) × (length (now s) ≤ 136) ⌝ }
+    ensures { λ _. ⌜ now (a .exit) ≡ S.xorBlock (now (a .entry)) (now (s .entry)) 0 ⌝ }
 {
-    for j in 0..n {
-        xor_full_word(a, j, s, at + 8 * j);
+    let mut lane: usize = 0;
+    while 8 <= s.len() - 8 * lane {
+        xor_word(a, lane, s, 8 * lane);
+        lane += 1;
     }
+    let left = 8 * lane;
+    xor_word(a, lane, s, left);
 }
 
-// The lanes of the rate ⊕ the 136 bytes from `at` on.
-fn xor_block(a: &mut [u64; 25], s: &[u8], at: usize)
-    requires { ⌜ (length (now a) ≡ 25) × (at + 136 ≤ length (now s)) ⌝ }
-    ensures { λ _. ⌜ now (a .exit) ≡ S.xorBlock (now (a .entry)) (now (s .entry)) at ⌝ }
+// The lanes of the rate ⊕ the last block of the padded string, of which the string itself has the bytes s. The padding goes straight into the state:
+// 0x1f is SHAKE's suffix 1111 and the padding's first bit, and bit 63 of the rate's last lane is the padding's last bit.
+fn xor_last_block(a: &mut [u64; 25], s: &[u8])
+    requires { ⌜ (length (now a) ≡ 25) × (length (now s) < 136) ⌝ }
+    ensures { λ _. ⌜ now (a .exit) ≡ S.xorBlock (now (a .entry)) (S.padded (now (s .entry))) 0 ⌝ }
 {
-    xor_words(a, s, at, 17);
-}
-
-// The lanes of the rate ⊕ the last block of the padded string, of which the string itself fills fewer than 136 bytes. The padding goes straight into
-// the state: 0x1f is SHAKE's suffix 1111 and the padding's first bit, and bit 63 of the rate's last lane is the padding's last bit.
-fn xor_last_block(a: &mut [u64; 25], s: &[u8], at: usize)
-    requires { ⌜ (length (now a) ≡ 25) × (at ≤ length (now s)) × (length (now s) < at + 136) × (at % 136 ≡ 0) ⌝ }
-    ensures { λ _. ⌜ now (a .exit) ≡ S.xorBlock (now (a .entry)) (S.padded (now (s .entry))) at ⌝ }
-{
-    let n = s.len() - at;
+    xor_words(a, s);
+    let n = s.len();
     let lane = n / 8;
-    xor_words(a, s, at, lane);
-    xor_word(a, lane, s, at + 8 * lane);
     let shift = n % 8 * 8;
     a[lane] = a[lane] ^ (0x1f << shift);
     a[16] = a[16] ^ 0x8000_0000_0000_0000;
@@ -66,12 +54,13 @@ fn absorb(s: &[u8]) -> [u64; 25]
 {
     let mut a = [0u64; 25];
     let mut at: usize = 0;
-    while 136 <= s.len() - at {
-        xor_block(&mut a, s, at);
+    while RATE <= s.len() - at {
+        let next = at + RATE;
+        xor_words(&mut a, &s[at..next]);
         keccak::keccak_f(&mut a);
-        at += 136;
+        at = next;
     }
-    xor_last_block(&mut a, s, at);
+    xor_last_block(&mut a, &s[at..]);
     keccak::keccak_f(&mut a);
     a
 }

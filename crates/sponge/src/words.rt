@@ -1,7 +1,8 @@
-// Bytes of a string as lanes, lowest byte first.
+// Bytes of a string as one number, lowest byte first: the next eight, or those left. Those left are taken four, two and one at once.
 ghost use mathlib.Core.Path.{_≡_};
 ghost use Prim.Native.Nat.{_+_, _*_, _^_, _<_, _≤_};
-ghost use lib.ListN.{length};
+ghost use lib.ListN.{length, take, drop};
+ghost use Rattle.lists.specs.Bytes.{fromBytes};
 ghost use Rattle.sponge.specs.Shake as S;
 
 // A byte as a number of 64 bits.
@@ -19,48 +20,80 @@ fn join(lo: u64, hi: u64, k: u32) -> u64
     lo | (hi << k)
 }
 
-// Two bytes as one number.
-fn pair(lo: u8, hi: u8) -> u64
-    ensures { λ r. ⌜ (r ≡ lo + 2 ^ 8 * hi) × (r < 2 ^ 16) ⌝ }
+// The next two bytes from `at` on.
+fn two(s: &[u8], at: usize) -> u64
+    requires { ⌜ at + 2 ≤ length (now s) ⌝ }
+    ensures { λ r. ⌜ (r ≡ fromBytes (take 2 (drop at (now (s .entry))))) × (r < 2 ^ 16) ⌝ }
 {
-    join(wide(lo), wide(hi), 8)
+    let lo = wide(s[at]);
+    let hi = wide(s[at + 1]);
+    join(lo, hi, 8)
 }
 
-// The eight bytes from `at` on as one number.
-pub fn full_word(s: &[u8], at: usize) -> u64
+// The next four bytes from `at` on.
+fn four(s: &[u8], at: usize) -> u64
+    requires { ⌜ at + 4 ≤ length (now s) ⌝ }
+    ensures { λ r. ⌜ (r ≡ fromBytes (take 4 (drop at (now (s .entry))))) × (r < 2 ^ 32) ⌝ }
+{
+    let lo = two(s, at);
+    let hi = two(s, at + 2);
+    join(lo, hi, 16)
+}
+
+// The next eight bytes from `at` on.
+fn eight(s: &[u8], at: usize) -> u64
     requires { ⌜ at + 8 ≤ length (now s) ⌝ }
     ensures { λ r. ⌜ r ≡ S.word (now (s .entry)) at ⌝ }
 {
-    let a = pair(s[at], s[at + 1]);
-    let b = pair(s[at + 2], s[at + 3]);
-    let c = pair(s[at + 4], s[at + 5]);
-    let d = pair(s[at + 6], s[at + 7]);
-    join(join(a, b, 16), join(c, d, 16), 32)
+    let lo = four(s, at);
+    let hi = four(s, at + 4);
+    join(lo, hi, 32)
 }
 
-// The bytes from `at` on, fewer than eight, as one number.
-fn partial_word(s: &[u8], at: usize) -> u64
+// The bytes left from `at` on, fewer than two.
+fn under_two(s: &[u8], at: usize) -> u64
+    requires { ⌜ (at ≤ length (now s)) × (length (now s) < at + 2) ⌝ }
+    ensures { λ r. ⌜ (r ≡ fromBytes (take 2 (drop at (now (s .entry))))) × (r < 2 ^ 16) ⌝ }
+{
+    if s.len() - at < 1 {
+        return 0;
+    }
+    wide(s[at])
+}
+
+// The bytes left from `at` on, fewer than four.
+fn under_four(s: &[u8], at: usize) -> u64
+    requires { ⌜ (at ≤ length (now s)) × (length (now s) < at + 4) ⌝ }
+    ensures { λ r. ⌜ (r ≡ fromBytes (take 4 (drop at (now (s .entry))))) × (r < 2 ^ 32) ⌝ }
+{
+    if s.len() - at < 2 {
+        return under_two(s, at);
+    }
+    let lo = two(s, at);
+    let hi = under_two(s, at + 2);
+    join(lo, hi, 16)
+}
+
+// The bytes left from `at` on, fewer than eight.
+fn under_eight(s: &[u8], at: usize) -> u64
     requires { ⌜ (at ≤ length (now s)) × (length (now s) < at + 8) ⌝ }
     ensures { λ r. ⌜ r ≡ S.word (now (s .entry)) at ⌝ }
 {
-    let mut w: u64 = 0;
-    let mut i = s.len();
-    while at < i {
-        i -= 1;
-        w = w * 256 + wide(s[i]);
+    if s.len() - at < 4 {
+        return under_four(s, at);
     }
-    w
+    let lo = four(s, at);
+    let hi = under_four(s, at + 4);
+    join(lo, hi, 32)
 }
 
-// The eight bytes from `at` on, or those left, as one number.
+// The next eight bytes from `at` on, or those left.
 pub fn word(s: &[u8], at: usize) -> u64
+    requires { ⌜ at ≤ length (now s) ⌝ }
     ensures { λ r. ⌜ r ≡ S.word (now (s .entry)) at ⌝ }
 {
-    if s.len() <= at {
-        return 0;
-    }
     if s.len() - at < 8 {
-        return partial_word(s, at);
+        return under_eight(s, at);
     }
-    full_word(s, at)
+    eight(s, at)
 }

@@ -1,5 +1,5 @@
 -- `keccak::round` meets its contract: each lane that π leaves by its rotation, then each D[x] by the contract of `theta_effect`, then χ and ι on
--- the lanes that are complemented.
+-- the lanes that are complemented; and the parities.
 use mathlib.Core.Path.{refl, ap, _∙_}
 use mathlib.Core.List.{List}
 use Prim.Native.Nat.{ℕ}
@@ -7,7 +7,9 @@ use lib.Bits.{bitXor}
 use lib.ListN.{getD}
 use Rattle.keccak.specs.Keccak.{state, lane, rho, pi}
 use Rattle.keccak.proofs.Literal.{cons}
+use Rattle.keccak.specs.Held.{held, roundWith}
 use Rattle.keccak.proofs.Chi.{fewComplements, round-held}
+use Rattle.keccak.proofs.Carried.{carried, carried-is}
 use borrow.Author.Needs.{needs}
 use Rattle.keccak.proofs.round.Statement.{statement}
 use Rattle.keccak.proofs.round.Tie as tie
@@ -42,22 +44,12 @@ returns c =
     let c0 = c1 .before in
     let a = c0 .before .args .t1 in
     let k = c0 .before .args .k in
-    ap (λ (b : List ℕ). fewComplements b k)
+    ap (λ (b : List ℕ). carried (fewComplements b k))
     ((cons (c1 .rotate .ensures)
     (cons (c2 .rotate2 .ensures)
     (cons (c3 .rotate3 .ensures)
     (cons (c4 .rotate4 .ensures)
     (cons (c5 .rotate5 .ensures)
-    (cons (c6 .rotate6 .ensures)
-    (cons (c7 .rotate7 .ensures)
-    (cons (c8 .rotate8 .ensures)
-    (cons (c9 .rotate9 .ensures)
-    (cons (c10 .rotate10 .ensures)
-    (cons (c11 .rotate11 .ensures)
-    (cons (c12 .rotate12 .ensures)
-    (cons (c13 .rotate13 .ensures)
-    (cons (c14 .rotate14 .ensures)
-    (cons (c15 .rotate15 .ensures)
     (cons (c16 .rotate16 .ensures)
     (cons (c17 .rotate17 .ensures)
     (cons (c18 .rotate18 .ensures)
@@ -68,9 +60,20 @@ returns c =
     (cons (c23 .rotate23 .ensures)
     (cons (c24 .rotate24 .ensures)
     (cons (c25 .rotate25 .ensures)
+    (cons (c11 .rotate11 .ensures)
+    (cons (c12 .rotate12 .ensures)
+    (cons (c13 .rotate13 .ensures)
+    (cons (c14 .rotate14 .ensures)
+    (cons (c15 .rotate15 .ensures)
+    (cons (c6 .rotate6 .ensures)
+    (cons (c7 .rotate7 .ensures)
+    (cons (c8 .rotate8 .ensures)
+    (cons (c9 .rotate9 .ensures)
+    (cons (c10 .rotate10 .ensures)
     refl)))))))))))))))))))))))))
     ∙ ap (λ (d : List ℕ). pi (rho (state (λ x y. bitXor (lane a x y) (getD d x 0))))) (c0 .theta-effect .ensures))
-    ∙ round-held a k
+    ∙ ap carried (round-held a k)
+    ∙ carried-is (held (roundWith (held a) k))
 
 pub round-spec : {M : Type 1} → statement M
 round-spec =

@@ -1,8 +1,9 @@
 -- `keccak::theta_effect` meets its contract.
-use mathlib.Core.Path.{refl, ap}
+use mathlib.Core.Path.{refl, ap, _∙_}
 use lib.Bits.{bitXor}
-use Rattle.keccak.specs.Keccak.{parity}
+use lib.ListN.{getD}
 use Rattle.keccak.proofs.Literal.{cons}
+use Rattle.keccak.proofs.Carried.{effect-by}
 use borrow.Author.Needs.{needs}
 use Rattle.keccak.proofs.theta_effect.Statement.{statement}
 use Rattle.keccak.proofs.theta_effect.Tie as tie
@@ -14,21 +15,19 @@ returns c =
     let c3 = c4 .before in
     let c2 = c3 .before in
     let c1 = c2 .before in
-    (cons (ap (bitXor (parity (c1 .before .args .t1) 4)) (c1 .rotate .ensures))
-    (cons (ap (bitXor (parity (c1 .before .args .t1) 0)) (c2 .rotate2 .ensures))
-    (cons (ap (bitXor (parity (c1 .before .args .t1) 1)) (c3 .rotate3 .ensures))
-    (cons (ap (bitXor (parity (c1 .before .args .t1) 2)) (c4 .rotate4 .ensures))
-    (cons (ap (bitXor (parity (c1 .before .args .t1) 3)) (c5 .rotate5 .ensures))
+    let a = c1 .before .args .t1 in
+    (cons (ap (bitXor (getD a 29 0)) (c1 .rotate .ensures))
+    (cons (ap (bitXor (getD a 25 0)) (c2 .rotate2 .ensures))
+    (cons (ap (bitXor (getD a 26 0)) (c3 .rotate3 .ensures))
+    (cons (ap (bitXor (getD a 27 0)) (c4 .rotate4 .ensures))
+    (cons (ap (bitXor (getD a 28 0)) (c5 .rotate5 .ensures))
     refl)))))
+    ∙ effect-by a (c1 .before .pre)
 
 pub theta-effect-spec : {M : Type 1} → statement M
 theta-effect-spec =
     tie.close
     (tie.spec
-    (λ c. search needs) (λ c. search needs) (λ c. search needs) (λ c. search needs) (λ c. search needs)
-    (λ c. search needs) (λ c. search needs) (λ c. search needs) (λ c. search needs) (λ c. search needs)
-    (λ c. search needs) (λ c. search needs) (λ c. search needs) (λ c. search needs) (λ c. search needs)
-    (λ c. search needs) (λ c. search needs) (λ c. search needs) (λ c. search needs) (λ c. search needs)
-    (λ c. search needs) (λ c. search needs) (λ c. search needs) (λ c. search needs) (λ c. search needs)
-    (λ c κs. search needs) (λ c κs. search needs) (λ c κs. search needs) (λ c κs. search needs) (λ c κs. search needs)
-    returns)
+    (λ c. search needs) (λ c. search needs) (λ c κs. search needs) (λ c. search needs) (λ c. search needs) (λ c κs. search needs)
+    (λ c. search needs) (λ c. search needs) (λ c κs. search needs) (λ c. search needs) (λ c. search needs) (λ c κs. search needs)
+    (λ c. search needs) (λ c. search needs) (λ c κs. search needs) returns)

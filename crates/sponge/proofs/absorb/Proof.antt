@@ -3,11 +3,12 @@ use mathlib.Core.Path.{_≡_, refl, ap, _∙_}
 use mathlib.Core.List.{List}
 use Prim.Native.Nat.{ℕ, suc, _+_, _-_, _*_, _/_, _%_, _≤_}
 use native.Mathlib.Omega.{arith}
-use lib.ListN.{length}
+use lib.ListN.{length, take, drop, length-take, length-drop}
+use Rattle.lists.specs.Parts.{span-length}
 use Rattle.keccak.specs.Keccak.{keccakF}
 use Rattle.keccak.specs.State.{length-keccakF}
 use Rattle.sponge.specs.Shake.{xorBlock, padded, absorbed}
-use Rattle.sponge.proofs.LastBlock.{length-xorBlock, full-block}
+use Rattle.sponge.proofs.Blocks.{length-xorBlock, full-block, last-padded}
 use Rattle.sponge.proofs.Padding.{length-padded}
 use Rattle.sponge.proofs.absorb.Statement.{statement}
 use Rattle.sponge.proofs.absorb.Tie as tie
@@ -30,52 +31,51 @@ loop-holds : tie.Need-loop-holds Inv-loop μ-loop
 unfolding absorbed
 loop-holds c = (refl, omega arith, refl, refl)
 
-sub-loop : tie.Need-sub-loop Inv-loop μ-loop
-sub-loop c = omega arith
-
-xor-block-requires : tie.Need-xor-block-requires Inv-loop μ-loop
-xor-block-requires c κs = (omega arith, omega arith)
+xor-words-requires : tie.Need-xor-words-requires Inv-loop μ-loop
+xor-words-requires c κs =
+    let l = c .before .before .before .loop in
+    let s = c .before .before .before .before .before .args .s .now in
+    (l .inv .0, omega (arith, span-length (l .at) 136 s (omega arith)))
 
 keccak-f-requires : tie.Need-keccak-f-requires Inv-loop μ-loop
 keccak-f-requires c κs =
-    let l = c .before .before .before .before .loop in
-    let e = c .before .before .before .before .before .before .args in
-    ap length (c .before .xor-block .ensures) ∙ length-xorBlock (l .a) (e .s .now) (l .at) (l .inv .0)
-
-add-at : tie.Need-add-at Inv-loop μ-loop
-add-at c = omega arith
-
-loop-less : tie.Need-loop-less Inv-loop μ-loop
-loop-less c = omega arith
+    let l = c .before .before .before .before .before .loop in
+    let s = c .before .before .before .before .before .before .before .args .s .now in
+    ap length (c .before .xor-words .ensures) ∙ length-xorBlock (l .a) (take (l .at + 136 - l .at) (drop (l .at) s)) 0 (l .inv .0)
 
 loop-again : tie.Need-loop-again Inv-loop μ-loop
 loop-again c =
-    let l = c .before .before .before .before .before .loop in
-    let s = c .before .before .before .before .before .before .before .args .s .now in (
-      ap length (c .keccak-f .ensures) ∙ length-keccakF (c .before .before .xor-block .last .0),
+    let l = c .before .before .before .before .before .before .loop in
+    let s = c .before .before .before .before .before .before .before .before .args .s .now in
+    let taken = c .before .before .xor-words in (
+      ap length (c .keccak-f .ensures) ∙ length-keccakF (taken .last .0),
       omega arith,
       omega arith,
       c .keccak-f .ensures
-          ∙ ap keccakF (c .before .before .xor-block .ensures ∙ full-block (l .a) s (l .at) (omega arith) ∙ ap (λ (x : List ℕ). xorBlock x (padded s) (l .at)) (l .inv .3))
+          ∙ ap keccakF (taken .ensures ∙ full-block (l .a) s (l .at) (omega arith) ∙ ap (λ (x : List ℕ). xorBlock x (padded s) (l .at)) (l .inv .3))
           ∙ next (padded s) (l .at) (l .inv .2),
     )
 
 xor-last-block-requires : tie.Need-xor-last-block-requires Inv-loop μ-loop
-xor-last-block-requires c κs = (omega arith, omega arith, omega arith, omega arith)
+xor-last-block-requires c κs =
+    let l = c .before .before .before .loop in
+    let s = c .before .before .before .before .before .args .s .now in
+    (l .inv .0, omega (arith, length-take (length s - l .at) (drop (l .at) s), length-drop (l .at) s))
 
 keccak-f-requires-2 : tie.Need-keccak-f-requires-2 Inv-loop μ-loop
 keccak-f-requires-2 c κs =
-    let l = c .before .before .before .before .loop in
-    let e = c .before .before .before .before .before .before .args in
-    ap length (c .before .xor-last-block .ensures) ∙ length-xorBlock (l .a) (padded (e .s .now)) (l .at) (l .inv .0)
+    let l = c .before .before .before .before .before .loop in
+    let s = c .before .before .before .before .before .before .before .args .s .now in
+    ap length (c .before .xor-last-block .ensures) ∙ length-xorBlock (l .a) (padded (take (length s - l .at) (drop (l .at) s))) 0 (l .inv .0)
 
 returns : tie.Need-returns Inv-loop μ-loop
 returns c =
-    let l = c .before .before .before .before .before .loop in
-    let s = c .before .before .before .before .before .before .before .args .s .now in
+    let l = c .before .before .before .before .before .before .loop in
+    let s = c .before .before .before .before .before .before .before .before .args .s .now in
     let count : (l .at + 136) / 136 ≡ length (padded s) / 136 = omega (arith, length-padded s) in
     c .keccak-f2 .ensures
-    ∙ ap keccakF (c .before .before .xor-last-block .ensures ∙ ap (λ (x : List ℕ). xorBlock x (padded s) (l .at)) (l .inv .3))
+    ∙ ap keccakF
+    (c .before .before .xor-last-block .ensures ∙ last-padded (l .a) s (l .at) (l .inv .2) (l .inv .1) ∙ ap (λ (x : List ℕ). xorBlock x (padded s) (l .at)) (l .inv .3))
     ∙ next (padded s) (l .at) (l .inv .2)
     ∙ ap (absorbed (padded s)) count
 
@@ -86,12 +86,18 @@ absorb-spec =
     Inv-loop
     μ-loop
     loop-holds
-    sub-loop
-    xor-block-requires
+    (λ c. omega arith)
+    (λ c. omega arith)
+    (λ c. omega arith)
+    (λ c. omega arith)
+    (λ c. omega arith)
+    xor-words-requires
     keccak-f-requires
-    add-at
-    loop-less
+    (λ c. omega arith)
     loop-again
+    (λ c. omega arith)
+    (λ c. omega arith)
+    (λ c. omega arith)
     xor-last-block-requires
     keccak-f-requires-2
     returns)

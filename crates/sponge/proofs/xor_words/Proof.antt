@@ -1,47 +1,49 @@
--- `sponge::xor_words` meets its contract: after j turns the first j lanes have their words, and the others are as they were.
-use mathlib.Core.Path.{_≡_, refl, ap, _∙_}
+-- `sponge::xor_words` meets its contract: before each turn as many steps are taken as there are lanes passed.
+use mathlib.Core.Path.{_≡_, refl, sym, ap, _∙_}
 use mathlib.Core.List.{List}
-use Prim.Native.Nat.{ℕ, _+_, _-_, _*_, _<_, _≤_}
+use Prim.Native.Nat.{ℕ, _+_, _-_, _*_, _≤_}
+use native.Mathlib.Nat.{zero-add}
+use native.Mathlib.Numerals.{add-one}
 use native.Mathlib.Omega.{arith}
-use lib.Bits.{bitXor}
-use lib.ListN.{length, getD, set}
-use Rattle.sponge.specs.Shake.{word}
-use Rattle.lists.specs.Tabulate.{filled, fill-more, fill-kept}
-use Rattle.sponge.proofs.LastBlock.{xored}
+use lib.ListN.{length}
+use Rattle.sponge.specs.Step.{xorWord, xorWords}
+use Rattle.sponge.proofs.Steps.{block-taken}
 use Rattle.sponge.proofs.xor_words.Statement.{statement}
 use Rattle.sponge.proofs.xor_words.Tie as tie
 
--- a turn of the loop
-turn : (a s b d : List ℕ) (at j : ℕ) → j < length a → b ≡ filled (xored a s at) j a
-    → d ≡ set b j (bitXor (getD b j 0) (word s (at + 8 * j))) → d ≡ filled (xored a s at) (j + 1) a
-unfolding xored
-turn a s b d at j h e step = step ∙ rw (e, fill-kept (xored a s at) j a h) (fill-more (xored a s at) j a h)
+-- a step more
+turn : (a s b d : List ℕ) (lane : ℕ) → b ≡ xorWords lane a s 0 → d ≡ xorWord b lane s (8 * lane) → d ≡ xorWords (lane + 1) a s 0
+unfolding xorWords
+turn a s b d lane e step =
+    step
+    ∙ ap (λ (t : List ℕ). xorWord t lane s (8 * lane)) e
+    ∙ ap (xorWord (xorWords lane a s 0) lane s) (sym (zero-add (8 * lane)))
+    ∙ ap (λ (n : ℕ). xorWords n a s 0) (sym (add-one lane))
 
 abbrev Inv-loop : tie.InvT-loop
-Inv-loop a₀ s at n j₀ a j = (j ≤ n) × (a ≡ filled (xored a₀ s at) j a₀)
+Inv-loop a₀ s lane₀ a lane = (8 * lane ≤ length s) × (a ≡ xorWords lane a₀ s 0)
 
 abbrev μ-loop : tie.MeasureT-loop
-μ-loop a₀ s at n j₀ a j = n - j
+μ-loop a₀ s lane₀ a lane = length s - 8 * lane
 
 loop-holds : tie.Need-loop-holds Inv-loop μ-loop
+unfolding xorWords
 loop-holds c = (omega arith, refl)
 
 loop-again : tie.Need-loop-again Inv-loop μ-loop
 loop-again c =
     let l = c .before .before .before .loop in
-    let e = c .before .before .before .before .before in
-    let inside : l .j < length (e .args .a .now) = omega (arith, e .pre .0) in (
-      omega arith,
-      turn (e .args .a .now) (e .args .s .now) (l .a) (c .xor-full-word .last .0) (e .args .at) (l .j) inside (l .inv .1) (c .xor-full-word .ensures),
-    )
+    let e = c .before .before .before .before .before .args in
+    (omega arith, turn (e .a .now) (e .s .now) (l .a) (c .xor-word .last .0) (l .lane) (l .inv .1) (c .xor-word .ensures))
 
 returns : tie.Need-returns Inv-loop μ-loop
-unfolding xored
 returns c =
-    let l = c .before .loop in
-    let a = c .before .before .before .args in
-    let all : l .j ≡ a .n = omega arith in
-    l .inv .1 ∙ ap (λ (k : ℕ). filled (xored (a .a .now) (a .s .now) (a .at)) k (a .a .now)) all
+    let l = c .before .before .before .loop in
+    let e = c .before .before .before .before .before in
+    let a = e .args .a .now in
+    let s = e .args .s .now in
+    turn a s (l .a) (c .xor-word2 .last .0) (l .lane) (l .inv .1) (c .xor-word2 .ensures)
+    ∙ block-taken (l .lane + 1) a s (e .pre .0) (e .pre .1) (omega arith)
 
 pub xor-words-spec : {M : Type 1} → statement M
 xor-words-spec =
@@ -52,8 +54,11 @@ xor-words-spec =
     loop-holds
     (λ c. omega arith)
     (λ c. omega arith)
+    (λ c. omega arith)
     (λ c κs. (omega arith, omega arith))
     (λ c. omega arith)
     (λ c. omega arith)
     loop-again
+    (λ c. omega arith)
+    (λ c κs. (omega arith, omega arith))
     returns)
