@@ -8,8 +8,8 @@ from itertools import combinations
 
 import smallwood as S
 from drafts import (
-    LAST_WORD, Draft, Lent, Source, allowed, ask, border_sizes, case_p, committed, drawn_question, lend, name,
-    outputs, prefill, random_commitment, reply_buffer, small_drafts, true_values,
+    LAST_WORD, Draft, Lent, Source, allowed, ask, border_sizes, case_p, committed, drawn_question, leaf_sizes, lend,
+    name, outputs, prefill, random_commitment, reply_buffer, small_drafts, true_values,
 )  # fmt: skip
 from faults import QUESTION_STAGES, faulty, spoil, turn
 from smallwood import Q, Question, Reply, Sizes
@@ -62,6 +62,12 @@ def commit_call(label, s, lent, table, tree, number):
     return CommitCall(label, *s[:6], *lent, table, tree, found, table_after, tree_after)
 
 
+def committed_call(label, s):
+    c = random_commitment(s)
+    label = "%s [h%d mu%d nu%d w%d l%d eta%d]" % (label, *s[:6])
+    return CommitCall(label, *s[:6], *c.lent, *outputs(s), 0, c.table, c.tree)
+
+
 def accepted_commits():
     for n in range(60):
         src = Source("commit %d" % n)
@@ -78,9 +84,9 @@ def accepted_commits():
         Sizes(12, 1, 1, 1, 1, 1, 1),
         Sizes(12, 64, 256, 1, 64, 4, 8),
     ):
-        c = random_commitment(s)
-        label = "commit: extreme [h%d mu%d nu%d w%d l%d eta%d]" % s[:6]
-        yield CommitCall(label, *s[:6], *c.lent, *outputs(s), 0, c.table, c.tree)
+        yield committed_call("commit: extreme", s)
+    for s in leaf_sizes():
+        yield committed_call("commit: leaves of %d values" % s.record, s)
 
 
 def commit_calls():

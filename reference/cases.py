@@ -17,7 +17,7 @@ import smallwood as S
 from calls import commit_calls, length_calls, open_calls
 from drafts import (
     LAST_WORD, Lent, Source, allowed, ask, border_sizes, case_p, committed, ends, honest, large_drafts,
-    lend, name, prefill, product, random_commitment, simulated, small_drafts, true_values, vanishing,
+    leaf_sizes, lend, name, prefill, product, random_commitment, simulated, small_drafts, true_values, vanishing,
 )  # fmt: skip
 from faults import STAGES, faulty, levels_with, place_faults, spoil, wrong_batchings, wrong_strings
 from smallwood import Q, Sizes
@@ -98,6 +98,9 @@ def honest_cases():
         yield honest_case("extreme, last leaves, equal challenges", c, q)
         q = ask(src, c, 8, challenges=[0] * s.eta, points=[0] * 8, indices=spread)
         yield honest_case("extreme, spread leaves, zeros", c, q)
+    for s in leaf_sizes():
+        c = random_commitment(s)
+        yield honest_case("leaf of %d values" % s.record, c, ask(Source("leaf " + name(s)), c))
     s = Sizes(3, 3, 2, 1, 2, 2, 3)
     for word in (0, 1, Q - 1):
         src = Source("constant %d" % word)

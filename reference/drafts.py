@@ -76,6 +76,13 @@ def name(s):
     return "h%d mu%d nu%d w%d l%d eta%d m%d" % s
 
 
+def leaf_sizes():
+    """A leaf of every number of values, and so a leaf's string of every length: 43 to 307 bytes."""
+    for values in range(2, 69):
+        eta = min(4, values - 1)
+        yield Sizes(2, values - eta, 1, 1, 1, eta, 1)
+
+
 # ---- Commitments, drafts of a question with its reply -----------------------------------------------
 
 Lent = namedtuple("Lent", "coefficients tails masks nonces")
