@@ -18,10 +18,10 @@
 #include <stdlib.h>
 #include <string.h>
 #include <sys/mman.h>
-#include <time.h>
 
 #include "instance.h"
 #include "plain/shake.h"
+#include "timing.h"
 
 ENTRIES(smallwood);
 ENTRIES(before);
@@ -177,25 +177,6 @@ static uint64_t permutations(const struct instance *a, enum operation operation)
 
 /* ---- Times --------------------------------------------------------------------------------------- */
 
-struct timing {
-    double least, median; /* seconds of one call */
-};
-
-static double now(void)
-{
-    struct timespec t;
-
-    clock_gettime(CLOCK_PROCESS_CPUTIME_ID, &t);
-    return (double)t.tv_sec + 1e-9 * (double)t.tv_nsec;
-}
-
-static int by_size(const void *a, const void *b)
-{
-    double x = *(const double *)a, y = *(const double *)b;
-
-    return (x > y) - (x < y);
-}
-
 static double run(const struct implementation *with, enum operation operation, struct instance *a,
                   uint64_t times)
 {
@@ -206,8 +187,7 @@ static double run(const struct implementation *with, enum operation operation, s
     return (now() - start) / (double)times;
 }
 
-/* The first `count` implementations in turn, each round beginning with another one and every second round
- * backwards: what runs before an implementation tells on its time. */
+/* The first `count` implementations in turn. */
 static void measure(struct instance *a, enum operation operation, size_t count,
                     struct timing *found)
 {
@@ -217,15 +197,12 @@ static void measure(struct instance *a, enum operation operation, size_t count,
 
     for (size_t r = 0; r < ROUNDS; r++)
         for (size_t i = 0; i < count; i++) {
-            size_t turn = (r % 2 == 0 ? r + i : r + count - i) % count;
+            size_t turn = turn_of(r, i, count);
             if (has(&implementations[turn], operation))
                 seconds[turn][r] = run(&implementations[turn], operation, a, times);
         }
-    for (size_t i = 0; i < count; i++) {
-        qsort(seconds[i], ROUNDS, sizeof(double), by_size);
-        found[i].least = seconds[i][0];
-        found[i].median = seconds[i][ROUNDS / 2];
-    }
+    for (size_t i = 0; i < count; i++)
+        found[i] = timing_of(seconds[i], ROUNDS);
 }
 
 static void print_sizes(const struct sizes *s)

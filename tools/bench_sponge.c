@@ -14,9 +14,9 @@
 #include <stdio.h>
 #include <stdlib.h>
 #include <string.h>
-#include <time.h>
 
 #include "plain/shake.h"
+#include "timing.h"
 
 #define ROUNDS 61                 /* samples of which least and median are taken */
 #define SAMPLE_PERMUTATIONS 10000 /* a sample has about so many */
@@ -102,25 +102,6 @@ static void compare_all(void)
 
 /* ---- Times --------------------------------------------------------------------------------------- */
 
-struct timing {
-    double least, median; /* seconds of one permutation */
-};
-
-static double now(void)
-{
-    struct timespec t;
-
-    clock_gettime(CLOCK_PROCESS_CPUTIME_ID, &t);
-    return (double)t.tv_sec + 1e-9 * (double)t.tv_nsec;
-}
-
-static int by_size(const void *a, const void *b)
-{
-    double x = *(const double *)a, y = *(const double *)b;
-
-    return (x > y) - (x < y);
-}
-
 /* Seconds of one permutation in a chain of digests: each string begins with the digest of the one before. */
 static double chain(const struct peer *by, size_t length, uint8_t digest[DIGEST_BYTES])
 {
@@ -136,8 +117,7 @@ static double chain(const struct peer *by, size_t length, uint8_t digest[DIGEST_
     return (now() - start) / (double)(times * permutations);
 }
 
-/* The peers in turn, each round beginning with another one and every second round backwards: what runs before
- * a peer tells on its time. */
+/* Seconds of one permutation by each of the peers, in turn. */
 static void measure(size_t length, struct timing found[PEERS])
 {
     static double seconds[PEERS][ROUNDS];
@@ -145,16 +125,13 @@ static void measure(size_t length, struct timing found[PEERS])
 
     for (size_t r = 0; r < ROUNDS; r++) {
         for (size_t i = 0; i < PEERS; i++) {
-            size_t turn = (r % 2 == 0 ? r + i : r + PEERS - i) % PEERS;
+            size_t turn = turn_of(r, i, PEERS);
             seconds[turn][r] = chain(&peers[turn], length, digests[turn]);
         }
         compare(digests, length);
     }
-    for (size_t p = 0; p < PEERS; p++) {
-        qsort(seconds[p], ROUNDS, sizeof(double), by_size);
-        found[p].least = seconds[p][0];
-        found[p].median = seconds[p][ROUNDS / 2];
-    }
+    for (size_t p = 0; p < PEERS; p++)
+        found[p] = timing_of(seconds[p], ROUNDS);
 }
 
 /* ---- Tables -------------------------------------------------------------------------------------- */

@@ -1,7 +1,7 @@
 -- Parities that a round sums along with its planes.
 use mathlib.Core.Path.{_≡_, refl, sym, ap, _∙_}
 use mathlib.Core.List.{List, _++_}
-use Prim.Native.Nat.{ℕ, _+_, _%_}
+use Prim.Native.Nat.{ℕ, _+_, _*_, _%_}
 use lib.Bits.{bitXor, xor-comm}
 use lib.ListN.{getD}
 use Rattle.lists.specs.Tabulate.{tabulate, tabulate-ext}
@@ -23,30 +23,34 @@ reordered a b c d e =
     ∙ ap (λ (t : ℕ). bitXor t d) (swap (bitXor a b) e c)
     ∙ swap (bitXor (bitXor a b) c) e d
 
+-- the parity of a column of sheet x, summed as `round` does
+abbrev summed : List ℕ → ℕ → ℕ
+summed w x = let l : ℕ → ℕ = λ y. getD w (5 * y + x) 0 in bitXor (bitXor (bitXor (bitXor (l 0) (l 4)) (l 3)) (l 1)) (l 2)
+
 -- what `round` makes of the lanes that χ and ι leave
 abbrev pub carried : List ℕ → List ℕ
-carried w =
-    let l : ℕ → ℕ = λ i. getD w i 0 in
-    lanesOf w ++ tabulate 5 (λ x. bitXor (bitXor (bitXor (bitXor (l x) (l (20 + x))) (l (15 + x))) (l (5 + x))) (l (10 + x)))
+carried w = lanesOf w ++ tabulate 5 (summed w)
 
 pub carried-is : (w : List ℕ) → carried w ≡ withParities w
-carried-is w = ap (λ (t : List ℕ). lanesOf w ++ t) parities
-  where
-    parities : tabulate 5 (λ x. bitXor (bitXor (bitXor (bitXor (getD w x 0) (getD w (20 + x) 0)) (getD w (15 + x) 0)) (getD w (5 + x) 0)) (getD w (10 + x) 0)) ≡ tabulate 5 (parity w)
-    parities =
-        tabulate-ext 5
-        (λ x. bitXor (bitXor (bitXor (bitXor (getD w x 0) (getD w (20 + x) 0)) (getD w (15 + x) 0)) (getD w (5 + x) 0)) (getD w (10 + x) 0))
-        (λ x. bitXor (bitXor (bitXor (bitXor (getD w x 0) (getD w (5 + x) 0)) (getD w (10 + x) 0)) (getD w (15 + x) 0)) (getD w (20 + x) 0))
-        (λ x b. reordered (getD w x 0) (getD w (5 + x) 0) (getD w (10 + x) 0) (getD w (15 + x) 0) (getD w (20 + x) 0))
+unfolding withParities
+carried-is w =
+    let l : ℕ → ℕ → ℕ = λ x y. getD w (5 * y + x) 0 in
+    let standard : ℕ → ℕ = λ x. bitXor (bitXor (bitXor (bitXor (l x 0) (l x 1)) (l x 2)) (l x 3)) (l x 4) in
+    ap (λ (t : List ℕ). lanesOf w ++ t) (tabulate-ext 5 (summed w) standard (λ x b. reordered (l x 0) (l x 1) (l x 2) (l x 3) (l x 4)))
 
 -- the state array in front, and its parities behind it
 pub held-with-parities : (a : List ℕ) → held (withParities a) ≡ held a
+unfolding withParities
 held-with-parities a = refl
 
 pub has-parities : (a : List ℕ) → HasParities (withParities a)
+unfolding withParities HasParities
 has-parities a = refl
 
--- D by the parities that are there
-pub effect-by : (a : List ℕ) → HasParities a
-    → tabulate 5 (λ x. bitXor (getD (tabulate 5 (λ y. getD a (25 + y) 0)) ((x + 4) % 5) 0) (rotl (getD (tabulate 5 (λ y. getD a (25 + y) 0)) ((x + 1) % 5) 0) 1)) ≡ tabulate 5 (effect a)
-effect-by a h = ap (λ (c : List ℕ). tabulate 5 (λ x. bitXor (getD c ((x + 4) % 5) 0) (rotl (getD c ((x + 1) % 5) 0) 1))) h
+-- step 2 of θ, from the parities c
+abbrev pub effects : List ℕ → List ℕ
+effects c = tabulate 5 (λ x. bitXor (getD c ((x + 4) % 5) 0) (rotl (getD c ((x + 1) % 5) 0) 1))
+
+pub effects-are : (a : List ℕ) → HasParities a → effects (tabulate 5 (λ x. getD a (25 + x) 0)) ≡ tabulate 5 (effect a)
+unfolding HasParities
+effects-are a h = ap effects h

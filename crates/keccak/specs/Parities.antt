@@ -12,9 +12,9 @@ abbrev pub lanesOf : List ℕ → List ℕ
 lanesOf a = tabulate 25 (λ i. getD a i 0)
 
 -- the state array a, and C[0] to C[4] of θ (section 3.2.1, step 1)
-abbrev pub withParities : List ℕ → List ℕ
+unfoldable pub withParities : List ℕ → List ℕ
 withParities a = lanesOf a ++ tabulate 5 (parity a)
 
 -- behind the state array in a stand its parities
-abbrev pub HasParities : List ℕ → Type 0
+unfoldable pub HasParities : List ℕ → Type 0
 HasParities a = tabulate 5 (λ x. getD a (25 + x) 0) ≡ tabulate 5 (parity a)

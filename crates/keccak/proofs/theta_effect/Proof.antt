@@ -3,7 +3,7 @@ use mathlib.Core.Path.{refl, ap, _∙_}
 use lib.Bits.{bitXor}
 use lib.ListN.{getD}
 use Rattle.keccak.proofs.Literal.{cons}
-use Rattle.keccak.proofs.Carried.{effect-by}
+use Rattle.keccak.proofs.Carried.{effects-are}
 use borrow.Author.Needs.{needs}
 use Rattle.keccak.proofs.theta_effect.Statement.{statement}
 use Rattle.keccak.proofs.theta_effect.Tie as tie
@@ -22,7 +22,7 @@ returns c =
     (cons (ap (bitXor (getD a 27 0)) (c4 .rotate4 .ensures))
     (cons (ap (bitXor (getD a 28 0)) (c5 .rotate5 .ensures))
     refl)))))
-    ∙ effect-by a (c1 .before .pre)
+    ∙ effects-are a (c1 .before .pre)
 
 pub theta-effect-spec : {M : Type 1} → statement M
 theta-effect-spec =
