@@ -5,7 +5,7 @@ use Prim.Native.Nat.{ℕ, _+_, _*_, _%_}
 use lib.Bits.{bitXor, xor-comm}
 use lib.ListN.{getD}
 use Rattle.lists.specs.Tabulate.{tabulate, tabulate-ext}
-use Rattle.keccak.specs.Keccak.{parity, effect}
+use Rattle.keccak.specs.Keccak.{effect}
 use Rattle.keccak.specs.Lane.{rotl}
 use Rattle.keccak.specs.Held.{held}
 use Rattle.keccak.specs.Parities.{lanesOf, withParities, HasParities}

@@ -1,4 +1,5 @@
-// Bytes of a string as one number, lowest byte first: the next eight, or those left. Those left are taken four, two and one at once.
+// Bytes of a string as one number, lowest byte first: the next eight, or those left, which are taken four, two and one at once. The compiler makes one
+// load of each such number.
 ghost use mathlib.Core.Path.{_≡_};
 ghost use Prim.Native.Nat.{_+_, _*_, _^_, _<_, _≤_};
 ghost use lib.ListN.{length, take, drop};
