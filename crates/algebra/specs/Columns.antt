@@ -1,13 +1,15 @@
 -- Powers, and the value of a polynomial from the values of its columns.
 use mathlib.Core.Path.{_≡_, refl, sym, _∙_, ap, ap₂}
 use mathlib.Core.List.{List, [], _∷_, _++_, map}
-use Prim.Native.Nat.{ℕ, zero, suc, _+_, _*_, _%_}
-use native.Mathlib.Nat.{mod-mod}
+use Prim.Native.Nat.{ℕ, zero, suc, _+_, _-_, _*_, _%_, _≤_, _<_}
+use native.Mathlib.Nat.{mod-mod, mod-lt, mod-eq-of-lt, mul-assoc, zero-add, suc-add, one-mul}
 use native.Mathlib.Numerals.{add-one}
+use native.Mathlib.Omega.{arith}
+use lib.Dec.{lit<}
 use lib.ListN.{length, length-map}
 use Rattle.lists.specs.All.{All, Sized}
 use Rattle.algebra.specs.Prime.{q}
-use Rattle.algebra.specs.Field.{K, of, of-path, of-mul, of-one, _⊗_}
+use Rattle.algebra.specs.Field.{K, of, of-path, of-mul, of-one, _⊗_, mul-mod-mod, mod-mul-mod}
 use Rattle.algebra.specs.Rows.{power, concat, eval-concat}
 use Rattle.algebra.specs.Poly.{eval}
 use Rattle.algebra.specs.Numbers.{ofs-append, evalN, evalN-below, of-evalN, of-injective, ofs, ofs-valuesAtN, valuesAtN}
@@ -25,7 +27,28 @@ pub powN-start : (z : ℕ) → 1 ≡ powN z 0
 unfolding powN
 powN-start z = refl
 
-of-powN : (z m : ℕ) → of (powN z m) ≡ power (of z) m
+powN-below : (z m : ℕ) → powN z m < q
+unfolding powN
+powN-below z zero = lit< tt
+powN-below z (suc m) = mod-lt _ (lit< tt)
+
+powN-add : (z m n : ℕ) → powN z (m + n) ≡ powN z m * powN z n % q
+unfolding powN
+powN-add z zero n = ap (powN z) (zero-add n) ∙ sym (mod-eq-of-lt (powN-below z n)) ∙ ap (λ (t : ℕ). t % q) (sym (one-mul (powN z n)))
+powN-add z (suc m) n =
+    ap (powN z) (suc-add m n)
+    ∙ ap (λ (t : ℕ). z * t % q) (powN-add z m n)
+    ∙ mul-mod-mod z (powN z m * powN z n) q
+    ∙ ap (λ (t : ℕ). t % q) (sym (mul-assoc z (powN z m) (powN z n)))
+    ∙ sym (mod-mul-mod (z * powN z m) (powN z n) q)
+
+-- a power from the one k places before
+pub powN-ahead : (z k i p o r : ℕ) → k ≤ i → p ≡ powN z k → o ≡ powN z (i - k) → r ≡ p * o % q → r ≡ powN z i
+powN-ahead z k i p o r l e f g =
+    let n : k + (i - k) ≡ i = omega arith in
+    g ∙ ap₂ (λ (s t : ℕ). s * t % q) e f ∙ sym (powN-add z k (i - k)) ∙ ap (powN z) n
+
+pub of-powN : (z m : ℕ) → of (powN z m) ≡ power (of z) m
 unfolding powN power
 of-powN z zero = of-one
 of-powN z (suc m) = of-path _ (z * powN z m) (mod-mod _ q) ∙ sym (of-mul z (powN z m)) ∙ ap (λ (t : K). of z ⊗ t) (of-powN z m)

@@ -12,8 +12,11 @@ pub mod Divided
 pub mod Cases
 pub mod Batch
 pub mod Dot
+pub mod Wrapped
+pub mod Spans
 pub mod Sums
 pub mod Basis
+pub mod Barycentric
 pub mod Weights
 pub mod Differences
 pub mod Forward

@@ -14,7 +14,7 @@ use Rattle.lists.specs.Range.{upFrom, length-upFrom}
 use Rattle.lists.specs.Tabulate.{tabulate, length-from}
 use Rattle.algebra.specs.Prime.{q}
 use Rattle.algebra.specs.Columns.{powN}
-use Rattle.algebra.specs.Dot.{dotsOf, dots-length, dots-powersN}
+use Rattle.algebra.specs.Dot.{longest, dotsOf, dots-length, dots-powersN}
 use Rattle.algebra.specs.Numbers.{Polys}
 use Rattle.scheme.specs.Sizes.{Sizes, leaves, rows, columns, width}
 use Rattle.scheme.specs.Layers.{Lent, lentOf, extended, extendedRows, combination}
@@ -96,11 +96,11 @@ module _ (t : Sizes) (coefficients tails : List ℕ) (can : CanCombine t coeffic
       pub weights-length : t .μ ≡ length (take (t .μ) (ws ++ drop (t .μ) b))
       weights-length = sym (ap length weights-are ∙ weights-count)
 
-      pub dots-ask : (length (take (t .μ) (ws ++ drop (t .μ) b)) * length (take n out) ≤ length coefficients) × (length (take (t .μ) (ws ++ drop (t .μ) b)) ≤ 320)
+      pub dots-ask : (length (take (t .μ) (ws ++ drop (t .μ) b)) * length (take n out) ≤ length coefficients) × (length (take (t .μ) (ws ++ drop (t .μ) b)) ≤ longest)
       dots-ask = (
         subst (λ (k : ℕ). k * length (take n out) ≤ length coefficients) weights-length
             (subst (λ (k : ℕ). t .μ * k ≤ length coefficients) (sym hn ∙ columns-length) columns-fit),
-        subst (λ (k : ℕ). k ≤ 320) weights-length (omega (arith, g .μ-high)),
+        subst (λ (k : ℕ). k ≤ longest) weights-length (omega (arith, g .μ-high)),
       )
 
       module _ (ys : List ℕ) (hy : ys ≡ dotsOf (take (t .μ) (ws ++ drop (t .μ) b)) (length (take n out)) coefficients) where

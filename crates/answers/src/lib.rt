@@ -18,11 +18,11 @@ use commitment::column_count;
 use commitment::put_words;
 use commitment::word;
 use field::Element;
-use field::dots;
 use field::fold;
 use field::powers;
-use field::sum_rows;
 use interpolation::interpolate_from;
+use sums::dots;
+use sums::sum_rows;
 
 // Rows of at most so many entries are summed by Horner's rule, which needs no room for sums.
 const NARROW: usize = 8;

@@ -11,8 +11,8 @@ use lib.Seq.{drop-drop, take-at}
 use Rattle.lists.specs.Bytes.{Bytes, fromBytes, words, length-words}
 use Rattle.lists.specs.Pieces.{pieces, piece}
 use Rattle.lists.specs.Tests.{all, every, each}
-use Rattle.equations.specs.Equations.{rowsOf}
-use Rattle.equations.proofs.Rows.{rows-none, rows-next, row-at}
+use Rattle.opened.specs.Rows.{rowsOf}
+use Rattle.opened.proofs.Rows.{rows-none, rows-next, row-at}
 use Rattle.lists.specs.Choice.{and-assoc, and-right}
 
 all-append : (t : ℕ → Bool) (xs ys : List ℕ) → all t (xs ++ ys) ≡ all t xs && all t ys

@@ -24,7 +24,10 @@ use Rattle.checker.specs.Posed.{questionAt}
 use Rattle.scheme.specs.Reply.{Reply, readReply, answersAt, recordsAt, recordLength, nodesAt, missingNodes, replyLength, recordWords}
 use Rattle.scheme.specs.Check.{leafAt, recordAt, batchingOf, pointOf, answerOf, replyElements, leafStrings, replyRoot, batchingAt, evaluationAt, checkValues}
 use Rattle.scheme.proofs.Walk.{batching-at, answer-at, record-at}
-use Rattle.equations.specs.Equations.{rowsOf, recordWordsAt, batchOf, batchedAt, batchedRow, evaluatedAt, evaluatedLeaf}
+use Rattle.opened.specs.Rows.{rowsOf}
+use Rattle.opened.specs.Records.{recordWordsAt}
+use Rattle.batching_test.specs.Batching.{batchOf, batchedAt, batchedRow}
+use Rattle.evaluation_test.specs.Evaluation.{evaluatedAt, evaluatedLeaf}
 use Rattle.checker.specs.Words.{batchingWords, answerWords, leafValuesAt, rowValuesAt, leafElementsAt, rootAt, recordElementsAt, leafDigestAt, pointValues, valuesAt}
 use Rattle.checker.proofs.Flat.{all-rows, rows-ext, wordsAt, words-rows, words-front, words-piece}
 

@@ -10,7 +10,7 @@ use Rattle.lists.specs.Pieces.{piece, pieces, pieces-snoc, length-pieces}
 use Rattle.algebra.specs.Columns.{powN}
 use Rattle.algebra.specs.Numbers.{evalN}
 use Rattle.checker.specs.Words.{pointValues, valuesAt}
-use Rattle.equations.proofs.Rows.{front-all}
+use Rattle.opened.proofs.Rows.{front-all}
 use Rattle.checker.proofs.Flat.{words-piece}
 use Rattle.lists.specs.Parts.{part-is}
 

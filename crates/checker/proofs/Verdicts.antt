@@ -1,5 +1,5 @@
 -- What the code tests, what its steps ask, and the order of the verdicts, for a question as the code holds it.
-use mathlib.Core.Path.{_≡_, refl, sym, ap, ap₂, _∙_}
+use mathlib.Core.Path.{_≡_, refl, sym, ap, ap₂, subst, _∙_}
 use mathlib.Core.Bool.{Bool, true, false, not}
 use mathlib.Core.List.{List, [], _∷_, _++_}
 use Prim.Native.Nat.{ℕ, _+_, _-_, _*_, _^_, _≤_, _<_}
@@ -7,19 +7,21 @@ use native.Mathlib.Nat.{le-of-eq, lt-of-lt-of-le, pow-le-pow-right}
 use native.Mathlib.Omega.{arith}
 use lib.Dec.{eqb}
 use lib.ListN.{length, take, drop}
+use lib.Pow.{pow-pos}
 use borrow.Author.Tests.{eq-eqb, ne-eqb}
 use Rattle.tree.specs.Sets.{missing}
 use Rattle.tree.specs.Clauses.{IndexSet}
 use Rattle.lists.specs.All.{Below, all-imp}
 use Rattle.lists.specs.Bytes.{Bytes, words, length-words}
 use Rattle.lists.specs.Tests.{Test, verdictOf, every, each, same, verdict-hit, verdict-miss}
-use Rattle.algebra.specs.Prime.{q}
 use Rattle.scheme.specs.Sizes.{Sizes, elements, leaves, width, recordValues}
 use Rattle.scheme.specs.Question.{Question}
 use Rattle.scheme.specs.Reply.{Reply, readReply, answersAt, recordsAt, recordLength, nodesAt, replyLength}
 use Rattle.scheme.specs.Check.{replyElements, replyRoot, batchingAt, evaluationAt, replyTests}
 use Rattle.scheme.proofs.Accepted.{leaves-high}
-use Rattle.equations.specs.Equations.{recordWordsAt, batchedRow, evaluatedLeaf}
+use Rattle.opened.specs.Records.{recordWordsAt}
+use Rattle.batching_test.specs.Batching.{batchedRow}
+use Rattle.evaluation_test.specs.Evaluation.{evaluatedLeaf}
 use Rattle.checker.specs.Words.{recordElementsAt, rootAt, batchingWords, answerWords}
 use Rattle.checker.specs.Posed.{posed, Posed, Read, laterTests}
 use Rattle.lists.specs.Parts.{read-front}
@@ -182,10 +184,10 @@ module _ (s : Sizes) (root challenges points indices reply : List ℕ) (p : Pose
       elements-asks n g = (records-fit (d .whole) at size e f, omega (arith, f, g))
 
       pub batching-asks : (wide : ℕ) → wide ≡ width s
-          → (wide ≤ 320) × Below 65536 indices × (wide * length challenges ≤ length batching) × (s .μ ≤ 64) × (length challenges ≤ 4)
+          → (0 < wide) × Below 65536 indices × (wide * length challenges ≤ length batching) × (s .μ ≤ 64) × (length challenges ≤ 4)
           × (4 * (s .μ + length challenges) ≤ size) × (at + size * length indices ≤ length reply)
       batching-asks wide g = (
-        omega (arith, g, width-high s (p .sizes-good)),
+        omega (arith, g, p .sizes-good .ℓ-low),
         indices-small,
         le-of-eq (ap₂ _*_ g (p .repetitions) ∙ sym length-batching),
         p .sizes-good .μ-high,
@@ -195,15 +197,18 @@ module _ (s : Sizes) (root challenges points indices reply : List ℕ) (p : Pose
       )
 
       pub evaluation-asks : (first wide : ℕ) → first ≡ leaves s → wide ≡ width s
-          → (first + wide < q) × (wide ≤ 320) × Below 65536 indices × (wide * length points ≤ length answers) × (s .μ ≤ 64) × (length points ≤ 8)
-          × (4 * s .μ ≤ size) × (at + size * length indices ≤ length reply)
+          → (0 < first) × (first ≤ 4096) × Below first indices × (length indices ≤ 64) × (0 < wide) × (wide ≤ 320) × (s .μ ≤ 64) × (length points ≤ 8)
+          × (wide * length points ≤ length answers) × (4 * s .μ ≤ size) × (at + size * length indices ≤ length reply)
       evaluation-asks first wide g h = (
-        omega (arith, g, h, leaves-high s (p .sizes-good), width-high s (p .sizes-good)),
+        omega (arith, g, pow-pos (s .h)),
+        omega (arith, g, leaves-high s (p .sizes-good)),
+        subst (λ (k : ℕ). Below k indices) (sym g) (p .below),
+        omega (arith, p .opened, p .sizes-good .ℓ-high),
+        omega (arith, h, p .sizes-good .ℓ-low),
         omega (arith, h, width-high s (p .sizes-good)),
-        indices-small,
-        le-of-eq (ap (λ (k : ℕ). k * length points) h ∙ sym length-answers),
         p .sizes-good .μ-high,
         p .few-points,
+        le-of-eq (ap (λ (k : ℕ). k * length points) h ∙ sym length-answers),
         omega (arith, f),
         records-fit (d .whole) at size e f,
       )

@@ -14,7 +14,7 @@ use Rattle.algebra.specs.Numbers.{evalN}
 use Rattle.scheme.specs.Sizes.{elements, width, recordValues}
 use Rattle.scheme.specs.Question.{Question}
 use Rattle.scheme.specs.Reply.{answersAt, recordsAt, recordLength}
-use Rattle.equations.specs.Equations.{recordOf, recordWordsAt}
+use Rattle.opened.specs.Records.{recordOf, recordWordsAt}
 
 -- ---- values
 

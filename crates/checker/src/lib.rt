@@ -15,8 +15,9 @@ ghost use Rattle.scheme.specs.Check.{replyTests, checkValues, checking};
 ghost use Rattle.scheme.proofs.Accepted.{Good};
 ghost use Rattle.commitment.specs.Shape.{sizesIn};
 ghost use Rattle.checker.specs.Posed.{posed, Posed, Read, questionAt, Formed, laterTests, checkingReply};
-ghost use Rattle.equations.specs.Equations.{rowsOf};
+ghost use Rattle.opened.specs.Rows.{rowsOf};
 ghost use Rattle.checker.specs.Words.{recordElementsAt, leafDigestAt, rootAt, pointValues, valuesAt};
+use batching_test::batching_ok;
 use commitment::Questioned;
 use commitment::Shape;
 use commitment::answers_at;
@@ -24,8 +25,7 @@ use commitment::record_length;
 use commitment::record_values;
 use commitment::records_at;
 use commitment::row_width;
-use equations::batching_ok;
-use equations::evaluation_ok;
+use evaluation_test::evaluation_ok;
 use field::Element;
 use planner::length_for;
 use tree::LeafIndex;
@@ -174,7 +174,7 @@ fn fill_values(question: &[u8], s: Shape, m: usize, reply: &[u8], values: &mut [
 
 // ---- the check
 
-// The tests after that of the reply's length: 3, 8, 9, 10.
+// The tests after that of the reply's length: 3, 8, 9, 10. The answers come back weighed.
 fn words_verdict(
     s: Shape,
     challenges: &[u32],
@@ -183,7 +183,7 @@ fn words_verdict(
     root: &[u8],
     reply: &[u8],
     batching: &[u32],
-    answers: &[u32],
+    answers: &mut [u32],
 ) -> u32
     requires { ⌜ Posed (sizesIn s) (now challenges) (now points) (now indices) × Read (posed (sizesIn s) (now root) (now challenges) (now points) (now indices)) (now reply) (now batching) (now answers) ⌝ }
     ensures { λ r. ⌜ r ≡ verdictOf (laterTests (posed (sizesIn s) (now (root .entry)) (now (challenges .entry)) (now (points .entry)) (now (indices .entry))) (now (reply .entry))) ⌝ }
@@ -237,7 +237,7 @@ fn read_verdict(
         root,
         reply,
         &batching[0..b],
-        &answers[0..a],
+        &mut answers[0..a],
     )
 }
 

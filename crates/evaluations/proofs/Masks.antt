@@ -13,7 +13,7 @@ use Rattle.lists.specs.Pieces.{pieces, piece, length-pieces, pieces-at}
 use Rattle.lists.specs.Tabulate.{tabulate, length-from}
 use Rattle.algebra.specs.Numbers.{evalN, valuesAtN}
 use Rattle.algebra.specs.Columns.{powN}
-use Rattle.algebra.specs.Dot.{dotsOf, dots-powersN}
+use Rattle.algebra.specs.Dot.{longest, dotsOf, dots-powersN}
 use Rattle.extrapolation.specs.Lanes.{entry}
 use Rattle.scheme.proofs.Row.{values-at, length-values}
 use Rattle.evaluations.specs.Values.{MaskLanes}
@@ -23,7 +23,7 @@ module _ (x k : ℕ) (ws : List ℕ) (e : ws ≡ tabulate k (powN x)) where
   pub powers-count : length ws ≡ k
   powers-count = ap length e ∙ length-from 0 k (powN x)
 
-  pub dots-room : (n r : ℕ) → k ≤ 320 → k * n ≤ r → (length ws * n ≤ r) × (length ws ≤ 320)
+  pub dots-room : (n r : ℕ) → k ≤ 320 → k * n ≤ r → (length ws * n ≤ r) × (length ws ≤ longest)
   dots-room n r l h = (subst (λ (m : ℕ). m * n ≤ r) (sym powers-count) h, omega (arith, powers-count))
 
   pub mask-values : (n : ℕ) (masks out : List ℕ) → k * n ≤ length masks → out ≡ dotsOf ws n masks → out ≡ valuesAtN (pieces k n masks) x

@@ -24,9 +24,9 @@ use commitment::row_width;
 use extrapolation::extrapolate;
 use extrapolation::least;
 use field::Element;
-use field::dots;
 use field::point;
 use field::powers;
+use sums::dots;
 
 // The widest row, and up to which width rows take small arrays.
 const WIDEST: usize = 320;

@@ -1,27 +1,18 @@
-// The field of q = 4294967291 elements: single operations, dot products, sums of rows, the basis of interpolation over consecutive points.
+// The field of q = 4294967291 elements: single operations, powers, the table of inverse factorials.
 ghost use mathlib.Core.Path.{_≡_};
-ghost use Prim.Native.Nat.{_+_, _-_, _*_, _%_, _<_, _≤_};
-ghost use lib.ListN.{length, replicate};
+ghost use Prim.Native.Nat.{_+_, _-_, _*_, _/_, _%_, _<_, _≤_};
+ghost use lib.ListN.{length};
 ghost use Rattle.algebra.specs.Prime.{q};
 ghost use Rattle.algebra.specs.Numbers.{evalN};
 ghost use Rattle.algebra.specs.Columns.{powN};
 ghost use Rattle.algebra.specs.Inverse.{invN};
-ghost use Rattle.algebra.specs.Table.{tableSize, inverseFactorials};
+ghost use Rattle.algebra.specs.Table.{inverseFactorials};
 ghost use Rattle.lists.specs.Tabulate.{tabulate};
-ghost use Rattle.algebra.specs.Dot.{longest, spare, dotN, dotsOf, accumulateN};
-ghost use Rattle.algebra.specs.Sums.{sumsOf, lowAdded, highAdded, SmallProducts, Spare, Summed, reducedAt};
-ghost use Rattle.lists.specs.All.{All};
-ghost use Rattle.lists.specs.Fill.{Filled};
-ghost use Rattle.lists.specs.Range.{upFrom};
-ghost use Rattle.algebra.specs.Basis.{lowerN, upperN, basisN};
-
+ghost use Rattle.algebra.specs.Dot.{accumulateN};
 // The modulus, at both widths.
 const Q: u64 = 4294967291;
 
 const Q32: u32 = 4294967291;
-
-// Where a product is split: at 2^33, which is 10 modulo q. (At 2^32 the compiler makes a slow multiply-high of it.)
-const SPLIT: u64 = 8589934592;
 
 // An element of the field, and a point of it.
 pub struct Element(pub u32);
@@ -85,119 +76,6 @@ pub fn evaluate(coefficients: &[u32], x: Element) -> Element
     value
 }
 
-// A product, not reduced.
-fn product(a: u32, b: u32) -> u64
-    ensures { λ r. ⌜ r ≡ a * b ⌝ }
-{
-    a as u64 * b as u64
-}
-
-// The sums of the lower and the upper parts of products together, reduced.
-fn reduce_sum(low: u64, high: u64) -> u32
-    requires { ⌜ (low < spare) × (high < spare) ⌝ }
-    ensures { λ r. ⌜ r ≡ (low + 10 * high) % q ⌝ }
-{
-    ((low + 10 * high) % Q) as u32
-}
-
-// The sum of the products of the entries. The lower and the upper parts of the products are summed apart, and reduced once at the end.
-pub fn dot(a: &[u32], b: &[u32]) -> Element
-    requires { ⌜ (length (now b) ≡ length (now a)) × (length (now a) ≤ longest) ⌝ }
-    ensures { λ r. ⌜ r .0 ≡ dotN (now (a .entry)) (now (b .entry)) ⌝ }
-{
-    let n = a.len();
-    let mut low: u64 = 0;
-    let mut high: u64 = 0;
-    let mut i = 0;
-    while i < n {
-        let p = product(a[i], b[i]);
-        low += p % SPLIT;
-        high += p / SPLIT;
-        i += 1;
-    }
-    Element(reduce_sum(low, high))
-}
-
-// The dot products of the weights with rows that stand one after the other.
-pub fn dots(weights: &[u32], rows: &[u32], out: &mut [u32])
-    requires { ⌜ (length (now weights) * length (now out) ≤ length (now rows)) × (length (now weights) ≤ 320) ⌝ }
-    ensures { λ _. ⌜ now (out .exit) ≡ dotsOf (now (weights .entry)) (length (now (out .entry))) (now (rows .entry)) ⌝ }
-{
-    let width = weights.len();
-    let n = out.len();
-    let mut j = 0;
-    while j < n {
-        let start = j * width;
-        let end = start + width;
-        let v = dot(weights, &rows[start..end]);
-        out[j] = v.0;
-        j += 1;
-    }
-}
-
-// c times the row, added: the lower parts of the products to `low`, the upper parts to `high`.
-fn add_multiple(c: u32, row: &[u32], low: &mut [u64], high: &mut [u64])
-    requires { ⌜ (length (now low) ≡ length (now row)) × (length (now high) ≡ length (now row)) × Spare (now low) × Spare (now high) ⌝ }
-    ensures { λ _. ⌜ Filled (lowAdded c (now (row .entry)) (now (low .entry))) (now (low .exit)) 0 (length (now (row .entry))) × Filled (highAdded c (now (row .entry)) (now (high .entry))) (now (high .exit)) 0 (length (now (row .entry))) × SmallProducts c (now (row .entry)) (length (now (row .entry))) ⌝ }
-{
-    let n = row.len();
-    let mut i = 0;
-    while i < n {
-        let p = product(c, row[i]);
-        low[i] += p % SPLIT;
-        high[i] += p / SPLIT;
-        i += 1;
-    }
-}
-
-// The rows, each times its weight, added to sums that are 0 at first.
-fn add_rows(weights: &[u32], rows: &[u32], low: &mut [u64], high: &mut [u64])
-    requires { ⌜ (length (now high) ≡ length (now low)) × (length (now low) * length (now weights) ≤ length (now rows)) × (length (now weights) ≤ longest) × All (λ x. x ≡ 0) (now low) × All (λ x. x ≡ 0) (now high) ⌝ }
-    ensures { λ _. ⌜ Summed (now (weights .entry)) (length (now (low .entry))) (now (rows .entry)) (length (now (weights .entry))) (now (low .exit)) (now (high .exit)) × Spare (now (low .exit)) × Spare (now (high .exit)) ⌝ }
-{
-    let n = low.len();
-    let count = weights.len();
-    let mut j = 0;
-    while j < count {
-        let from = n * j;
-        let to = from + n;
-        add_multiple(weights[j], &rows[from..to], low, high);
-        j += 1;
-    }
-}
-
-// The sums of the lower and the upper parts together, reduced.
-fn reduce_sums(low: &[u64], high: &[u64], out: &mut [u32])
-    requires { ⌜ (length (now low) ≡ length (now out)) × (length (now high) ≡ length (now out)) × Spare (now low) × Spare (now high) ⌝ }
-    ensures { λ _. ⌜ now (out .exit) ≡ tabulate (length (now (out .entry))) (reducedAt (now (low .entry)) (now (high .entry))) ⌝ }
-{
-    let n = out.len();
-    let mut i = 0;
-    while i < n {
-        out[i] = reduce_sum(low[i], high[i]);
-        i += 1;
-    }
-}
-
-// Room for sums. A function of its own, so that a caller's goals do not show 64 zeros.
-fn blank_sums() -> [u64; 64]
-    ensures { λ r. ⌜ r ≡ replicate 64 0 ⌝ }
-{
-    [0u64; 64]
-}
-
-// The sum of the rows, each times its weight, where the rows stand one after the other. Each entry is reduced once, as in `dot`.
-pub fn sum_rows(weights: &[u32], rows: &[u32], out: &mut [u32])
-    requires { ⌜ (length (now out) * length (now weights) ≤ length (now rows)) × (length (now weights) ≤ longest) × (length (now out) ≤ 64) ⌝ }
-    ensures { λ _. ⌜ now (out .exit) ≡ sumsOf (now (weights .entry)) (length (now (out .entry))) (now (rows .entry)) ⌝ }
-{
-    let n = out.len();
-    let mut low = blank_sums();
-    let mut high = blank_sums();
-    add_rows(weights, rows, &mut low[..n], &mut high[..n]);
-    reduce_sums(&low[..n], &high[..n], out);
-}
-
 // row + c acc, entry by entry: a step of Horner's rule over rows.
 pub fn fold(acc: &mut [u32], c: Element, row: &[u32])
     requires { ⌜ length (now row) ≡ length (now acc) ⌝ }
@@ -225,9 +103,18 @@ pub fn power(x: Element, n: usize) -> Element
     p
 }
 
-// 1, x, x^2, ..
-pub fn powers(x: Element, out: &mut [u32])
-    ensures { λ _. ⌜ now (out .exit) ≡ tabulate (length (now (out .entry))) (powN (x .0)) ⌝ }
+// How many powers are computed one after the other: one for each of the chains of products that then run side by side.
+const CHAINS: usize = 8;
+
+fn first_count(n: usize) -> usize
+    ensures { λ r. ⌜ (r ≤ n) × (r < n → r ≡ 8) ⌝ }
+{
+    if n < CHAINS { n } else { CHAINS }
+}
+
+// The first powers; returns the one after them.
+fn first_powers(x: Element, out: &mut [u32]) -> Element
+    ensures { λ r. ⌜ (r .0 ≡ powN (x .0) (length (now (out .entry)))) × (now (out .exit) ≡ tabulate (length (now (out .entry))) (powN (x .0))) ⌝ }
 {
     let n = out.len();
     let mut p = Element(1);
@@ -237,9 +124,25 @@ pub fn powers(x: Element, out: &mut [u32])
         p = multiply(x, p);
         i += 1;
     }
+    p
 }
 
-// ---- consecutive points
+// 1, x, x^2, ..: from the first ones on, each is a fixed power times the one CHAINS places before.
+pub fn powers(x: Element, out: &mut [u32])
+    ensures { λ _. ⌜ now (out .exit) ≡ tabulate (length (now (out .entry))) (powN (x .0)) ⌝ }
+{
+    let n = out.len();
+    let head = first_count(n);
+    let step = first_powers(x, &mut out[0..head]);
+    let mut i = head;
+    while i < n {
+        let v = multiply(step, Element(out[i - CHAINS]));
+        out[i] = v.0;
+        i += 1;
+    }
+}
+
+// ---- inverse factorials
 
 const TABLE_SIZE: usize = 320;
 
@@ -579,50 +482,4 @@ pub fn point(first: Element, c: usize) -> Element
     ensures { λ r. ⌜ r .0 ≡ first .0 + c ⌝ }
 {
     Element(first.0 + c as u32)
-}
-
-// At each place, the product of the differences of x to the points below, over the factorial of their number.
-fn lower_factors(table: &[u32], first: Element, x: Element, out: &mut [u32])
-    requires { ⌜ (first .0 + length (now out) ≤ q) × (length (now out) ≤ length (now table)) ⌝ }
-    ensures { λ _. ⌜ now (out .exit) ≡ tabulate (length (now (out .entry))) (lowerN (now (table .entry)) (first .0) (x .0)) ⌝ }
-{
-    let n = out.len();
-    let mut p = Element(1);
-    let mut c = 0;
-    while c < n {
-        let v = multiply(Element(table[c]), p);
-        out[c] = v.0;
-        let d = subtract(x, point(first, c));
-        p = multiply(p, d);
-        c += 1;
-    }
-}
-
-// Each entry times the product of the differences to x of the points above, over the factorial of their number.
-fn upper_factors(table: &[u32], first: Element, x: Element, out: &mut [u32])
-    requires { ⌜ (first .0 + length (now out) ≤ q) × (length (now out) ≤ length (now table)) × (x .0 ≤ q) ⌝ }
-    ensures { λ _. ⌜ now (out .exit) ≡ tabulate (length (now (out .entry))) (upperN (now (table .entry)) (first .0 + length (now (out .entry))) (x .0) (length (now (out .entry))) (now (out .entry))) ⌝ }
-{
-    let n = out.len();
-    let mut p = Element(1);
-    let mut c = n;
-    while 0 < c {
-        let t = multiply(Element(table[n - c]), p);
-        c -= 1;
-        let v = multiply(Element(out[c]), t);
-        out[c] = v.0;
-        let d = subtract(point(first, c), x);
-        p = multiply(p, d);
-    }
-}
-
-// The values at x of the basis of interpolation over the points first, first + 1, ..:
-// their dot product with values at these points is the value at x of the polynomial through them.
-pub fn basis(first: Element, x: Element, out: &mut [u32])
-    requires { ⌜ (first .0 + length (now out) ≤ q) × (length (now out) ≤ tableSize) × (x .0 < q) ⌝ }
-    ensures { λ _. ⌜ now (out .exit) ≡ basisN (upFrom (first .0) (length (now (out .entry)))) (x .0) ⌝ }
-{
-    let table = inverse_factorials();
-    lower_factors(&table, first, x, out);
-    upper_factors(&table, first, x, out);
 }

@@ -1,13 +1,13 @@
 -- Loops that fill or change a slice place by place, where a function gives the entries.
 use mathlib.Core.Path.{_≡_, refl, sym, _∙_, ap, subst}
-use mathlib.Core.List.{List}
+use mathlib.Core.List.{List, _++_}
 use Prim.Native.Nat.{ℕ, _+_, _-_, _≤_, _<_}
 use native.Mathlib.Nat.{not-suc-le-zero, ne-of-gt, ne-of-lt}
 use native.Mathlib.Omega.{arith}
 use native.Mathlib.Decide.{ℕ-discrete}
-use lib.ListN.{length, getD, set}
+use lib.ListN.{length, getD, set, List·getD-append}
 use lib.Seq.{getD-set-same, getD-set-other}
-use Rattle.lists.specs.Tabulate.{tabulate, tabulate-is}
+use Rattle.lists.specs.Tabulate.{tabulate, tabulate-is, getD-tabulate, length-tabulate}
 
 abbrev pub entryOf : List ℕ → ℕ → ℕ
 entryOf s i = getD s i 0
@@ -53,3 +53,8 @@ filled-is f s n e h = tabulate-is n f s e (λ (i : ℕ) (l : i < n). h i (omega 
 
 pub filled-own : (s : List ℕ) (i k : ℕ) → Filled (entryOf s) s i k
 filled-own s i k j m u = refl
+
+-- a list that f gives, in front of others
+pub filled-front : (f : ℕ → ℕ) (n : ℕ) (s rest : List ℕ) → s ≡ tabulate n f → Filled f (s ++ rest) 0 n
+filled-front f n s rest e j m u =
+    List·getD-append s rest 0 j (subst (λ (k : ℕ). j < k) (sym (ap length e ∙ length-tabulate n f)) u) ∙ ap (λ (t : List ℕ). getD t j 0) e ∙ getD-tabulate n f j u

@@ -60,15 +60,15 @@ part-words-verdict-start-2 c = search needs
 
 part-words-verdict-end-2 : tie.Need-part-words-verdict-end-2
 part-words-verdict-end-2 c =
-    let s = c .before .before .before .before .before .before .before .before .before .before .before .before .before .before .before .before .before .before .before .before .args in
-    let r : c .before .before .before .before .before .before .before .before .before .before .before .before .row-width .result * length (s .points .now) ≤ length (s .answers .now) = subst (λ (k : ℕ). k * length (s .points .now) ≤ length (s .answers .now)) (sym (c .before .before .before .before .before .before .before .before .before .before .before .before .row-width .ensures)) (c .before .before .before .before .before .before .before .before .before .before .before .before .before .before .before .before .before .before .before .before .pre .3) in
-    let l : length (c .before .before .before .before .before .read-words2 .last .1 .1 .1 .0) ≡ length (s .answers .now) = c .before .before .before .before .before .read-words2 .kept .1 .1 .1 .0 in
+    let s = c .before .before .before .before .before .before .before .before .before .before .before .before .before .before .before .before .before .before .before .args in
+    let r : c .before .before .before .before .before .before .before .before .before .before .before .row-width .result * length (s .points .now) ≤ length (s .answers .now) = subst (λ (k : ℕ). k * length (s .points .now) ≤ length (s .answers .now)) (sym (c .before .before .before .before .before .before .before .before .before .before .before .row-width .ensures)) (c .before .before .before .before .before .before .before .before .before .before .before .before .before .before .before .before .before .before .before .pre .3) in
+    let l : length (c .before .before .before .before .read-words2 .last .1 .1 .1 .0) ≡ length (s .answers .now) = c .before .before .before .before .read-words2 .kept .1 .1 .1 .0 in
     search needs
 
 words-verdict-requires : tie.Need-words-verdict-requires
 words-verdict-requires c κs =
-    let s = c .before .before .before .before .before .before .before .before .before .before .before .before .before .before .before .before .before .before .before .before .before .args in
-    (c .before .before .before .before .before .before .before .before .before .before .before .before .before .before .before .before .before .before .before .before .before .pre .0, was-read (sizesIn (s .s)) (s .root .now) (s .challenges .now) (s .points .now) (s .indices .now) (s .reply .now) (c .before .before .before .before .before .before .before .before .before .before .before .before .before .before .before .before .before .before .before .before .before .pre .0) (c .before .before .before .before .before .before .before .before .before .before .before .before .before .row-width .result) (c .before .before .before .before .before .before .before .before .answers-at .result) (s .batching .now) (s .answers .now) (c .before .before .before .before .before .before .before .before .before .before .before .read-words .last .1 .1 .1 .0) (c .before .before .before .before .before .before .read-words2 .last .1 .1 .1 .0) (c .before .before .before .before .before .before .before .before .before .before .before .before .before .before .before .before .before .before .before .before .before .pre .1) (c .before .before .before .before .before .before .before .before .before .before .before .before .before .row-width .ensures) (c .before .before .before .before .before .before .before .before .answers-at .ensures) (c .before .before .before .before .before .before .before .before .before .before .before .read-words .ensures) (c .before .before .before .before .before .before .read-words2 .ensures))
+    let s = c .before .before .before .before .before .before .before .before .before .before .before .before .before .before .before .before .before .before .before .before .args in
+    (c .before .before .before .before .before .before .before .before .before .before .before .before .before .before .before .before .before .before .before .before .pre .0, was-read (sizesIn (s .s)) (s .root .now) (s .challenges .now) (s .points .now) (s .indices .now) (s .reply .now) (c .before .before .before .before .before .before .before .before .before .before .before .before .before .before .before .before .before .before .before .before .pre .0) (c .before .before .before .before .before .before .before .before .before .before .before .before .row-width .result) (c .before .before .before .before .before .before .before .answers-at .result) (s .batching .now) (s .answers .now) (c .before .before .before .before .before .before .before .before .before .before .read-words .last .1 .1 .1 .0) (c .before .before .before .before .before .read-words2 .last .1 .1 .1 .0) (c .before .before .before .before .before .before .before .before .before .before .before .before .before .before .before .before .before .before .before .before .pre .1) (c .before .before .before .before .before .before .before .before .before .before .before .before .row-width .ensures) (c .before .before .before .before .before .before .before .answers-at .ensures) (c .before .before .before .before .before .before .before .before .before .before .read-words .ensures) (c .before .before .before .before .before .read-words2 .ensures))
 
 same-length : tie.Need-same-length
 same-length c = search needs

@@ -1,4 +1,0 @@
-pub mod Rows
-pub mod Records
-pub mod Batching
-pub mod Evaluation
