@@ -37,11 +37,6 @@ fi
 # shellcheck disable=SC2086
 "$CC" $CFLAGS "$tools/bench.c" "$tools/instance.c" $objects "$archive" $with -lpthread -Wl,-z,now -o "$build/bench"
 
-# lacks OPERATION NAME: whether it is the older archive and has no reply_length yet
-lacks() {
-    [ "$2 $1" = "before length" ] && ! grep -q ' before_reply_length$' "$build/before.names"
-}
-
 # count OPERATION SIZE NAME: instructions inside that call
 count() {
     entry=$1
@@ -51,24 +46,19 @@ count() {
 
 instructions() {
     names=$("$build/bench" names)
-    printf '\nInstructions of one call (callgrind), and the ratio of the library to each of the others. Sizes as '
-    printf 'above, from the first.\n\n| size | operation | permutations '
+    printf '\nInstructions of one call (callgrind), and the ratio of the library to each of the others.\n\n'
+    printf '| h | mu | nu | w | l | eta | m | operation | permutations '
     for name in $names; do printf '| %s ' "$name"; done
     for name in $names; do [ "$name" = smallwood ] || printf '| to %s ' "$name"; done
-    printf '|\n|---|---|---|'
+    printf '|\n|---|---|---|---|---|---|---|---|---|'
     for name in $names; do printf -- '---|'; done
     for name in $names; do [ "$name" = smallwood ] || printf -- '---|'; done
     echo
     for size in $("$build/bench" sizes); do
         for operation in commit open check length; do
-            printf '| %s | %s | %s ' "$size" "$operation" "$("$build/bench" permutations "$operation" "$size")"
+            "$build/bench" row "$operation" "$size"
             ratios=
             for name in $names; do
-                if lacks "$operation" "$name"; then
-                    printf '| - '
-                    ratios="$ratios| - "
-                    continue
-                fi
                 found=$(count "$operation" "$size" "$name")
                 printf '| %s ' "$found"
                 if [ "$name" = smallwood ]; then
