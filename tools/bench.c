@@ -315,7 +315,7 @@ static void show_growth(void)
     show_growth_of("N (leaves)", &s, &s.h, 7, 12); /* N is at least w nu + l */
     show_growth_of("mu (rows)", &s, &s.mu, 1, 64);
     show_growth_of("l (opened leaves)", &s, &s.l, 1, 64);
-    show_growth_of("nu (columns)", &columns, &columns.nu, 1, 256);
+    show_growth_of("nu (columns, w = 1)", &columns, &columns.nu, 1, 256);
     show_growth_of("eta (repetitions)", &s, &s.eta, 1, 4);
     show_growth_of("m (points)", &s, &s.m, 1, 8);
 }
