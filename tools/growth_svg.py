@@ -28,7 +28,8 @@ OCTAVE, DECADE = 38, 62  # pixels for a factor of 2 to the right, and of 10 upwa
 INSET = 14  # between a panel's frame and its first and last value
 LEFT, TITLE, BELOW, EDGE = 58, 26, 40, 16  # room beside, above and below a panel, and at the picture's edge
 HEAD = 70  # the picture's title and legend
-SAMPLE, GAP = 30, 6  # a line in the legend, and from a line to its words
+SAMPLE, GAP, NEXT = 30, 6, 110  # a line in the legend, from it to its words, and to the next one
+MIDDLE = 4  # from the foot of a line of text to its middle
 TEXT, LINE, GRID, PAPER = "#222222", "#888888", "#e4e4e4", "#ffffff"
 
 
@@ -147,8 +148,8 @@ class Panel:
         for time in self.times:
             _, up = self.place(self.values[0], time)
             yield line(self.x, up, right, up, 'stroke="%s"' % GRID)
-            if log10(time) == round(log10(time)):
-                yield words(self.x - GAP, up + 4, "%g" % time if time < 1 else "%d" % time, 'text-anchor="end"')
+            if ("%.0e" % time).startswith("1"):
+                yield words(self.x - GAP, up + MIDDLE, "%g" % time, 'text-anchor="end"')
         frame = tuple(map(decimals, (self.x, self.y, self.width, self.height))) + (LINE,)
         yield '<rect x="%s" y="%s" width="%s" height="%s" fill="none" stroke="%s"/>' % frame
         yield words(self.x, self.y - 8, self.name, 'font-size="13"')
@@ -169,14 +170,14 @@ def legend(y):
     """The title, and below it a sample of each line and of the steepness of a time that doubles with the size."""
     yield words(EDGE, y, "Microseconds of one call as one size doubles", 'font-size="16"')
     x, y = EDGE, y + 24
-    samples = [(operation, 'stroke="%s" stroke-width="2"' % color) for operation, color in COLORS.items()]
-    samples += [(column, 'stroke="%s" %s' % (TEXT, stroke)) for column, stroke in STROKES.items()]
-    for name, stroke in samples:
-        yield line(x, y - 4, x + SAMPLE, y - 4, stroke)
+    samples = [(operation, color, STROKES["library"]) for operation, color in COLORS.items()]
+    samples += [(column, TEXT, stroke) for column, stroke in STROKES.items()]
+    for name, color, stroke in samples:
+        yield line(x, y - MIDDLE, x + SAMPLE, y - MIDDLE, 'stroke="%s" %s' % (color, stroke))
         yield words(x + SAMPLE + GAP, y, name)
-        x += 110
+        x += NEXT
     yield line(x, y, x + OCTAVE, y - DECADE * log10(2), 'stroke="%s"' % LINE)
-    yield words(x + OCTAVE + GAP, y, "as steep: doubles with the size")
+    yield words(x + OCTAVE + GAP, y, "this steep: doubles with the size")
 
 
 def picture(found):
