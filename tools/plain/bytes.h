@@ -31,9 +31,10 @@ static inline bool are_elements(const uint32_t *words, size_t count)
 {
     uint32_t bad = 0;
 
+#pragma GCC unroll 4
     for (size_t i = 0; i < count; i++)
-        bad |= words[i] >= Q;
-    return !bad;
+        bad |= words[i] >= Q ? ~(uint32_t)0 : 0;
+    return bad == 0;
 }
 
 #endif

@@ -68,8 +68,7 @@ static inline void fill_table(const struct sizes *s, const struct lent *lent, ui
             else
                 for (uint32_t c = 0; c < s->width; c++)
                     values[c][j] = mask_values[first + j - s->mu][c];
-        take_differences(values, s->width, lanes);
-        turn_differences(values, s->width, lanes, ladder);
+        build_ladder(values, s->width, lanes, ladder);
         walk_down(s, ladder, first, lanes, table);
     }
 }

@@ -13,7 +13,7 @@
 
 #define LANES 4 /* polynomials side by side, two to a vector */
 #define PAIR 2
-#define BLOCK 8 /* lines in registers during a run; MAX_WIDTH is a multiple */
+#define BLOCK 10 /* lines in registers during a run; MAX_WIDTH is a multiple */
 #define RUN 26  /* steps; with at most 29, folding after each run keeps lines below 2^(64 - RUN) */
 
 typedef uint64_t line[LANES];
@@ -21,8 +21,9 @@ typedef uint64_t line[LANES];
 #define STEP(n)                                                                                    \
     {                                                                                              \
         uint64_t input = feed[(n) * LANES + j];                                                    \
-        feed[(n) * LANES + j] = v7;                                                                \
-        v7 += v6, v6 += v5, v5 += v4, v4 += v3, v3 += v2, v2 += v1, v1 += v0, v0 += input;         \
+        feed[(n) * LANES + j] = v9;                                                                \
+        v9 += v8, v8 += v7, v7 += v6, v6 += v5, v5 += v4;                                          \
+        v4 += v3, v3 += v2, v2 += v1, v1 += v0, v0 += input;                                       \
     }
 
 /* A run of one block for a pair of polynomials. The feed has the inputs, and then what went out below. With
@@ -32,13 +33,15 @@ static inline void run_block(uint64_t *restrict v, uint64_t *restrict feed)
     for (int j = 0; j < PAIR; j++) {
         uint64_t v0 = v[0 * LANES + j], v1 = v[1 * LANES + j], v2 = v[2 * LANES + j];
         uint64_t v3 = v[3 * LANES + j], v4 = v[4 * LANES + j], v5 = v[5 * LANES + j];
-        uint64_t v6 = v[6 * LANES + j], v7 = v[7 * LANES + j];
+        uint64_t v6 = v[6 * LANES + j], v7 = v[7 * LANES + j], v8 = v[8 * LANES + j];
+        uint64_t v9 = v[9 * LANES + j];
         STEP(0) STEP(1) STEP(2) STEP(3) STEP(4) STEP(5) STEP(6) STEP(7) STEP(8)
         STEP(9) STEP(10) STEP(11) STEP(12) STEP(13) STEP(14) STEP(15) STEP(16) STEP(17)
         STEP(18) STEP(19) STEP(20) STEP(21) STEP(22) STEP(23) STEP(24) STEP(25)
         v[0 * LANES + j] = fold(v0), v[1 * LANES + j] = fold(v1), v[2 * LANES + j] = fold(v2);
         v[3 * LANES + j] = fold(v3), v[4 * LANES + j] = fold(v4), v[5 * LANES + j] = fold(v5);
-        v[6 * LANES + j] = fold(v6), v[7 * LANES + j] = fold(v7);
+        v[6 * LANES + j] = fold(v6), v[7 * LANES + j] = fold(v7), v[8 * LANES + j] = fold(v8);
+        v[9 * LANES + j] = fold(v9);
     }
 }
 
@@ -76,28 +79,38 @@ static inline void take_differences(line *values, size_t width, size_t lanes)
     }
 }
 
-/* From the differences D_k over x, x + 1, .. (backward ones, for who walks down from x) to the ladder of those
- * over x, x - 1, ..: difference k + 1 is the coefficient of y^k in the sum of D_i (1 + y)^(i - 1), i > 0. */
-static inline void turn_differences(const line *differences, size_t width, size_t lanes, line *ladder)
+/* The coefficients of p(1 + y) from those of p, lowest first: a line for each coefficient, the lowest uppermost,
+ * and p's coefficients as inputs, the highest first. Lines that are still 0 are left out. */
+static inline void shift(line *coefficients, size_t width, size_t lanes)
 {
-    line sum[MAX_WIDTH], feed[RUN];
-    size_t order = width - 1, blocks = blocks_of(width), blank = BLOCK * blocks - width;
-    size_t runs = (order + RUN - 1) / RUN, lead = RUN * runs - order;
+    line ladder[MAX_WIDTH], feed[RUN];
+    size_t blocks = blocks_of(width), runs = (width + RUN - 1) / RUN, lead = RUN * runs - width;
 
-    memset(sum, 0, BLOCK * blocks * sizeof(line));
+    memset(ladder, 0, BLOCK * blocks * sizeof(line));
     for (size_t r = 0; r < runs; r++) {
         size_t reached = blocks_of(RUN * (r + 1) - lead);
         for (size_t n = 0; n < RUN; n++)
             if (RUN * r + n < lead)
                 memset(feed[n], 0, sizeof(line));
             else
-                memcpy(feed[n], differences[order + lead - (RUN * r + n)], sizeof(line));
-        run(sum, 0, reached < blocks ? reached : blocks, lanes, feed);
+                memcpy(feed[n], coefficients[width + lead - 1 - (RUN * r + n)], sizeof(line));
+        run(ladder, 0, reached < blocks ? reached : blocks, lanes, feed);
     }
+    memcpy(coefficients, ladder, width * sizeof(line));
+}
+
+/* The ladder that walks down from x, from the values at x, x + 1, .. With D_k for what take_differences
+ * leaves, line k + 1 is the coefficient of y^k in the sum of D_i (1 + y)^(i - 1) over i > 0. */
+static inline void build_ladder(line *values, size_t width, size_t lanes, line *ladder)
+{
+    size_t blank = BLOCK * blocks_of(width) - width;
+
+    take_differences(values, width, lanes);
+    if (width > 1)
+        shift(values + 1, width - 1, lanes);
     memset(ladder, 0, blank * sizeof(line));
-    for (size_t k = 0; k < order; k++)
-        memcpy(ladder[blank + order - 1 - k], sum[k], sizeof(line));
-    memcpy(ladder[blank + order], differences[0], sizeof(line));
+    for (size_t k = 0; k < width; k++)
+        memcpy(ladder[blank + width - 1 - k], values[k], sizeof(line));
 }
 
 #endif

@@ -30,9 +30,24 @@ static inline uint32_t add(uint32_t a, uint32_t b)
     return a < Q - b ? a + b : a - (Q - b);
 }
 
+static inline uint32_t subtract(uint32_t a, uint32_t b)
+{
+    return a >= b ? a - b : a + (Q - b);
+}
+
 static inline uint32_t multiply(uint32_t a, uint32_t b)
 {
     return reduce((uint64_t)a * b);
+}
+
+/* For a > 0: a times q / a is minus q % a. */
+static inline uint32_t inverse(uint32_t a)
+{
+    uint32_t product = 1;
+
+    for (; a > 1; a = Q % a)
+        product = multiply(product, Q - Q / a);
+    return product;
 }
 
 /* A sum of products: modulo 2^64, and the sum of their upper halves. The sum of the lower halves is what
