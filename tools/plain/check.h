@@ -43,13 +43,15 @@ static inline bool read_reply(const struct sizes *s, const uint8_t *bytes, struc
 
 static inline bool root_holds(const struct question *q, const struct reply *r)
 {
+    const struct sizes *s = &q->sizes;
+    uint8_t strings[MAX_LEAF_STRING * MAX_OPENED], *end = strings;
     uint8_t digests[MAX_OPENED][DIGEST_BYTES];
     const uint8_t *record = r->records;
 
-    for (uint32_t b = 0; b < q->sizes.l; b++, record += record_size(&q->sizes))
-        hash_leaf(q->opened.indices[b], record, q->sizes.record, record + 4 * q->sizes.record,
-                  digests[b]);
-    find_root(q->sizes.h, q->opened, digests, r->nodes);
+    for (uint32_t b = 0; b < s->l; b++, record += record_size(s))
+        end = put_leaf(end, q->opened.indices[b], record, s->record, record + 4 * s->record);
+    hash(strings, LEAF_PREFIX + record_size(s), s->l, digests[0]);
+    find_root(s->h, q->opened, digests, r->nodes);
     return memcmp(digests[0], q->root, DIGEST_BYTES) == 0;
 }
 

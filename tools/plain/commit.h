@@ -73,6 +73,21 @@ static inline void fill_table(const struct sizes *s, const struct lent *lent, ui
     }
 }
 
+/* Leaves come in pairs. */
+static inline void hash_leaves(const struct sizes *s, const uint32_t *table, const uint8_t *nonces,
+                               uint8_t *digests)
+{
+    for (uint32_t i = 0; i < s->leaves; i += 2) {
+        uint8_t strings[2 * MAX_LEAF_STRING], *second, *end;
+        second = put_leaf(strings, i, table, s->record, nonces);
+        end = put_leaf(second, i + 1, table + s->record, s->record, nonces + NONCE_BYTES);
+        hash(strings, (size_t)(end - second), 2, digests);
+        table += 2 * s->record;
+        nonces += 2 * NONCE_BYTES;
+        digests += 2 * DIGEST_BYTES;
+    }
+}
+
 uint32_t PLAIN(commit)(uint32_t h, uint32_t mu, uint32_t nu, uint32_t w, uint32_t l, uint32_t eta,
                        const uint32_t *coefficients, size_t coefficient_count,
                        const uint32_t *tails, size_t tail_count, const uint32_t *masks,
@@ -91,9 +106,7 @@ uint32_t PLAIN(commit)(uint32_t h, uint32_t mu, uint32_t nu, uint32_t w, uint32_
         !are_elements(masks, mask_count))
         return 3;
     fill_table(&s, &lent, table);
-    for (uint32_t i = 0; i < s.leaves; i++)
-        hash_leaf(i, table + (size_t)i * s.record, s.record, nonces + NONCE_BYTES * (size_t)i,
-                  tree + DIGEST_BYTES * (size_t)i);
+    hash_leaves(&s, table, nonces, tree);
     fill_tree(tree, s.leaves);
     return 0;
 }

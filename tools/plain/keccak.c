@@ -1,17 +1,16 @@
 /* Keccak-f[1600] and SHAKE256 in plain C. Lane (x, y) is number x + 5y.
  *
- * Six lanes are kept complemented, between permutations too: 1, 2, 8, 12, 17, 20. With them chi needs one
- * complement in a row, where without it needs five: the others go into `and` made `or`. A round keeps the
- * same six complemented, since theta gives every column an even number of them and rho and pi move the lanes
- * to places from which the rows below restore them. */
+ * During a permutation six lanes are complemented. With them chi needs one complement in a row, where without
+ * it needs five: the others go into `and` made `or`. A round leaves the same six complemented. */
 #include "shake.h"
 
 #include <string.h>
 
 #define LANES 25
+#define ROUNDS 24
 #define RATE_LANES (RATE_BYTES / 8)
 
-static const uint64_t round_constants[24] = {
+static const uint64_t round_constants[ROUNDS] = {
     0x0000000000000001, 0x0000000000008082, 0x800000000000808a, 0x8000000080008000,
     0x000000000000808b, 0x0000000080000001, 0x8000000080008081, 0x8000000000008009,
     0x000000000000008a, 0x0000000000000088, 0x0000000080008009, 0x000000008000000a,
@@ -76,44 +75,76 @@ static inline void keccak_round(const uint64_t a[LANES], uint64_t e[LANES], uint
     e[24] = b4 ^ (b0 & ~b1);
 }
 
+static inline void complement(uint64_t a[LANES])
+{
+    a[1] = ~a[1], a[2] = ~a[2], a[8] = ~a[8];
+    a[12] = ~a[12], a[17] = ~a[17], a[20] = ~a[20];
+}
+
 static void permute(uint64_t a[LANES])
 {
     uint64_t e[LANES];
 
-    for (int r = 0; r < 24; r += 2) {
+    complement(a);
+    for (int r = 0; r < ROUNDS; r += 2) {
         keccak_round(a, e, round_constants[r]);
         keccak_round(e, a, round_constants[r + 1]);
     }
+    complement(a);
 }
 
-/* Lanes are bytes in the order of x86-64, lowest first. */
-static inline void absorb(uint64_t state[LANES], const uint8_t *from, size_t lanes)
+#include "keccak_pair.h"
+
+/* To every `ways`-th lane. Lanes are bytes in the order of x86-64, lowest first. */
+static inline void absorb(uint64_t *state, size_t ways, const uint8_t *from, size_t lanes)
 {
     for (size_t i = 0; i < lanes; i++) {
         uint64_t lane;
         memcpy(&lane, from + 8 * i, 8);
-        state[i] ^= lane;
+        state[ways * i] ^= lane;
     }
+}
+
+/* What is left of a string, less than a block, and the padding. */
+static inline void absorb_last(uint64_t *state, size_t ways, const uint8_t *from, size_t length)
+{
+    uint64_t last = 0;
+
+    absorb(state, ways, from, length / 8);
+    if (length % 8 != 0)
+        memcpy(&last, from + length - length % 8, length % 8);
+    state[ways * (length / 8)] ^= last ^ (uint64_t)0x1f << 8 * (length % 8);
+    state[ways * (RATE_LANES - 1)] ^= (uint64_t)0x80 << 56;
 }
 
 void keccak_digest(const uint8_t *string, size_t length, uint8_t digest[DIGEST_BYTES])
 {
-    const uint64_t ones = ~(uint64_t)0;
-    uint64_t state[LANES] = {
-        [1] = ones, [2] = ones, [8] = ones, [12] = ones, [17] = ones, [20] = ones};
-    uint64_t last = 0;
+    uint64_t state[LANES] = {0};
 
     for (; length >= RATE_BYTES; string += RATE_BYTES, length -= RATE_BYTES) {
-        absorb(state, string, RATE_LANES);
+        absorb(state, 1, string, RATE_LANES);
         permute(state);
     }
-    absorb(state, string, length / 8);
-    if (length % 8 != 0)
-        memcpy(&last, string + length - length % 8, length % 8);
-    state[length / 8] ^= last ^ (uint64_t)0x1f << 8 * (length % 8);
-    state[RATE_LANES - 1] ^= (uint64_t)0x80 << 56;
+    absorb_last(state, 1, string, length);
     permute(state);
-    state[1] = ~state[1];
-    state[2] = ~state[2];
     memcpy(digest, state, DIGEST_BYTES);
+}
+
+void keccak_digests(const uint8_t *first, const uint8_t *second, size_t length, uint8_t *first_digest,
+                    uint8_t *second_digest)
+{
+    lane_pair state[LANES] = {{0}};
+
+    for (; length >= RATE_BYTES; first += RATE_BYTES, second += RATE_BYTES, length -= RATE_BYTES) {
+        absorb(&state[0][0], 2, first, RATE_LANES);
+        absorb(&state[0][1], 2, second, RATE_LANES);
+        permute_pair(state);
+    }
+    absorb_last(&state[0][0], 2, first, length);
+    absorb_last(&state[0][1], 2, second, length);
+    permute_pair(state);
+    for (int i = 0; i < DIGEST_BYTES / 8; i++) {
+        memcpy(first_digest + 8 * i, &state[i][0], 8);
+        memcpy(second_digest + 8 * i, &state[i][1], 8);
+    }
 }

@@ -7,50 +7,59 @@
 #include "shake.h"
 #include "sizes.h"
 
-#ifdef PLAIN_OPENSSL
-#define hash evp_digest
-#else
-#define hash keccak_digest
-#endif
-
 #define LEAF_MARK 0x00
 #define NODE_MARK 0x01
 #define LEAF_PREFIX 3
 #define MAX_LEAF_STRING (LEAF_PREFIX + 4 * (MAX_ROWS + MAX_REPETITIONS) + NONCE_BYTES)
+#define NODE_STRING (1 + 2 * DIGEST_BYTES)
 
-/* The values are words in the machine's order. */
-static inline void hash_leaf(uint32_t index, const void *values, size_t count, const uint8_t *nonce,
-                             uint8_t *digest)
+/* The digests of `count` strings of the same length, one behind the other: two at a time where that is faster. */
+static inline void hash(const uint8_t *strings, size_t length, size_t count, uint8_t *digests)
 {
-    uint8_t string[MAX_LEAF_STRING];
-
-    string[0] = LEAF_MARK;
-    string[1] = (uint8_t)index;
-    string[2] = (uint8_t)(index >> 8);
-    memcpy(string + LEAF_PREFIX, values, 4 * count);
-    memcpy(string + LEAF_PREFIX + 4 * count, nonce, NONCE_BYTES);
-    hash(string, LEAF_PREFIX + 4 * count + NONCE_BYTES, digest);
+#ifdef PLAIN_OPENSSL
+    for (; count > 0; count--, strings += length, digests += DIGEST_BYTES)
+        evp_digest(strings, length, digests);
+#else
+    for (; count > 1; count -= 2, strings += 2 * length, digests += 2 * DIGEST_BYTES)
+        keccak_digests(strings, strings + length, length, digests, digests + DIGEST_BYTES);
+    if (count > 0)
+        keccak_digest(strings, length, digests);
+#endif
 }
 
-static inline void hash_node(const uint8_t *left, const uint8_t *right, uint8_t *digest)
+/* The string of a leaf, of which the values are words in the machine's order; returns what follows. */
+static inline uint8_t *put_leaf(uint8_t *to, uint32_t index, const void *values, size_t count,
+                                const uint8_t *nonce)
 {
-    uint8_t string[1 + 2 * DIGEST_BYTES];
+    to[0] = LEAF_MARK;
+    to[1] = (uint8_t)index;
+    to[2] = (uint8_t)(index >> 8);
+    to += LEAF_PREFIX;
+    memcpy(to, values, 4 * count);
+    memcpy(to + 4 * count, nonce, NONCE_BYTES);
+    return to + 4 * count + NONCE_BYTES;
+}
 
-    string[0] = NODE_MARK;
-    memcpy(string + 1, left, DIGEST_BYTES);
-    memcpy(string + 1 + DIGEST_BYTES, right, DIGEST_BYTES);
-    hash(string, sizeof string, digest);
+static inline uint8_t *put_node(uint8_t *to, const uint8_t *left, const uint8_t *right)
+{
+    to[0] = NODE_MARK;
+    memcpy(to + 1, left, DIGEST_BYTES);
+    memcpy(to + 1 + DIGEST_BYTES, right, DIGEST_BYTES);
+    return to + NODE_STRING;
 }
 
 /* From the leaves' digests at its start, all levels of the tree. */
 static inline void fill_tree(uint8_t *tree, uint32_t leaves)
 {
-    for (uint32_t count = leaves; count > 1; count /= 2) {
-        uint8_t *above = tree + DIGEST_BYTES * (size_t)count;
-        for (uint32_t i = 0; i < count / 2; i++)
-            hash_node(tree + DIGEST_BYTES * (size_t)(2 * i),
-                      tree + DIGEST_BYTES * (size_t)(2 * i + 1), above + DIGEST_BYTES * (size_t)i);
-        tree = above;
+    uint8_t *above = tree + DIGEST_BYTES * (size_t)leaves;
+
+    for (uint32_t made = 0, batch; made + 1 < leaves; made += batch) {
+        uint8_t strings[2 * NODE_STRING], *end = strings;
+        batch = made + 2 < leaves ? 2 : 1;
+        for (uint32_t i = 0; i < batch; i++, tree += 2 * DIGEST_BYTES)
+            end = put_node(end, tree, tree + DIGEST_BYTES);
+        hash(strings, NODE_STRING, batch, above);
+        above += DIGEST_BYTES * (size_t)batch;
     }
 }
 
@@ -110,6 +119,7 @@ static inline void find_root(uint32_t h, struct level level, uint8_t (*digests)[
                              const uint8_t *missing)
 {
     for (; h > 0; h--) {
+        uint8_t strings[NODE_STRING * MAX_OPENED], *end = strings;
         uint32_t above = 0;
         for (uint32_t at = 0; at < level.count; at++) {
             uint32_t index = level.indices[at];
@@ -120,12 +130,10 @@ static inline void find_root(uint32_t h, struct level level, uint8_t (*digests)[
                 sibling = missing;
                 missing += DIGEST_BYTES;
             }
-            if (index % 2 == 0)
-                hash_node(own, sibling, digests[above]);
-            else
-                hash_node(sibling, own, digests[above]);
+            end = index % 2 == 0 ? put_node(end, own, sibling) : put_node(end, sibling, own);
             level.indices[above++] = index / 2;
         }
+        hash(strings, NODE_STRING, above, digests[0]);
         level.count = above;
     }
 }
