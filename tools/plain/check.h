@@ -51,7 +51,7 @@ static inline bool root_holds(const struct question *q, const struct reply *r)
     for (uint32_t b = 0; b < s->l; b++, record += record_size(s))
         end = put_leaf(end, q->opened.indices[b], record, s->record, record + 4 * s->record);
     hash(strings, LEAF_PREFIX + record_size(s), s->l, digests[0]);
-    find_root(s->h, q->opened, digests, r->nodes);
+    find_root(s->h, &q->opened, digests, r->nodes);
     return memcmp(digests[0], q->root, DIGEST_BYTES) == 0;
 }
 
@@ -81,20 +81,21 @@ static inline void fill_inverses(uint32_t *inverses, uint32_t end)
         inverses[k] = multiply(Q - Q / k, inverses[Q % k]);
 }
 
-/* For each of `width` consecutive numbers the product of all the others. */
+/* For each of `width` consecutive numbers the product of all the others: of those below and those above, in
+ * two chains side by side. */
 static inline void fill_products(uint32_t first, uint32_t *out, uint32_t width)
 {
-    uint32_t product = 1;
+    uint32_t below = 1, above = 1, from_above[MAX_WIDTH];
 
     for (uint32_t t = 0; t < width; t++) {
-        out[t] = product;
-        product = multiply(product, first + t);
+        uint32_t last = width - 1 - t;
+        out[t] = below;
+        from_above[last] = above;
+        below = multiply(below, first + t);
+        above = multiply(above, first + last);
     }
-    product = 1;
-    for (uint32_t t = width; t-- > 0;) {
-        out[t] = multiply(out[t], product);
-        product = multiply(product, first + t);
-    }
+    for (uint32_t t = 0; t < width; t++)
+        out[t] = multiply(out[t], from_above[t]);
 }
 
 /* Interpolation at a leaf x over the points N + t in the barycentric form: with u_t = (-1)^t / (t! (d - t)!),

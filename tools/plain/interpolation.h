@@ -96,12 +96,13 @@ static inline void interpolate_wide(uint32_t first, line *values, size_t width, 
     take_differences(values, width, lanes);
     powers(Q - c, scales, width);
     for (size_t j = 0; j < lanes; j++) {
-        double s[MAX_WIDTH + 3] = {0};
+        double s[MAX_WIDTH + 3];
         for (size_t k = 0; k < width; k++) {
             s[k] = to_balanced(multiply(reduce(values[k][j]), inverse_factorials[k]));
             if (k % 2 != 0)
                 s[k] = -s[k];
         }
+        s[width] = s[width + 1] = s[width + 2] = 0;
         expand_centred(s, width);
         for (size_t k = 0; k < width; k++)
             values[k][j] = multiply(from_balanced(s[k]), scales[k]);

@@ -95,39 +95,49 @@ static void permute(uint64_t a[LANES])
 
 #include "keccak_pair.h"
 
-/* To every `ways`-th lane. Lanes are bytes in the order of x86-64, lowest first. */
-static inline void absorb(uint64_t *state, size_t ways, const uint8_t *from, size_t lanes)
+/* Lanes are bytes in the order of x86-64, lowest first. */
+static inline uint64_t load64(const uint8_t *from)
 {
-    for (size_t i = 0; i < lanes; i++) {
-        uint64_t lane;
-        memcpy(&lane, from + 8 * i, 8);
-        state[ways * i] ^= lane;
-    }
+    uint64_t lane;
+
+    memcpy(&lane, from, 8);
+    return lane;
 }
 
-/* What is left of a string, less than a block, and the padding. */
-static inline void absorb_last(uint64_t *state, size_t ways, const uint8_t *from, size_t length)
+/* The rest of a string behind its last full lane, and the padding's first byte. */
+static inline uint64_t last_lane(const uint8_t *string, size_t length)
 {
-    uint64_t last = 0;
+    uint64_t lane = 0;
 
-    absorb(state, ways, from, length / 8);
     if (length % 8 != 0)
-        memcpy(&last, from + length - length % 8, length % 8);
-    state[ways * (length / 8)] ^= last ^ (uint64_t)0x1f << 8 * (length % 8);
-    state[ways * (RATE_LANES - 1)] ^= (uint64_t)0x80 << 56;
+        memcpy(&lane, string + length - length % 8, length % 8);
+    return lane ^ (uint64_t)0x1f << 8 * (length % 8);
 }
+
+#define PADDING_END ((uint64_t)0x80 << 56)
 
 void keccak_digest(const uint8_t *string, size_t length, uint8_t digest[DIGEST_BYTES])
 {
     uint64_t state[LANES] = {0};
 
     for (; length >= RATE_BYTES; string += RATE_BYTES, length -= RATE_BYTES) {
-        absorb(state, 1, string, RATE_LANES);
+        for (size_t i = 0; i < RATE_LANES; i++)
+            state[i] ^= load64(string + 8 * i);
         permute(state);
     }
-    absorb_last(state, 1, string, length);
+    for (size_t i = 0; i < length / 8; i++)
+        state[i] ^= load64(string + 8 * i);
+    state[length / 8] ^= last_lane(string, length);
+    state[RATE_LANES - 1] ^= PADDING_END;
     permute(state);
     memcpy(digest, state, DIGEST_BYTES);
+}
+
+/* Both lanes at once, for stores of the size in which the permutation loads. */
+static inline void absorb_pair(lane_pair lanes, uint64_t first, uint64_t second)
+{
+    lanes[0] ^= first;
+    lanes[1] ^= second;
 }
 
 void keccak_digests(const uint8_t *first, const uint8_t *second, size_t length, uint8_t *first_digest,
@@ -136,12 +146,14 @@ void keccak_digests(const uint8_t *first, const uint8_t *second, size_t length, 
     lane_pair state[LANES] = {{0}};
 
     for (; length >= RATE_BYTES; first += RATE_BYTES, second += RATE_BYTES, length -= RATE_BYTES) {
-        absorb(&state[0][0], 2, first, RATE_LANES);
-        absorb(&state[0][1], 2, second, RATE_LANES);
+        for (size_t i = 0; i < RATE_LANES; i++)
+            absorb_pair(state[i], load64(first + 8 * i), load64(second + 8 * i));
         permute_pair(state);
     }
-    absorb_last(&state[0][0], 2, first, length);
-    absorb_last(&state[0][1], 2, second, length);
+    for (size_t i = 0; i < length / 8; i++)
+        absorb_pair(state[i], load64(first + 8 * i), load64(second + 8 * i));
+    absorb_pair(state[length / 8], last_lane(first, length), last_lane(second, length));
+    absorb_pair(state[RATE_LANES - 1], PADDING_END, PADDING_END);
     permute_pair(state);
     for (int i = 0; i < DIGEST_BYTES / 8; i++) {
         memcpy(first_digest + 8 * i, &state[i][0], 8);

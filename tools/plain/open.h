@@ -110,7 +110,7 @@ uint32_t PLAIN(open)(const uint8_t *question, size_t question_bytes, const uint3
     to = store_batchings(s, combined, masks, to);
     to = store_answers(s, combined, to);
     to = store_records(&q, table, nonces, to);
-    to = copy_missing(s->h, q.opened, tree, to);
+    to = copy_missing(s->h, &q.opened, tree, to);
     *length = (uint64_t)(to - reply);
     return 0;
 }

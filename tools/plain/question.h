@@ -62,7 +62,7 @@ static inline uint32_t read_question(const uint8_t *bytes, size_t length, struct
 /* The length of the reply to a question. */
 static inline size_t exact_size(const struct question *q)
 {
-    return reply_size(&q->sizes, count_missing(q->sizes.h, q->opened));
+    return reply_size(&q->sizes, count_missing(q->sizes.h, &q->opened));
 }
 
 #endif

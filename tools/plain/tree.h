@@ -75,27 +75,35 @@ static inline bool sibling_follows(const struct level *level, uint32_t at)
     return at + 1 < level->count && level->indices[at + 1] == (level->indices[at] ^ 1);
 }
 
-static inline size_t count_missing(uint32_t h, struct level level)
+/* The place of the highest bit. */
+static inline uint32_t highest_bit(uint32_t x)
 {
-    size_t missing = 0;
-
-    for (; h > 0; h--) {
-        uint32_t above = 0;
-        for (uint32_t at = 0; at < level.count; at++) {
-            uint32_t index = level.indices[at];
-            if (sibling_follows(&level, at))
-                at++;
-            else
-                missing++;
-            level.indices[above++] = index / 2;
-        }
-        level.count = above;
-    }
-    return missing;
+    return 31 - (uint32_t)__builtin_clz(x);
 }
 
-static inline uint8_t *copy_missing(uint32_t h, struct level level, const uint8_t *tree, uint8_t *to)
+/* Level by level, nodes and missing ones together are twice the nodes above. Above the leaves, the nodes of
+ * leaf b are new up to the highest bit in which it differs from leaf b - 1; those of leaf 0 all are. */
+static inline size_t count_missing(uint32_t h, const struct level *opened)
 {
+    size_t missing = h;
+
+    for (uint32_t b = 1; b < opened->count; b++)
+        missing += highest_bit(opened->indices[b] ^ opened->indices[b - 1]);
+    return missing - (opened->count - 1);
+}
+
+static inline void begin_walk(struct level *level, const struct level *opened)
+{
+    level->count = opened->count;
+    memcpy(level->indices, opened->indices, opened->count * sizeof opened->indices[0]);
+}
+
+static inline uint8_t *copy_missing(uint32_t h, const struct level *opened, const uint8_t *tree,
+                                    uint8_t *to)
+{
+    struct level level;
+
+    begin_walk(&level, opened);
     for (; h > 0; h--) {
         uint32_t above = 0;
         for (uint32_t at = 0; at < level.count; at++) {
@@ -115,9 +123,12 @@ static inline uint8_t *copy_missing(uint32_t h, struct level level, const uint8_
 }
 
 /* The opened leaves' digests become the root's, which ends in digests[0]. */
-static inline void find_root(uint32_t h, struct level level, uint8_t (*digests)[DIGEST_BYTES],
-                             const uint8_t *missing)
+static inline void find_root(uint32_t h, const struct level *opened,
+                             uint8_t (*digests)[DIGEST_BYTES], const uint8_t *missing)
 {
+    struct level level;
+
+    begin_walk(&level, opened);
     for (; h > 0; h--) {
         uint8_t strings[NODE_STRING * MAX_OPENED], *end = strings;
         uint32_t above = 0;
