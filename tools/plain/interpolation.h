@@ -10,8 +10,7 @@
 
 #define NARROW 32 /* up to this width, what expand_centred needs besides costs more than it saves */
 
-/* With all differences taken the other way round, the signs are those of the expansion in -x.
- * Expands the sum over k of s_k (x + first) .. (x + first + k - 1) in place, from the last factor to the
+/* Expands the sum over k of s_k (x + first) .. (x + first + k - 1) in place, from the last factor to the
  * first, two at a time and folded once: points are below 2^13, so places stay below 2^33. */
 static inline void expand(uint32_t first, uint64_t *s, size_t width)
 {
@@ -29,6 +28,7 @@ static inline void expand(uint32_t first, uint64_t *s, size_t width)
             s[i] = fold(s[i] + (uint64_t)first * s[i + 1]);
 }
 
+/* Differences are taken the other way round, x0 - x1: then the signs are those of the expansion in -x. */
 static inline void interpolate_narrow(uint32_t first, line *values, size_t width, size_t lanes)
 {
     for (size_t j = 0; j < lanes; j++) {
