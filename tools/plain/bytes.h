@@ -16,14 +16,21 @@ static inline uint32_t load16(const uint8_t *from)
     return (uint32_t)from[0] | (uint32_t)from[1] << 8;
 }
 
+/* Not inline: where a compiler knows a bound of the size, it takes a string instruction for memcpy, which starts
+ * slowly. */
+static __attribute__((noinline)) void copy(void *to, const void *from, size_t bytes)
+{
+    memcpy(to, from, bytes);
+}
+
 static inline void load_words(uint32_t *words, const uint8_t *from, size_t count)
 {
-    memcpy(words, from, 4 * count);
+    copy(words, from, 4 * count);
 }
 
 static inline uint8_t *store_words(uint8_t *to, const uint32_t *words, size_t count)
 {
-    memcpy(to, words, 4 * count);
+    copy(to, words, 4 * count);
     return to + 4 * count;
 }
 

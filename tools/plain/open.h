@@ -18,7 +18,7 @@ static inline void fill_factors(const struct question *q, uint32_t (*factors)[MA
     for (uint32_t k = 0; k < s->eta; k++) {
         uint32_t from_power_0[MAX_ROWS + 1];
         powers(q->challenges[k], from_power_0, s->mu + 1);
-        memcpy(factors[k], from_power_0 + 1, 4 * s->mu);
+        copy(factors[k], from_power_0 + 1, 4 * s->mu);
     }
     for (uint32_t p = 0; p < s->m; p++)
         powers(q->points[p], factors[s->eta + p], s->mu);

@@ -4,6 +4,7 @@
 
 #include <string.h>
 
+#include "bytes.h"
 #include "shake.h"
 #include "sizes.h"
 
@@ -35,7 +36,7 @@ static inline uint8_t *put_leaf(uint8_t *to, uint32_t index, const void *values,
     to[1] = (uint8_t)index;
     to[2] = (uint8_t)(index >> 8);
     to += LEAF_PREFIX;
-    memcpy(to, values, 4 * count);
+    copy(to, values, 4 * count);
     memcpy(to + 4 * count, nonce, NONCE_BYTES);
     return to + 4 * count + NONCE_BYTES;
 }
@@ -95,7 +96,7 @@ static inline size_t count_missing(uint32_t h, const struct level *opened)
 static inline void begin_walk(struct level *level, const struct level *opened)
 {
     level->count = opened->count;
-    memcpy(level->indices, opened->indices, opened->count * sizeof opened->indices[0]);
+    copy(level->indices, opened->indices, opened->count * sizeof opened->indices[0]);
 }
 
 static inline uint8_t *copy_missing(uint32_t h, const struct level *opened, const uint8_t *tree,
