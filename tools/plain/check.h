@@ -2,11 +2,11 @@
 #ifndef CHECK_H
 #define CHECK_H
 
+#include "barycentric.h"
 #include "bytes.h"
 #include "plain.h"
 #include "polynomials.h"
 #include "question.h"
-#include "table.h"
 #include "tree.h"
 
 #define MAX_RECORD (MAX_ROWS + MAX_REPETITIONS)
@@ -73,56 +73,19 @@ static inline bool batchings_hold(const struct question *q, const struct reply *
     return true;
 }
 
-/* The inverses of 1, .., end - 1: k times q / k is minus q % k. */
-static inline void fill_inverses(uint32_t *inverses, uint32_t end)
-{
-    inverses[1] = 1;
-    for (uint32_t k = 2; k < end; k++)
-        inverses[k] = multiply(Q - Q / k, inverses[Q % k]);
-}
-
-/* For each of `width` consecutive numbers the product of all the others: of those below and those above, in
- * two chains side by side. */
-static inline void fill_products(uint32_t first, uint32_t *out, uint32_t width)
-{
-    uint32_t below = 1, above = 1, from_above[MAX_WIDTH];
-
-    for (uint32_t t = 0; t < width; t++) {
-        uint32_t last = width - 1 - t;
-        out[t] = below;
-        from_above[last] = above;
-        below = multiply(below, first + t);
-        above = multiply(above, first + last);
-    }
-    for (uint32_t t = 0; t < width; t++)
-        out[t] = multiply(out[t], from_above[t]);
-}
-
-/* Interpolation at a leaf x over the points N + t in the barycentric form: with u_t = (-1)^t / (t! (d - t)!),
- * the value is the sum of u_t a_t / (N + t - x) over that of u_t / (N + t - x). Lines of the answers times
- * u_t come first, then one of the u_t. */
+/* Lines of the answers times the weights, and a last one of the weights. */
 static inline void scale_answers(const struct sizes *s, const struct reply *r,
                                  uint32_t (*scaled)[MAX_WIDTH])
 {
-    uint32_t *scale = scaled[s->m];
+    const uint32_t *weights = scaled[s->m];
 
-    for (uint32_t t = 0; t < s->width; t++) {
-        scale[t] = multiply(inverse_factorials[t], inverse_factorials[s->width - 1 - t]);
-        if (t % 2 != 0)
-            scale[t] = Q - scale[t];
-    }
+    fill_weights(scaled[s->m], s->width);
     for (uint32_t p = 0; p < s->m; p++)
         for (uint32_t t = 0; t < s->width; t++)
-            scaled[p][t] = multiply(scale[t], r->answers[p][t]);
+            scaled[p][t] = multiply(weights[t], r->answers[p][t]);
 }
 
-/* Whether a table of all inverses costs less than products at each leaf. */
-static inline bool wants_table(const struct sizes *s)
-{
-    return s->l * s->width * 2 > s->leaves + s->width;
-}
-
-/* With products in the place of the inverses, which are more by a common factor, the total is 1. */
+/* With products for inverses the total is 1. */
 static inline bool answers_hold(const struct question *q, const struct reply *r)
 {
     const struct sizes *s = &q->sizes;
