@@ -11,10 +11,10 @@
 #include "field.h"
 #include "sizes.h"
 
-#define LANES 4 /* polynomials side by side, two to a vector */
+#define LANES 4  /* polynomials side by side, two to a vector */
 #define PAIR 2
 #define BLOCK 10 /* lines in registers during a run; MAX_WIDTH is a multiple */
-#define RUN 26  /* steps; with at most 29, folding after each run keeps lines below 2^(64 - RUN) */
+#define RUN 26   /* steps; with at most 29, folding after each run keeps lines below 2^(64 - RUN) */
 
 typedef uint64_t line[LANES];
 
