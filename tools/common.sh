@@ -4,7 +4,7 @@ root=$(cd "$(dirname "$0")/.." && pwd)
 tools=$root/tools
 build=$root/target/tools
 CC=${CC:-gcc}
-CFLAGS=${CFLAGS:--O3 -Wall -Wextra -Werror}
+CFLAGS=${CFLAGS:--O3 -march=x86-64 -Wall -Wextra -Werror}
 
 fail() {
     echo "$(basename "$0"): $1" >&2

@@ -3,7 +3,7 @@
 #
 #     tools/conformance.sh                  every stored case and some drawn inputs
 #     tools/conformance.sh --long N         N drawn inputs (100000 and more); --seed S for others
-#     tools/conformance.sh --faults         tests the comparison itself on broken copies of plain/plain.c
+#     tools/conformance.sh --faults         tests the comparison itself on broken copies of plain/
 #
 #     --archive FILE     compares this archive and does not build the library
 #     --program FILE     compares this checking program and does not build it
