@@ -172,7 +172,7 @@ FAULTS = (
     ("all: the second of two strings ends as the first", "keccak.c",
      "last_lane(first, length), last_lane(second,", "last_lane(first, length), last_lane(first,"),
     ("all: the last of an odd number of strings is not hashed", "tree.h",
-     "if (count > 0)", "if (0)"),
+     "for (; count > 0;", "for (; 0;"),
     ("all: the last coefficients, fewer than a span, are left out", "polynomials.h",
      "if (rest > 0)", "if (0)"),
     ("all: spans are taken one power too near", "polynomials.h",
@@ -206,15 +206,15 @@ FAULTS = (
      "fill_power_table(s->leaves + c,", "fill_power_table(s->leaves + c + 1,"),
     ("open: a Newton coefficient of another factorial, narrow", "interpolation.h",
      "multiply(v[0], inverse_factorials[k])", "multiply(v[0], inverse_factorials[k + (k == 2)])"),
-    ("open: a Newton coefficient of another factorial, wide", "interpolation.h",
+    ("open: a Newton coefficient of another factorial, wide", "centred.h",
      "inverse_factorials[k]));", "inverse_factorials[k + (k == 7)]));"),
     ("open: narrow rows lack the last factor", "interpolation.h",
      "if (k == 1)", "if (0)"),
-    ("open: wide rows lack a product of two points", "interpolation.h",
+    ("open: wide rows lack a product of two points", "centred.h",
      "e2 = a * b + b * c + c * a", "e2 = a * b + b * c"),
-    ("open: wide rows are not brought back from the centre", "interpolation.h",
+    ("open: wide rows are not brought back from the centre", "centred.h",
      "    shift(values, width, lanes);\n", ""),
-    ("open: the centre is one too far", "interpolation.h",
+    ("open: the centre is one too far", "centred.h",
      "first + (uint32_t)(width / 2)", "first + 1 + (uint32_t)(width / 2)"),
     ("program: polynomial before point", "program.c",
      "p + 1, i + 1,", "i + 1, p + 1,"),
@@ -248,7 +248,7 @@ def build(compiler, folder, name, edits):
         assert text.count(old) == 1, (name, old, text.count(old))
         file.write_text(text.replace(old, new))
     sources = [folder / "plain" / "plain.c", folder / "plain" / "keccak.c"]
-    flags = ["-O1", "-march=x86-64", "-w", "-DPLAIN_PREFIX=smallwood", "-I", PLAIN.parent]
+    flags = ["-O1", "-march=x86-64", "-w", "-DPLAIN_PREFIX=smallwood", "-DPLAIN_PAIRS=1", "-I", PLAIN.parent]
     for main, out in ((PLAIN.parent / "conformance.c", "caller"), (folder / "plain" / "program.c", "program")):
         subprocess.run([compiler, *flags, main, *sources, "-o", folder / out], check=True)
 

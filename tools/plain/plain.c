@@ -1,6 +1,6 @@
 /* The SmallWood commitment over the field of 2^32 - 5 elements in plain C: what the library is measured
  * against. One translation unit, so that copies under several prefixes can be linked into one program. The
- * hash is OpenSSL's with -DPLAIN_OPENSSL, otherwise keccak.c's. */
+ * hash is OpenSSL's with -DPLAIN_OPENSSL, otherwise keccak.c's; plain.h has the other choices. */
 #include "plain.h"
 
 #include "check.h"

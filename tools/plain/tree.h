@@ -5,6 +5,7 @@
 #include <string.h>
 
 #include "bytes.h"
+#include "plain.h"
 #include "shake.h"
 #include "sizes.h"
 
@@ -14,18 +15,19 @@
 #define MAX_LEAF_STRING (LEAF_PREFIX + 4 * (MAX_ROWS + MAX_REPETITIONS) + NONCE_BYTES)
 #define NODE_STRING (1 + 2 * DIGEST_BYTES)
 
-/* The digests of `count` strings of the same length, one behind the other: two at a time where that is faster. */
+#ifdef PLAIN_OPENSSL
+#define ONE_DIGEST evp_digest
+#else
+#define ONE_DIGEST keccak_digest
+#endif
+
+/* The digests of `count` strings of the same length, one behind the other. */
 static inline void hash(const uint8_t *strings, size_t length, size_t count, uint8_t *digests)
 {
-#ifdef PLAIN_OPENSSL
-    for (; count > 0; count--, strings += length, digests += DIGEST_BYTES)
-        evp_digest(strings, length, digests);
-#else
-    for (; count > 1; count -= 2, strings += 2 * length, digests += 2 * DIGEST_BYTES)
+    for (; PLAIN_PAIRS && count > 1; count -= 2, strings += 2 * length, digests += 2 * DIGEST_BYTES)
         keccak_digests(strings, strings + length, length, digests, digests + DIGEST_BYTES);
-    if (count > 0)
-        keccak_digest(strings, length, digests);
-#endif
+    for (; count > 0; count--, strings += length, digests += DIGEST_BYTES)
+        ONE_DIGEST(strings, length, digests);
 }
 
 /* The string of a leaf, of which the values are words in the machine's order; returns what follows. */
