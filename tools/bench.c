@@ -9,9 +9,9 @@
  *     bench once OP SIZE NAME    one call alone, to be counted by valgrind (bench.sh)
  *     bench row OP SIZE          how that call's row of a table begins: sizes, operation, permutations of Keccak
  *
- * Built with -DPLAIN_OPENSSL, plain_* hashes with OpenSSL and plain_keccak_* with plain/keccak.c; without it
- * only plain_* is there, with plain/keccak.c. Built with -DBEFORE, before_* is the older library. Times are processor
- * time of this program. */
+ * plain_keccak_* and plain_pairs_* are plain C with plain/keccak.c, the latter with PLAIN_PAIRS (plain/plain.h). Built
+ * with -DPLAIN_OPENSSL, plain_* is plain C with OpenSSL's hash; built with -DBEFORE, before_* is the older library.
+ * Times are processor time of this program. */
 #define _GNU_SOURCE
 #include <inttypes.h>
 #include <pthread.h>
@@ -28,6 +28,7 @@ ENTRIES(smallwood);
 ENTRIES(before);
 ENTRIES(plain);
 ENTRIES(plain_keccak);
+ENTRIES(plain_pairs);
 
 #define ROUNDS 25          /* runs of which least and median are taken */
 #define RUN_SECONDS 2e-3   /* a run repeats the call for about so long */
@@ -45,13 +46,14 @@ static const struct implementation implementations[] = {
 #ifdef BEFORE
     IMPLEMENTATION(before),
 #endif
-    IMPLEMENTATION(plain),
 #ifdef PLAIN_OPENSSL
-    IMPLEMENTATION(plain_keccak),
+    IMPLEMENTATION(plain),
 #endif
+    IMPLEMENTATION(plain_keccak),
+    IMPLEMENTATION(plain_pairs),
 };
 
-static const char *const shown_names[] = {
+static const char *const shown_names[] = { /* tools/growth_svg.py knows `library` and `plain C` */
     "library",
 #ifdef BEFORE
     "before",
@@ -60,10 +62,11 @@ static const char *const shown_names[] = {
     "plain C, OpenSSL",
 #endif
     "plain C",
+    "plain C, two at once",
 };
 
 #define IMPLEMENTATIONS (sizeof implementations / sizeof implementations[0])
-#define LAST (IMPLEMENTATIONS - 1) /* plain C with its own Keccak */
+#define PLAIN_C (IMPLEMENTATIONS - 2)
 
 /* The library, and the older one after it. */
 #ifdef BEFORE
@@ -96,11 +99,10 @@ static uint32_t call(const struct implementation *with, enum operation operation
     }
 }
 
-/* An instance on which the last implementation has done what comes before the operation. It depends on
- * nothing but the sizes. */
+/* An instance on which plain C has done what comes before the operation. It depends on nothing but the sizes. */
 static struct instance *prepared(struct sizes s, enum operation operation)
 {
-    const struct implementation *with = &implementations[LAST];
+    const struct implementation *with = &implementations[PLAIN_C];
     struct instance *a;
 
     draw_again();
@@ -180,20 +182,25 @@ static double run(const struct implementation *with, enum operation operation, s
     return (now() - start) / (double)times;
 }
 
-/* All implementations in turn. */
-static void measure(struct instance *a, enum operation operation, struct timing *found)
+/* The implementations that the table has, in turn. */
+static void measure(struct instance *a, enum operation operation, int (*has)(size_t),
+                    struct timing *found)
 {
     static double seconds[IMPLEMENTATIONS][ROUNDS];
     double once = run(&implementations[0], operation, a, 1);
     uint64_t times = once < RUN_SECONDS ? (uint64_t)(RUN_SECONDS / (once + 1e-8)) + 1 : 1;
+    size_t had[IMPLEMENTATIONS], count = 0;
 
+    for (size_t i = 0; i < IMPLEMENTATIONS; i++)
+        if (has(i))
+            had[count++] = i;
     for (size_t r = 0; r < ROUNDS; r++)
-        for (size_t i = 0; i < IMPLEMENTATIONS; i++) {
-            size_t turn = turn_of(r, i, IMPLEMENTATIONS);
+        for (size_t i = 0; i < count; i++) {
+            size_t turn = had[turn_of(r, i, count)];
             seconds[turn][r] = run(&implementations[turn], operation, a, times);
         }
-    for (size_t i = 0; i < IMPLEMENTATIONS; i++)
-        found[i] = timing_of(seconds[i], ROUNDS);
+    for (size_t i = 0; i < count; i++)
+        found[had[i]] = timing_of(seconds[had[i]], ROUNDS);
 }
 
 static void print_sizes(const struct sizes *s)
@@ -205,6 +212,11 @@ static void begin_row(const struct instance *a, enum operation operation)
 {
     print_sizes(&a->s);
     printf("| %s | %" PRIu64 " ", operation_names[operation], permutations(a, operation));
+}
+
+static int in_times(size_t implementation)
+{
+    return implementation < IMPLEMENTATIONS;
 }
 
 static void show_times(void)
@@ -227,7 +239,7 @@ static void show_times(void)
             struct timing found[IMPLEMENTATIONS];
             int decimals = operation == LENGTH ? 3 : 2;
             compare(a, operation);
-            measure(a, operation, found);
+            measure(a, operation, in_times, found);
             begin_row(a, operation);
             for (size_t i = 0; i < IMPLEMENTATIONS; i++)
                 printf("| %.*f (%.*f) ", decimals, 1e6 * found[i].least, decimals,
@@ -245,7 +257,7 @@ static void show_times(void)
 
 static int in_growth(size_t implementation)
 {
-    return implementation < LIBRARIES || implementation == LAST;
+    return implementation < LIBRARIES || implementation == PLAIN_C;
 }
 
 /* `value` is what the doubled size has in s; `above` has the least seconds of the row above, or 0. */
@@ -256,7 +268,7 @@ static void show_growth_row(const char *name, struct sizes s, enum operation ope
     struct timing found[IMPLEMENTATIONS];
 
     compare(a, operation);
-    measure(a, operation, found);
+    measure(a, operation, in_growth, found);
     printf("| %s | %s | %u ", name, operation_names[operation], value);
     for (size_t i = 0; i < IMPLEMENTATIONS; i++) {
         if (!in_growth(i))

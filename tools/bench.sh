@@ -20,18 +20,17 @@ find_archive smallwood
 find_before smallwood
 
 object keccak.o plain/keccak.c
-objects=$build/keccak.o
+object plain-keccak.o plain/plain.c -DPLAIN_PREFIX=plain_keccak
+object plain-pairs.o plain/plain.c -DPLAIN_PREFIX=plain_pairs -DPLAIN_PAIRS=1
+objects="$build/keccak.o $build/plain-keccak.o $build/plain-pairs.o"
+with=$before
 if has_openssl EVP_shake256; then
     object plain.o plain/plain.c -DPLAIN_OPENSSL
-    object plain-keccak.o plain/plain.c -DPLAIN_PREFIX=plain_keccak
     object evp.o plain/evp.c
-    objects="$objects $build/plain.o $build/plain-keccak.o $build/evp.o"
+    objects="$objects $build/plain.o $build/evp.o"
     with="$before -DPLAIN_OPENSSL -lcrypto"
 else
     echo "OpenSSL's headers (libssl-dev) are not installed: only plain/keccak.c is measured beside the library"
-    object plain.o plain/plain.c
-    objects="$objects $build/plain.o"
-    with=$before
 fi
 # With all symbols bound at the start, no count includes the linker's work.
 # shellcheck disable=SC2086
