@@ -53,7 +53,11 @@ static const struct implementation implementations[] = {
     IMPLEMENTATION(plain_pairs),
 };
 
-static const char *const shown_names[] = { /* tools/growth_svg.py knows `library` and `plain C` */
+#define IMPLEMENTATIONS (sizeof implementations / sizeof implementations[0])
+#define PLAIN_C (IMPLEMENTATIONS - 2)
+
+/* tools/growth_svg.py knows `library` and `plain C`. */
+static const char *const shown_names[IMPLEMENTATIONS] = {
     "library",
 #ifdef BEFORE
     "before",
@@ -61,12 +65,9 @@ static const char *const shown_names[] = { /* tools/growth_svg.py knows `library
 #ifdef PLAIN_OPENSSL
     "plain C, OpenSSL",
 #endif
-    "plain C",
+    [PLAIN_C] = "plain C",
     "plain C, two at once",
 };
-
-#define IMPLEMENTATIONS (sizeof implementations / sizeof implementations[0])
-#define PLAIN_C (IMPLEMENTATIONS - 2)
 
 /* The library, and the older one after it. */
 #ifdef BEFORE
