@@ -42,8 +42,8 @@ object() {
     "$CC" $CFLAGS "$@" -c "$tools/$source" -o "$build/$out"
 }
 
-# find_archive CRATE: sets archive: the one given, the stand-in, or the crate's, which rt proves and writes. The stand-in
-# is compiled with -DPLAIN_PAIRS=$pairs.
+# find_archive CRATE: sets archive: the one given, the stand-in, or the crate's, which rt proves and writes. The
+# stand-in is compiled with -DPLAIN_PAIRS=$pairs.
 pairs=1
 
 find_archive() {

@@ -9,8 +9,8 @@
 #define PLAIN_PREFIX plain
 #endif
 
-/* Compiled with -DPLAIN_PAIRS=1, two strings are hashed at once where two are at hand, and wide rows are interpolated in
- * doubles: both for vectors of two. Otherwise it is one string at a time, and integers. */
+/* Compiled with -DPLAIN_PAIRS=1, two strings are hashed at once where two are at hand, and wide rows are
+ * interpolated in doubles: both for vectors of two. Otherwise it is one string at a time, and integers. */
 #ifndef PLAIN_PAIRS
 #define PLAIN_PAIRS 0
 #endif
