@@ -11,6 +11,7 @@
 #include "table.h"
 
 #define NARROW 32 /* up to this width, one row at a time */
+#define WIDE 128  /* above it, doubles save more than going to the middle and back costs */
 
 /* Expands the sum over k of s_k (x + first) .. (x + first + k - 1) in place, from the last factor to the
  * first, two at a time and folded once: points are below 2^13, so places stay below 2^33. */
@@ -71,7 +72,7 @@ static inline void interpolate(uint32_t first, line *values, size_t width, size_
 {
     if (width <= NARROW)
         interpolate_narrow(first, values, width, lanes);
-    else if (PLAIN_PAIRS)
+    else if (PLAIN_PAIRS && width > WIDE)
         interpolate_in_doubles(first, values, width, lanes);
     else
         interpolate_in_integers(first, values, width, lanes);
