@@ -1,16 +1,17 @@
 /* Cost of the library beside the plain C implementation, and beside an older library, on the same inputs in one run.
  *
  *     bench                      all tables below, in Markdown
- *     bench times                time of each entry at nine sizes
- *     bench growth               how the library's time grows with each size
+ *     bench times                time of each entry at all sizes
+ *     bench growth               how the times of the library and of plain C grow with each size
  *     bench stack                stack that committing, opening, checking use
  *     bench names                the implementations, one to a line
  *     bench sizes                the numbers of the sizes, one to a line
  *     bench once OP SIZE NAME    one call alone, to be counted by valgrind (bench.sh)
- *     bench permutations OP SIZE permutations of Keccak in that call
+ *     bench row OP SIZE          how that call's row of a table begins: sizes, operation, permutations of Keccak
  *
- * Built with -DPLAIN_OPENSSL, plain_* hashes with OpenSSL and plain_keccak_* with plain/keccak.c; without it
- * only plain_* is there, with plain/keccak.c. Built with -DBEFORE, before_* is the older library. Times are processor time of this program. */
+ * plain_keccak_* and plain_pairs_* are plain C with plain/keccak.c, the latter with PLAIN_PAIRS (plain/plain.h). Built
+ * with -DPLAIN_OPENSSL, plain_* is plain C with OpenSSL's hash; built with -DBEFORE, before_* is the older library.
+ * Times are processor time of this program. */
 #define _GNU_SOURCE
 #include <inttypes.h>
 #include <pthread.h>
@@ -25,11 +26,9 @@
 
 ENTRIES(smallwood);
 ENTRIES(before);
-/* NULL where the older library has not this entry yet: the tables show "-", and its opener gets the buffer that it
- * wants (open_with). When no older library is without it, this, `has`, and `lacks` in bench.sh can go. */
-#pragma weak before_reply_length
 ENTRIES(plain);
 ENTRIES(plain_keccak);
+ENTRIES(plain_pairs);
 
 #define ROUNDS 25          /* runs of which least and median are taken */
 #define RUN_SECONDS 2e-3   /* a run repeats the call for about so long */
@@ -47,13 +46,18 @@ static const struct implementation implementations[] = {
 #ifdef BEFORE
     IMPLEMENTATION(before),
 #endif
-    IMPLEMENTATION(plain),
 #ifdef PLAIN_OPENSSL
-    IMPLEMENTATION(plain_keccak),
+    IMPLEMENTATION(plain),
 #endif
+    IMPLEMENTATION(plain_keccak),
+    IMPLEMENTATION(plain_pairs),
 };
 
-static const char *const shown_names[] = {
+#define IMPLEMENTATIONS (sizeof implementations / sizeof implementations[0])
+#define PLAIN_C (IMPLEMENTATIONS - 2)
+
+/* tools/growth_svg.py knows `library` and `plain C`. */
+static const char *const shown_names[IMPLEMENTATIONS] = {
     "library",
 #ifdef BEFORE
     "before",
@@ -61,10 +65,9 @@ static const char *const shown_names[] = {
 #ifdef PLAIN_OPENSSL
     "plain C, OpenSSL",
 #endif
-    "plain C",
+    [PLAIN_C] = "plain C",
+    "plain C, two at once",
 };
-
-#define IMPLEMENTATIONS (sizeof implementations / sizeof implementations[0])
 
 /* The library, and the older one after it. */
 #ifdef BEFORE
@@ -73,18 +76,14 @@ static const char *const shown_names[] = {
 #define LIBRARIES 1
 #endif
 
-static const struct sizes nine_sizes[] = {
-    {1, 1, 1, 1, 1, 1, 1},     {4, 4, 2, 2, 4, 1, 1},      {6, 8, 4, 4, 8, 2, 1},
-    {8, 16, 8, 8, 16, 2, 2},   {10, 32, 16, 8, 32, 3, 4},  {12, 64, 16, 16, 64, 4, 8},
-    {10, 16, 8, 4, 24, 2, 3},  {12, 64, 1, 256, 64, 4, 8}, {12, 64, 256, 1, 64, 4, 8},
+static const struct sizes all_sizes[] = {
+    {1, 1, 1, 1, 1, 1, 1},      {4, 4, 2, 2, 4, 1, 1},      {6, 8, 4, 4, 8, 2, 1},
+    {8, 16, 8, 8, 16, 2, 2},    {10, 32, 16, 8, 32, 3, 4},  {12, 64, 16, 16, 64, 4, 8},
+    {12, 64, 1, 256, 64, 4, 8}, {12, 64, 256, 1, 64, 4, 8}, {12, 8, 21, 1, 17, 2, 1},
+    {10, 16, 8, 4, 24, 2, 3},   {8, 4, 4, 4, 16, 1, 1},
 };
 
-#define SIZES (sizeof nine_sizes / sizeof nine_sizes[0])
-
-static int has(const struct implementation *with, enum operation operation)
-{
-    return operation != LENGTH || with->reply_length != NULL;
-}
+#define SIZES (sizeof all_sizes / sizeof all_sizes[0])
 
 static uint32_t call(const struct implementation *with, enum operation operation,
                      struct instance *a)
@@ -101,11 +100,10 @@ static uint32_t call(const struct implementation *with, enum operation operation
     }
 }
 
-/* An instance on which the last implementation has done what comes before the operation. It depends on
- * nothing but the sizes. */
+/* An instance on which plain C has done what comes before the operation. It depends on nothing but the sizes. */
 static struct instance *prepared(struct sizes s, enum operation operation)
 {
-    const struct implementation *with = &implementations[IMPLEMENTATIONS - 1];
+    const struct implementation *with = &implementations[PLAIN_C];
     struct instance *a;
 
     draw_again();
@@ -148,8 +146,6 @@ static void compare(struct instance *a, enum operation operation)
     uint8_t *first = allocate(bytes), *other = allocate(bytes);
 
     for (size_t i = 0; i < IMPLEMENTATIONS; i++) {
-        if (!has(&implementations[i], operation))
-            continue;
         outcome(a, operation, NULL);
         if (call(&implementations[i], operation, a) != 0)
             fail("an honest call was refused");
@@ -187,27 +183,41 @@ static double run(const struct implementation *with, enum operation operation, s
     return (now() - start) / (double)times;
 }
 
-/* The first `count` implementations in turn. */
-static void measure(struct instance *a, enum operation operation, size_t count,
+/* The implementations that the table has, in turn. */
+static void measure(struct instance *a, enum operation operation, int (*has)(size_t),
                     struct timing *found)
 {
     static double seconds[IMPLEMENTATIONS][ROUNDS];
     double once = run(&implementations[0], operation, a, 1);
     uint64_t times = once < RUN_SECONDS ? (uint64_t)(RUN_SECONDS / (once + 1e-8)) + 1 : 1;
+    size_t had[IMPLEMENTATIONS], count = 0;
 
+    for (size_t i = 0; i < IMPLEMENTATIONS; i++)
+        if (has(i))
+            had[count++] = i;
     for (size_t r = 0; r < ROUNDS; r++)
         for (size_t i = 0; i < count; i++) {
-            size_t turn = turn_of(r, i, count);
-            if (has(&implementations[turn], operation))
-                seconds[turn][r] = run(&implementations[turn], operation, a, times);
+            size_t turn = had[turn_of(r, i, count)];
+            seconds[turn][r] = run(&implementations[turn], operation, a, times);
         }
     for (size_t i = 0; i < count; i++)
-        found[i] = timing_of(seconds[i], ROUNDS);
+        found[had[i]] = timing_of(seconds[had[i]], ROUNDS);
 }
 
 static void print_sizes(const struct sizes *s)
 {
     printf("| %u | %u | %u | %u | %u | %u | %u ", s->h, s->mu, s->nu, s->w, s->l, s->eta, s->m);
+}
+
+static void begin_row(const struct instance *a, enum operation operation)
+{
+    print_sizes(&a->s);
+    printf("| %s | %" PRIu64 " ", operation_names[operation], permutations(a, operation));
+}
+
+static int in_times(size_t implementation)
+{
+    return implementation < IMPLEMENTATIONS;
 }
 
 static void show_times(void)
@@ -226,25 +236,18 @@ static void show_times(void)
     puts("");
     for (size_t n = 0; n < SIZES; n++)
         for (enum operation operation = 0; operation < OPERATIONS; operation++) {
-            struct instance *a = prepared(nine_sizes[n], operation);
+            struct instance *a = prepared(all_sizes[n], operation);
             struct timing found[IMPLEMENTATIONS];
             int decimals = operation == LENGTH ? 3 : 2;
             compare(a, operation);
-            measure(a, operation, IMPLEMENTATIONS, found);
-            print_sizes(&a->s);
-            printf("| %s | %" PRIu64 " ", operation_names[operation], permutations(a, operation));
+            measure(a, operation, in_times, found);
+            begin_row(a, operation);
             for (size_t i = 0; i < IMPLEMENTATIONS; i++)
-                if (has(&implementations[i], operation))
-                    printf("| %.*f (%.*f) ", decimals, 1e6 * found[i].least, decimals,
-                           1e6 * found[i].median);
-                else
-                    printf("| - ");
+                printf("| %.*f (%.*f) ", decimals, 1e6 * found[i].least, decimals,
+                       1e6 * found[i].median);
             for (size_t i = 1; i < IMPLEMENTATIONS; i++)
-                if (has(&implementations[i], operation))
-                    printf("| %.2f (%.2f) ", found[0].least / found[i].least,
-                           found[0].median / found[i].median);
-                else
-                    printf("| - ");
+                printf("| %.2f (%.2f) ", found[0].least / found[i].least,
+                       found[0].median / found[i].median);
             puts("|");
             fflush(stdout);
             free_instance(a);
@@ -253,60 +256,81 @@ static void show_times(void)
 
 /* ---- Growth -------------------------------------------------------------------------------------- */
 
+static int in_growth(size_t implementation)
+{
+    return implementation < LIBRARIES || implementation == PLAIN_C;
+}
+
+/* `value` is what the doubled size has in s; `above` has the least seconds of the row above, or 0. */
+static void show_growth_row(const char *name, struct sizes s, enum operation operation, uint32_t value,
+                            double *above)
+{
+    struct instance *a = prepared(s, operation);
+    struct timing found[IMPLEMENTATIONS];
+
+    compare(a, operation);
+    measure(a, operation, in_growth, found);
+    printf("| %s | %s | %u ", name, operation_names[operation], value);
+    for (size_t i = 0; i < IMPLEMENTATIONS; i++) {
+        if (!in_growth(i))
+            continue;
+        printf("| %.1f ", 1e6 * found[i].least);
+        if (above[i] > 0)
+            printf("| %.2f ", found[i].least / above[i]);
+        else
+            printf("| ");
+        if (i > 0)
+            printf("| %.2f ", found[0].least / found[i].least);
+        above[i] = found[i].least;
+    }
+    puts("|");
+    fflush(stdout);
+    free_instance(a);
+}
+
 /* `size` is one of the sizes in s; it doubles, and h goes up by 1. */
 static void show_growth_of(const char *name, struct sizes *s, uint32_t *size, uint32_t first,
                            uint32_t last)
 {
-    double last_seconds[MAIN_OPERATIONS] = {0};
     uint32_t kept = *size;
+    int is_depth = size == &s->h;
 
-    for (uint32_t value = first; value <= last; value = size == &s->h ? value + 1 : 2 * value) {
-        *size = value;
-        printf("| %s | %u ", name, size == &s->h ? 1u << value : value);
-        for (enum operation operation = 0; operation < MAIN_OPERATIONS; operation++) {
-            struct instance *a = prepared(*s, operation);
-            struct timing found[LIBRARIES];
-            measure(a, operation, LIBRARIES, found);
-            printf("| %.1f ", 1e6 * found[0].least);
-            if (last_seconds[operation] > 0)
-                printf("| %.2f ", found[0].least / last_seconds[operation]);
-            else
-                printf("| ");
-            for (size_t i = 1; i < LIBRARIES; i++)
-                printf("| %.1f | %.2f ", 1e6 * found[i].least, found[0].least / found[i].least);
-            last_seconds[operation] = found[0].least;
-            free_instance(a);
-        }
-        puts("|");
-        fflush(stdout);
+    for (enum operation operation = 0; operation < MAIN_OPERATIONS; operation++) {
+        double above[IMPLEMENTATIONS] = {0};
+        for (*size = first; *size <= last; *size = is_depth ? *size + 1 : 2 * *size)
+            show_growth_row(name, *s, operation, is_depth ? 1u << *size : *size, above);
     }
     *size = kept;
 }
 
+/* tools/growth_svg.py reads this table: it knows the header, and the first word of each name. */
 static void show_growth(void)
 {
-    struct sizes s = {10, 16, 8, 8, 16, 2, 2};
+    struct sizes s = {10, 16, 8, 8, 16, 2, 2}, columns = s;
 
-    printf("\nThe library's least microseconds as one size doubles and the others stay (h=%u, mu=%u, nu=%u, "
-           "w=%u, l=%u, eta=%u, m=%u), with the factor to the line above%s.\n\n",
-           s.h, s.mu, s.nu, s.w, s.l, s.eta, s.m,
-           LIBRARIES > 1 ? ", the older library's, and the ratio to it" : "");
-    printf("| doubled | to ");
-    for (enum operation operation = 0; operation < MAIN_OPERATIONS; operation++) {
-        printf("| %s | factor ", operation_names[operation]);
-        for (size_t i = 1; i < LIBRARIES; i++)
-            printf("| %s | to %s ", shown_names[i], shown_names[i]);
-    }
-    printf("|\n|---|---|");
-    for (size_t i = 0; i < 2 * LIBRARIES * MAIN_OPERATIONS; i++)
-        printf("---|");
+    columns.w = 1; /* so that nu can grow to its limit */
+    printf("\nLeast microseconds of one call as one size doubles and the others stay (h=%u, mu=%u, nu=%u, w=%u, "
+           "l=%u, eta=%u, m=%u, but w=%u where nu doubles), each with the factor to the line above, the others also "
+           "with the library's ratio to them.\n\n",
+           s.h, s.mu, s.nu, s.w, s.l, s.eta, s.m, columns.w);
+    printf("| doubled | operation | to ");
+    for (size_t i = 0; i < IMPLEMENTATIONS; i++)
+        if (in_growth(i)) {
+            printf("| %s | factor ", shown_names[i]);
+            if (i > 0)
+                printf("| to %s ", shown_names[i]);
+        }
+    printf("|\n|---|---|---|---|---|");
+    for (size_t i = 1; i < IMPLEMENTATIONS; i++)
+        if (in_growth(i))
+            printf("---|---|---|");
     puts("");
-    show_growth_of("N", &s, &s.h, 7, 12);
-    show_growth_of("mu (rows)", &s, &s.mu, 4, 64);
-    show_growth_of("l", &s, &s.l, 4, 64);
-    show_growth_of("nu (w = 8)", &s, &s.nu, 2, 32);
-    show_growth_of("eta", &s, &s.eta, 1, 4);
-    show_growth_of("m", &s, &s.m, 1, 8);
+    show_growth_of("N (leaves)", &s, &s.h, 7, 12); /* N is at least w nu + l */
+    show_growth_of("mu (rows)", &s, &s.mu, 1, 64);
+    show_growth_of("l (opened leaves)", &s, &s.l, 1, 64);
+    show_growth_of("nu (columns, w = 1)", &columns, &columns.nu, 1, 256);
+    show_growth_of("eta (repetitions)", &s, &s.eta, 1, 4);
+    show_growth_of("m (points)", &s, &s.m, 1, 8);
 }
 
 /* ---- Stack --------------------------------------------------------------------------------------- */
@@ -370,10 +394,10 @@ static void show_stack(void)
     puts("");
     for (size_t n = 0; n < SIZES; n++) {
         double bytes[IMPLEMENTATIONS][MAIN_OPERATIONS];
-        print_sizes(&nine_sizes[n]);
+        print_sizes(&all_sizes[n]);
         for (size_t i = 0; i < IMPLEMENTATIONS; i++)
             for (enum operation operation = 0; operation < MAIN_OPERATIONS; operation++) {
-                struct instance *a = prepared(nine_sizes[n], operation);
+                struct instance *a = prepared(all_sizes[n], operation);
                 struct stack_call c = {&implementations[i], operation, a, 0};
                 size_t used = touched(&c);
                 if (c.number != 0)
@@ -408,7 +432,7 @@ static const struct sizes *sizes_numbered(const char *number)
 
     if (n < 1 || n > SIZES)
         fail("no such size: see bench sizes");
-    return &nine_sizes[n - 1];
+    return &all_sizes[n - 1];
 }
 
 static void once(const char *operation, const char *size, const char *name)
@@ -435,9 +459,10 @@ int main(int count, char **words)
 
     if (count == 5 && strcmp(mode, "once") == 0) {
         once(words[2], words[3], words[4]);
-    } else if (count == 4 && strcmp(mode, "permutations") == 0) {
-        struct instance *a = prepared(*sizes_numbered(words[3]), CHECK);
-        printf("%" PRIu64 "\n", permutations(a, operation_named(words[2])));
+    } else if (count == 4 && strcmp(mode, "row") == 0) {
+        enum operation operation = operation_named(words[2]);
+        struct instance *a = prepared(*sizes_numbered(words[3]), operation);
+        begin_row(a, operation);
         free_instance(a);
     } else if (strcmp(mode, "names") == 0) {
         for (size_t i = 0; i < IMPLEMENTATIONS; i++)
@@ -454,7 +479,7 @@ int main(int count, char **words)
         if (all || strcmp(mode, "stack") == 0)
             show_stack();
     } else {
-        fail("usage: bench [times | growth | stack | names | sizes | once OP SIZE NAME | permutations OP SIZE]");
+        fail("usage: bench [times | growth | stack | names | sizes | once OP SIZE NAME | row OP SIZE]");
     }
     return 0;
 }

@@ -20,27 +20,21 @@ find_archive smallwood
 find_before smallwood
 
 object keccak.o plain/keccak.c
-objects=$build/keccak.o
+object plain-keccak.o plain/plain.c -DPLAIN_PREFIX=plain_keccak
+object plain-pairs.o plain/plain.c -DPLAIN_PREFIX=plain_pairs -DPLAIN_PAIRS=1
+objects="$build/keccak.o $build/plain-keccak.o $build/plain-pairs.o"
+with=$before
 if has_openssl EVP_shake256; then
     object plain.o plain/plain.c -DPLAIN_OPENSSL
-    object plain-keccak.o plain/plain.c -DPLAIN_PREFIX=plain_keccak
     object evp.o plain/evp.c
-    objects="$objects $build/plain.o $build/plain-keccak.o $build/evp.o"
+    objects="$objects $build/plain.o $build/evp.o"
     with="$before -DPLAIN_OPENSSL -lcrypto"
 else
     echo "OpenSSL's headers (libssl-dev) are not installed: only plain/keccak.c is measured beside the library"
-    object plain.o plain/plain.c
-    objects="$objects $build/plain.o"
-    with=$before
 fi
 # With all symbols bound at the start, no count includes the linker's work.
 # shellcheck disable=SC2086
 "$CC" $CFLAGS "$tools/bench.c" "$tools/instance.c" $objects "$archive" $with -lpthread -Wl,-z,now -o "$build/bench"
-
-# lacks OPERATION NAME: whether it is the older archive and has no reply_length yet
-lacks() {
-    [ "$2 $1" = "before length" ] && ! grep -q ' before_reply_length$' "$build/before.names"
-}
 
 # count OPERATION SIZE NAME: instructions inside that call
 count() {
@@ -51,24 +45,19 @@ count() {
 
 instructions() {
     names=$("$build/bench" names)
-    printf '\nInstructions of one call (callgrind), and the ratio of the library to each of the others. Sizes as '
-    printf 'above, from the first.\n\n| size | operation | permutations '
+    printf '\nInstructions of one call (callgrind), and the ratio of the library to each of the others.\n\n'
+    printf '| h | mu | nu | w | l | eta | m | operation | permutations '
     for name in $names; do printf '| %s ' "$name"; done
     for name in $names; do [ "$name" = smallwood ] || printf '| to %s ' "$name"; done
-    printf '|\n|---|---|---|'
+    printf '|\n|---|---|---|---|---|---|---|---|---|'
     for name in $names; do printf -- '---|'; done
     for name in $names; do [ "$name" = smallwood ] || printf -- '---|'; done
     echo
     for size in $("$build/bench" sizes); do
         for operation in commit open check length; do
-            printf '| %s | %s | %s ' "$size" "$operation" "$("$build/bench" permutations "$operation" "$size")"
+            "$build/bench" row "$operation" "$size"
             ratios=
             for name in $names; do
-                if lacks "$operation" "$name"; then
-                    printf '| - '
-                    ratios="$ratios| - "
-                    continue
-                fi
                 found=$(count "$operation" "$size" "$name")
                 printf '| %s ' "$found"
                 if [ "$name" = smallwood ]; then

@@ -57,17 +57,29 @@ ARCHIVE(sponge_bench)
 ARCHIVE(before)
 #endif
 
+/* The string twice, side by side. */
+static void by_pair(const uint8_t *string, size_t length, uint8_t digest[DIGEST_BYTES])
+{
+    uint8_t second[DIGEST_BYTES];
+
+    keccak_digests(string, string, length, digest, second);
+    if (memcmp(digest, second, DIGEST_BYTES) != 0)
+        fail("two digests of one string differ");
+}
+
 static const struct peer {
     const char *name;
     const char *entry; /* the function as callgrind knows it */
     void (*digest)(const uint8_t *string, size_t length, uint8_t digest[DIGEST_BYTES]);
+    unsigned at_once; /* digests made in one call */
 } peers[] = {
-    {"library", "sponge_bench_digest", by_sponge_bench},
+    {"library", "sponge_bench_digest", by_sponge_bench, 1},
 #ifdef BEFORE
-    {"before", "before_digest", by_before},
+    {"before", "before_digest", by_before, 1},
 #endif
-    {"plain C", "keccak_digest", keccak_digest},
-    {"OpenSSL", "evp_digest", evp_digest},
+    {"plain C", "keccak_digest", keccak_digest, 1},
+    {"plain C, two at once", "keccak_digests", by_pair, 2},
+    {"OpenSSL", "evp_digest", evp_digest, 1},
 };
 
 #define PEERS (sizeof peers / sizeof peers[0])
@@ -114,7 +126,7 @@ static double chain(const struct peer *by, size_t length, uint8_t digest[DIGEST_
         by->digest(input, length, digest);
         memcpy(input, digest, DIGEST_BYTES);
     }
-    return (now() - start) / (double)(times * permutations);
+    return (now() - start) / (double)(times * permutations * by->at_once);
 }
 
 /* Seconds of one permutation by each of the peers, in turn. */
@@ -190,8 +202,8 @@ static void show_times(void)
 
 static void show_instructions(void)
 {
-    printf("\nInstructions of one digest (callgrind), in brackets for each of its permutations, and the ratio of the "
-           "library to each of the others.\n\n");
+    printf("\nInstructions of one digest (callgrind), where two are made at once half of both, in brackets for each "
+           "of its permutations, and the ratio of the library to each of the others.\n\n");
     printf("| bytes | permutations ");
     name_columns(0, "", "");
     name_columns(1, "to ", "");
@@ -202,6 +214,7 @@ static void show_instructions(void)
         for (size_t p = 0; p < PEERS; p++) {
             if (scanf("%lf", &found[p]) != 1)
                 fail("a count is missing");
+            found[p] /= peers[p].at_once;
             printf("| %.0f (%.0f) ", found[p], found[p] / (double)permutations_of(lengths[n]));
         }
         for (size_t p = 1; p < PEERS; p++)

@@ -4,7 +4,7 @@ root=$(cd "$(dirname "$0")/.." && pwd)
 tools=$root/tools
 build=$root/target/tools
 CC=${CC:-gcc}
-CFLAGS=${CFLAGS:--O3 -Wall -Wextra -Werror}
+CFLAGS=${CFLAGS:--O3 -march=x86-64 -Wall -Wextra -Werror}
 
 fail() {
     echo "$(basename "$0"): $1" >&2
@@ -42,19 +42,22 @@ object() {
     "$CC" $CFLAGS "$@" -c "$tools/$source" -o "$build/$out"
 }
 
-# find_archive CRATE: sets archive: the one given, the stand-in, or the crate's, which rt proves and writes.
+# find_archive CRATE: sets archive: the one given, the stand-in, or the crate's, which rt proves and writes. The
+# stand-in is compiled with -DPLAIN_PAIRS=$pairs.
+pairs=1
+
 find_archive() {
     if [ -n "$given_archive" ]; then
         archive=$given_archive
         [ -f "$archive" ] || fail "there is no archive $archive"
     elif [ "$stand_in" = yes ]; then
-        object stand-in.o plain/plain.c -DPLAIN_PREFIX=smallwood
+        object stand-in.o plain/plain.c -DPLAIN_PREFIX=smallwood -DPLAIN_PAIRS="$pairs"
         object stand-in-keccak.o plain/keccak.c
         archive=$build/stand-in/libsmallwood.a
         mkdir -p "$build/stand-in"
         rm -f "$archive"
         ar rcs "$archive" "$build/stand-in.o" "$build/stand-in-keccak.o"
-        echo "stand-in: the plain C implementation under the library's names"
+        echo "stand-in: the plain C implementation under the library's names, PLAIN_PAIRS=$pairs"
     else
         need rt "to prove and build the library (or give --archive FILE)"
         (cd "$root" && rt staticlib "$1") || fail "rt staticlib $1 failed"

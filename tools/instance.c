@@ -78,7 +78,6 @@ void set_points(struct instance *a, uint32_t m)
 
     s->m = m;
     a->question_bytes = 14 + 32 + 4 * (s->eta + m) + 2 * s->l;
-    a->reply_bound = reply_with(s, (size_t)s->l * s->h);
     a->value_bytes = 4 * (size_t)s->w * m;
 }
 
@@ -104,7 +103,7 @@ struct instance *make_instance(struct sizes s)
         a->nonces[i] = (uint8_t)draw();
     set_points(a, MAX_POINTS);
     a->question = allocate(a->question_bytes);
-    a->reply = allocate(a->reply_bound);
+    a->reply = allocate(reply_with(&a->s, (size_t)s.l * s.h)); /* no reply has more nodes */
     a->values = allocate(a->value_bytes);
     set_points(a, s.m);
     return a;
@@ -175,14 +174,11 @@ uint32_t reply_length_with(const struct implementation *with, struct instance *a
     return with->reply_length(a->question, a->question_bytes, &a->length);
 }
 
-/* An older library, without reply_length, wants a buffer for the bound. */
 uint32_t open_with(const struct implementation *with, struct instance *a)
 {
-    size_t reply_bytes = with->reply_length != NULL ? a->reply_bytes : a->reply_bound;
-
     return with->open(a->question, a->question_bytes, a->coefficients, a->coefficient_count,
                       a->tails, a->tail_count, a->masks, a->mask_count, a->table, a->table_count,
-                      a->nonces, a->nonce_bytes, a->tree, a->tree_bytes, a->reply, reply_bytes,
+                      a->nonces, a->nonce_bytes, a->tree, a->tree_bytes, a->reply, a->reply_bytes,
                       &a->length);
 }
 

@@ -17,7 +17,6 @@ struct instance {
     size_t coefficient_count, tail_count, mask_count, table_count;
     size_t nonce_bytes, tree_bytes, question_bytes, value_bytes;
     size_t reply_bytes; /* of the drawn question's reply, counted without the library */
-    size_t reply_bound; /* with l h nodes: what no reply exceeds */
     uint32_t *coefficients, *tails, *masks, *table;
     uint8_t *nonces, *tree, *question, *reply, *values;
     uint64_t length; /* of the reply, as an entry wrote it */
@@ -30,7 +29,7 @@ struct implementation {
     uint32_t (*commit)(uint32_t, uint32_t, uint32_t, uint32_t, uint32_t, uint32_t, const uint32_t *,
                        size_t, const uint32_t *, size_t, const uint32_t *, size_t, const uint8_t *,
                        size_t, uint32_t *, size_t, uint8_t *, size_t);
-    uint32_t (*reply_length)(const uint8_t *, size_t, uint64_t *); /* NULL: see open_with */
+    uint32_t (*reply_length)(const uint8_t *, size_t, uint64_t *);
     uint32_t (*open)(const uint8_t *, size_t, const uint32_t *, size_t, const uint32_t *, size_t,
                      const uint32_t *, size_t, const uint32_t *, size_t, const uint8_t *, size_t,
                      const uint8_t *, size_t, uint8_t *, size_t, uint64_t *);

@@ -1,9 +1,16 @@
-/* Keccak-f[1600] and SHAKE256 in plain C. Lane (x, y) is number x + 5y. */
+/* Keccak-f[1600] and SHAKE256 in plain C. Lane (x, y) is number x + 5y.
+ *
+ * During a permutation six lanes are complemented. With them chi needs one complement in a row, where without
+ * it needs five: the others go into `and` made `or`. A round leaves the same six complemented. */
 #include "shake.h"
 
 #include <string.h>
 
-static const uint64_t round_constants[24] = {
+#define LANES 25
+#define ROUNDS 24
+#define RATE_LANES (RATE_BYTES / 8)
+
+static const uint64_t round_constants[ROUNDS] = {
     0x0000000000000001, 0x0000000000008082, 0x800000000000808a, 0x8000000080008000,
     0x000000000000808b, 0x0000000080000001, 0x8000000080008081, 0x8000000000008009,
     0x000000000000008a, 0x0000000000000088, 0x0000000080008009, 0x000000008000000a,
@@ -17,76 +24,139 @@ static inline uint64_t rotate(uint64_t lane, unsigned by)
     return lane << by | lane >> (64 - by);
 }
 
-/* chi on one row. */
-static inline void chi(uint64_t *row, uint64_t b0, uint64_t b1, uint64_t b2, uint64_t b3, uint64_t b4)
-{
-    row[0] = b0 ^ (~b1 & b2);
-    row[1] = b1 ^ (~b2 & b3);
-    row[2] = b2 ^ (~b3 & b4);
-    row[3] = b3 ^ (~b4 & b0);
-    row[4] = b4 ^ (~b0 & b1);
-}
-
 /* One round from the lanes a to the lanes e, row by row. */
-static inline void keccak_round(const uint64_t a[25], uint64_t e[25], uint64_t constant)
+static inline void keccak_round(const uint64_t a[LANES], uint64_t e[LANES], uint64_t constant)
 {
-    uint64_t c[5], d[5];
+    uint64_t c0 = a[0] ^ a[5] ^ a[10] ^ a[15] ^ a[20], c1 = a[1] ^ a[6] ^ a[11] ^ a[16] ^ a[21];
+    uint64_t c2 = a[2] ^ a[7] ^ a[12] ^ a[17] ^ a[22], c3 = a[3] ^ a[8] ^ a[13] ^ a[18] ^ a[23];
+    uint64_t c4 = a[4] ^ a[9] ^ a[14] ^ a[19] ^ a[24];
+    uint64_t d0 = c4 ^ rotate(c1, 1), d1 = c0 ^ rotate(c2, 1), d2 = c1 ^ rotate(c3, 1);
+    uint64_t d3 = c2 ^ rotate(c4, 1), d4 = c3 ^ rotate(c0, 1);
+    uint64_t b0, b1, b2, b3, b4;
 
-    for (int x = 0; x < 5; x++)
-        c[x] = a[x] ^ a[x + 5] ^ a[x + 10] ^ a[x + 15] ^ a[x + 20];
-    for (int x = 0; x < 5; x++)
-        d[x] = c[(x + 4) % 5] ^ rotate(c[(x + 1) % 5], 1);
-    chi(e, a[0] ^ d[0], rotate(a[6] ^ d[1], 44), rotate(a[12] ^ d[2], 43),
-        rotate(a[18] ^ d[3], 21), rotate(a[24] ^ d[4], 14));
-    e[0] ^= constant;
-    chi(e + 5, rotate(a[3] ^ d[3], 28), rotate(a[9] ^ d[4], 20), rotate(a[10] ^ d[0], 3),
-        rotate(a[16] ^ d[1], 45), rotate(a[22] ^ d[2], 61));
-    chi(e + 10, rotate(a[1] ^ d[1], 1), rotate(a[7] ^ d[2], 6), rotate(a[13] ^ d[3], 25),
-        rotate(a[19] ^ d[4], 8), rotate(a[20] ^ d[0], 18));
-    chi(e + 15, rotate(a[4] ^ d[4], 27), rotate(a[5] ^ d[0], 36), rotate(a[11] ^ d[1], 10),
-        rotate(a[17] ^ d[2], 15), rotate(a[23] ^ d[3], 56));
-    chi(e + 20, rotate(a[2] ^ d[2], 62), rotate(a[8] ^ d[3], 55), rotate(a[14] ^ d[4], 39),
-        rotate(a[15] ^ d[0], 41), rotate(a[21] ^ d[1], 2));
+    b0 = a[0] ^ d0, b1 = rotate(a[6] ^ d1, 44), b2 = rotate(a[12] ^ d2, 43);
+    b3 = rotate(a[18] ^ d3, 21), b4 = rotate(a[24] ^ d4, 14);
+    e[0] = b0 ^ (b1 | b2) ^ constant;
+    e[1] = b1 ^ (~b2 | b3);
+    e[2] = b2 ^ (b3 & b4);
+    e[3] = b3 ^ (b4 | b0);
+    e[4] = b4 ^ (b0 & b1);
+
+    b0 = rotate(a[3] ^ d3, 28), b1 = rotate(a[9] ^ d4, 20), b2 = rotate(a[10] ^ d0, 3);
+    b3 = rotate(a[16] ^ d1, 45), b4 = rotate(a[22] ^ d2, 61);
+    e[5] = b0 ^ (b1 | b2);
+    e[6] = b1 ^ (b2 & b3);
+    e[7] = b2 ^ (b3 | ~b4);
+    e[8] = b3 ^ (b4 | b0);
+    e[9] = b4 ^ (b0 & b1);
+
+    b0 = rotate(a[1] ^ d1, 1), b1 = rotate(a[7] ^ d2, 6), b2 = rotate(a[13] ^ d3, 25);
+    b3 = ~rotate(a[19] ^ d4, 8), b4 = rotate(a[20] ^ d0, 18);
+    e[10] = b0 ^ (b1 | b2);
+    e[11] = b1 ^ (b2 & ~b3);
+    e[12] = b2 ^ (b3 & b4);
+    e[13] = b3 ^ (b4 | b0);
+    e[14] = b4 ^ (b0 & b1);
+
+    b0 = rotate(a[4] ^ d4, 27), b1 = rotate(a[5] ^ d0, 36), b2 = rotate(a[11] ^ d1, 10);
+    b3 = ~rotate(a[17] ^ d2, 15), b4 = rotate(a[23] ^ d3, 56);
+    e[15] = b0 ^ (b1 & b2);
+    e[16] = b1 ^ (b2 | ~b3);
+    e[17] = b2 ^ (b3 | b4);
+    e[18] = b3 ^ (b4 & b0);
+    e[19] = b4 ^ (b0 | b1);
+
+    b0 = rotate(a[2] ^ d2, 62), b1 = ~rotate(a[8] ^ d3, 55), b2 = rotate(a[14] ^ d4, 39);
+    b3 = rotate(a[15] ^ d0, 41), b4 = rotate(a[21] ^ d1, 2);
+    e[20] = b0 ^ (b1 & b2);
+    e[21] = b1 ^ (b2 | b3);
+    e[22] = b2 ^ (b3 & b4);
+    e[23] = b3 ^ (b4 | b0);
+    e[24] = b4 ^ (b0 & ~b1);
 }
 
-static void permute(uint64_t a[25])
+static inline void complement(uint64_t a[LANES])
 {
-    uint64_t e[25];
+    a[1] = ~a[1], a[2] = ~a[2], a[8] = ~a[8];
+    a[12] = ~a[12], a[17] = ~a[17], a[20] = ~a[20];
+}
 
-    for (int r = 0; r < 24; r += 2) {
+static void permute(uint64_t a[LANES])
+{
+    uint64_t e[LANES];
+
+    complement(a);
+    for (int r = 0; r < ROUNDS; r += 2) {
         keccak_round(a, e, round_constants[r]);
         keccak_round(e, a, round_constants[r + 1]);
     }
+    complement(a);
 }
 
+#include "keccak_pair.h"
+
+/* Lanes are bytes in the order of x86-64, lowest first. */
 static inline uint64_t load64(const uint8_t *from)
 {
-    uint64_t lane = 0;
+    uint64_t lane;
 
-    for (int i = 7; i >= 0; i--)
-        lane = lane << 8 | from[i];
+    memcpy(&lane, from, 8);
     return lane;
 }
 
-static void absorb(uint64_t state[25], const uint8_t block[RATE_BYTES])
+/* The rest of a string behind its last full lane, and the padding's first byte. */
+static inline uint64_t last_lane(const uint8_t *string, size_t length)
 {
-    for (int i = 0; i < RATE_BYTES / 8; i++)
-        state[i] ^= load64(block + 8 * i);
-    permute(state);
+    uint64_t lane = 0;
+
+    if (length % 8 != 0)
+        memcpy(&lane, string + length - length % 8, length % 8);
+    return lane ^ (uint64_t)0x1f << 8 * (length % 8);
 }
+
+#define PADDING_END ((uint64_t)0x80 << 56)
 
 void keccak_digest(const uint8_t *string, size_t length, uint8_t digest[DIGEST_BYTES])
 {
-    uint64_t state[25] = {0};
-    uint8_t last[RATE_BYTES] = {0};
+    uint64_t state[LANES] = {0};
 
-    for (; length >= RATE_BYTES; string += RATE_BYTES, length -= RATE_BYTES)
-        absorb(state, string);
-    if (length > 0)
-        memcpy(last, string, length);
-    last[length] = 0x1f;
-    last[RATE_BYTES - 1] |= 0x80;
-    absorb(state, last);
-    for (int i = 0; i < DIGEST_BYTES; i++)
-        digest[i] = (uint8_t)(state[i / 8] >> 8 * (i % 8));
+    for (; length >= RATE_BYTES; string += RATE_BYTES, length -= RATE_BYTES) {
+        for (size_t i = 0; i < RATE_LANES; i++)
+            state[i] ^= load64(string + 8 * i);
+        permute(state);
+    }
+    for (size_t i = 0; i < length / 8; i++)
+        state[i] ^= load64(string + 8 * i);
+    state[length / 8] ^= last_lane(string, length);
+    state[RATE_LANES - 1] ^= PADDING_END;
+    permute(state);
+    memcpy(digest, state, DIGEST_BYTES);
+}
+
+/* Both lanes at once, for stores of the size in which the permutation loads. */
+static inline void absorb_pair(lane_pair lanes, uint64_t first, uint64_t second)
+{
+    lanes[0] ^= first;
+    lanes[1] ^= second;
+}
+
+void keccak_digests(const uint8_t *first, const uint8_t *second, size_t length, uint8_t *first_digest,
+                    uint8_t *second_digest)
+{
+    lane_pair state[LANES] = {{0}};
+
+    for (; length >= RATE_BYTES; first += RATE_BYTES, second += RATE_BYTES, length -= RATE_BYTES) {
+        for (size_t i = 0; i < RATE_LANES; i++)
+            absorb_pair(state[i], load64(first + 8 * i), load64(second + 8 * i));
+        permute_pair(state);
+    }
+    for (size_t i = 0; i < length / 8; i++)
+        absorb_pair(state[i], load64(first + 8 * i), load64(second + 8 * i));
+    absorb_pair(state[length / 8], last_lane(first, length), last_lane(second, length));
+    absorb_pair(state[RATE_LANES - 1], PADDING_END, PADDING_END);
+    permute_pair(state);
+    for (int i = 0; i < DIGEST_BYTES / 8; i++) {
+        memcpy(first_digest + 8 * i, &state[i][0], 8);
+        memcpy(second_digest + 8 * i, &state[i][1], 8);
+    }
 }

@@ -9,6 +9,12 @@
 #define PLAIN_PREFIX plain
 #endif
 
+/* Compiled with -DPLAIN_PAIRS=1, two strings are hashed at once where two are at hand, and wide rows are
+ * interpolated in doubles: both for vectors of two. Otherwise it is one string at a time, and integers. */
+#ifndef PLAIN_PAIRS
+#define PLAIN_PAIRS 0
+#endif
+
 #define PLAIN_JOIN(prefix, name) prefix##_##name
 #define PLAIN_NAMED(prefix, name) PLAIN_JOIN(prefix, name)
 #define PLAIN(name) PLAIN_NAMED(PLAIN_PREFIX, name)

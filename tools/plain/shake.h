@@ -17,6 +17,10 @@ static inline uint64_t permutations_of(size_t length)
 /* In keccak.c: plain C. */
 void keccak_digest(const uint8_t *string, size_t length, uint8_t digest[DIGEST_BYTES]);
 
+/* Two digests at once, of strings of the same length. */
+void keccak_digests(const uint8_t *first, const uint8_t *second, size_t length, uint8_t *first_digest,
+                    uint8_t *second_digest);
+
 /* In evp.c: OpenSSL's. It keeps one context for the whole program: one thread at a time. The first digest makes it,
  * unless evp_start has. */
 void evp_start(void);

@@ -1,0 +1,68 @@
+/* A question as it is read, and the length of its reply. */
+#ifndef QUESTION_H
+#define QUESTION_H
+
+#include "bytes.h"
+#include "sizes.h"
+#include "tree.h"
+
+#define HEADER_BYTES 14
+
+struct question {
+    struct sizes sizes;
+    const uint8_t *root;
+    uint32_t challenges[MAX_REPETITIONS];
+    uint32_t points[MAX_POINTS];
+    struct level opened;
+};
+
+static inline uint32_t read_header(const uint8_t *bytes, struct sizes *s)
+{
+    if (memcmp(bytes, "SWQ\1", 5) != 0)
+        return 5;
+    s->h = bytes[5];
+    s->mu = bytes[6];
+    s->nu = load16(bytes + 7);
+    s->w = load16(bytes + 9);
+    s->l = bytes[11];
+    s->eta = bytes[12];
+    s->m = bytes[13];
+    return complete(s) ? 0 : 1;
+}
+
+static inline uint32_t read_question(const uint8_t *bytes, size_t length, struct question *q)
+{
+    struct sizes *s = &q->sizes;
+    uint32_t number;
+
+    if (length < HEADER_BYTES)
+        return 6;
+    number = read_header(bytes, s);
+    if (number != 0)
+        return number;
+    if (length != HEADER_BYTES + DIGEST_BYTES + 4 * (s->eta + s->m) + 2 * s->l)
+        return 6;
+    q->root = bytes + HEADER_BYTES;
+    bytes = q->root + DIGEST_BYTES;
+    load_words(q->challenges, bytes, s->eta);
+    load_words(q->points, bytes + 4 * s->eta, s->m);
+    bytes += 4 * (s->eta + s->m);
+    if (!are_elements(q->challenges, s->eta) || !are_elements(q->points, s->m))
+        return 3;
+    q->opened.count = s->l;
+    for (uint32_t b = 0; b < s->l; b++) {
+        q->opened.indices[b] = load16(bytes + 2 * b);
+        if (q->opened.indices[b] >= s->leaves ||
+            (b > 0 && q->opened.indices[b] <= q->opened.indices[b - 1]))
+            return 4;
+    }
+    return 0;
+}
+
+/* The length of the reply to a question. */
+static inline size_t exact_size(const struct question *q)
+{
+    return reply_size(&q->sizes, count_missing(q->sizes.h, &q->opened));
+}
+
+#endif
