@@ -6,8 +6,8 @@ ghost use Rattle.algebra.specs.Prime.{q};
 ghost use Rattle.algebra.specs.Numbers.{evalN};
 ghost use Rattle.algebra.specs.Columns.{powN};
 ghost use Rattle.lists.specs.Tabulate.{tabulate};
-ghost use Rattle.algebra.specs.Dot.{longest, wordEnd, spare, dotN, dotsOf};
-ghost use Rattle.algebra.specs.Wrapped.{half, lowOf};
+ghost use Rattle.algebra.specs.Dot.{split, longest, wordEnd, spare, dotN, dotsOf};
+ghost use Rattle.algebra.specs.Wrapped.{lowOf};
 ghost use Rattle.algebra.specs.Sums.{sumsOf, lowAdded, highAdded, SmallProducts, Spare, Summed, reducedAt};
 ghost use Rattle.lists.specs.All.{All};
 ghost use Rattle.lists.specs.Fill.{Filled};
@@ -38,7 +38,7 @@ fn reduce_sum(low: u64, high: u64) -> u32
     ((low + 10 * high) % Q) as u32
 }
 
-// A sum of products: all of it modulo 2^64, and the sum of the products' upper halves.
+// A sum of products: all of it modulo 2^64, and the sum of the products' upper parts.
 struct Sum {
     all: u64,
     upper: u64,
@@ -46,23 +46,23 @@ struct Sum {
 
 fn add_product(s: Sum, a: u32, b: u32) -> Sum
     requires { ⌜ s .upper < spare ⌝ }
-    ensures { λ r. ⌜ (r .all ≡ (s .all + a * b) % wordEnd) × (r .upper ≡ s .upper + a * b / half) × (a * b < wordEnd) ⌝ }
+    ensures { λ r. ⌜ (r .all ≡ (s .all + a * b) % wordEnd) × (r .upper ≡ s .upper + a * b / split) × (a * b < wordEnd) ⌝ }
 {
     let p = product(a, b);
-    let upper = s.upper + (p >> 32);
+    let upper = s.upper + p / SPLIT;
     Sum {
         all: wrapping_add_u64(s.all, p),
         upper: upper,
     }
 }
 
-// The two together, reduced: what they leave is the sum of the lower halves.
-fn reduce_halves(s: Sum) -> Element
+// The two together, reduced: what they leave is the sum of the lower parts.
+fn reduce_parts(s: Sum) -> Element
     requires { ⌜ (lowOf (s .all) (s .upper) < spare) × (s .upper < spare) ⌝ }
-    ensures { λ r. ⌜ r .0 ≡ (lowOf (s .all) (s .upper) + 5 * s .upper) % q ⌝ }
+    ensures { λ r. ⌜ r .0 ≡ (lowOf (s .all) (s .upper) + 10 * s .upper) % q ⌝ }
 {
-    let low = wrapping_sub_u64(s.all, s.upper << 32);
-    Element(((low + 5 * s.upper) % Q) as u32)
+    let low = wrapping_sub_u64(s.all, s.upper << 33);
+    Element(((low + 10 * s.upper) % Q) as u32)
 }
 
 // The sum of the products of the entries, reduced once at the end.
@@ -77,7 +77,7 @@ pub fn dot(a: &[u32], b: &[u32]) -> Element
         s = add_product(s, a[i], b[i]);
         i += 1;
     }
-    reduce_halves(s)
+    reduce_parts(s)
 }
 
 // Four dot products with the same weights, which are read once.
@@ -107,10 +107,10 @@ fn four_dots(weights: &[u32], a: &[u32], b: &[u32], c: &[u32], d: &[u32]) -> Fou
         i += 1;
     }
     Four {
-        a: reduce_halves(s),
-        b: reduce_halves(t),
-        c: reduce_halves(u),
-        d: reduce_halves(v),
+        a: reduce_parts(s),
+        b: reduce_parts(t),
+        c: reduce_parts(u),
+        d: reduce_parts(v),
     }
 }
 

@@ -48,15 +48,15 @@ loop-again c =
     let r = c .add-product in
     (refl, omega arith, wrapped-turn a b (loop .i) (loop .s .all) (loop .s .upper) (getD a (loop .i) 0 * getD b (loop .i) 0) (r .result .all) (r .result .upper) (omega arith) (c .before .before .before .before .before .before .before .pre .0) refl (r .ensures .2) (r .ensures .0) (r .ensures .1) (loop .inv .2))
 
-reduce-halves-requires : tie.Need-reduce-halves-requires Inv-loop μ-loop
-reduce-halves-requires c κs =
+reduce-parts-requires : tie.Need-reduce-parts-requires Inv-loop μ-loop
+reduce-parts-requires c κs =
     let loop = c .before .loop in
     wrapped-spare (c .before .before .before .before .args .a .now) (c .before .before .before .before .args .b .now) (loop .i) (loop .s .all) (loop .s .upper) (omega arith) (loop .inv .2)
 
 returns : tie.Need-returns Inv-loop μ-loop
 returns c =
     let loop = c .before .before .loop in
-    wrapped-done (c .before .before .before .before .before .args .a .now) (c .before .before .before .before .before .args .b .now) (loop .i) (loop .s .all) (loop .s .upper) (c .reduce-halves .result .0) (omega arith) (omega arith) (c .before .before .before .before .before .pre .0) (loop .inv .2) (c .reduce-halves .ensures)
+    wrapped-done (c .before .before .before .before .before .args .a .now) (c .before .before .before .before .before .args .b .now) (loop .i) (loop .s .all) (loop .s .upper) (c .reduce-parts .result .0) (omega arith) (omega arith) (c .before .before .before .before .before .pre .0) (loop .inv .2) (c .reduce-parts .ensures)
 
 pub dot-spec : {M : Type 1} → statement M
 dot-spec =
@@ -73,5 +73,5 @@ dot-spec =
     add-i
     loop-less
     loop-again
-    reduce-halves-requires
+    reduce-parts-requires
     returns)

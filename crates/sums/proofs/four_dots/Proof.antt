@@ -89,23 +89,23 @@ loop-again c =
       wrapped-turn w (c .before .before .before .before .before .before .before .before .before .before .before .before .before .before .before .before .args .d .now) (loop .i) (loop .v .all) (loop .v .upper) (getD w (loop .i) 0 * getD (c .before .before .before .before .before .before .before .before .before .before .before .before .before .before .before .before .args .d .now) (loop .i) 0) (c .add-product4 .result .all) (c .add-product4 .result .upper) (omega arith) (c .before .before .before .before .before .before .before .before .before .before .before .before .before .before .before .before .pre .4) refl (c .add-product4 .ensures .2) (c .add-product4 .ensures .0) (c .add-product4 .ensures .1) (loop .inv .5),
     )
 
-reduce-halves-requires : tie.Need-reduce-halves-requires Inv-loop μ-loop
-reduce-halves-requires c κs =
+reduce-parts-requires : tie.Need-reduce-parts-requires Inv-loop μ-loop
+reduce-parts-requires c κs =
     let loop = c .before .loop in
     wrapped-spare (c .before .before .before .before .before .before .before .args .weights .now) (c .before .before .before .before .before .before .before .args .a .now) (loop .i) (loop .s .all) (loop .s .upper) (omega arith) (loop .inv .2)
 
-reduce-halves-requires-2 : tie.Need-reduce-halves-requires-2 Inv-loop μ-loop
-reduce-halves-requires-2 c κs =
+reduce-parts-requires-2 : tie.Need-reduce-parts-requires-2 Inv-loop μ-loop
+reduce-parts-requires-2 c κs =
     let loop = c .before .before .loop in
     wrapped-spare (c .before .before .before .before .before .before .before .before .args .weights .now) (c .before .before .before .before .before .before .before .before .args .b .now) (loop .i) (loop .t .all) (loop .t .upper) (omega arith) (loop .inv .3)
 
-reduce-halves-requires-3 : tie.Need-reduce-halves-requires-3 Inv-loop μ-loop
-reduce-halves-requires-3 c κs =
+reduce-parts-requires-3 : tie.Need-reduce-parts-requires-3 Inv-loop μ-loop
+reduce-parts-requires-3 c κs =
     let loop = c .before .before .before .loop in
     wrapped-spare (c .before .before .before .before .before .before .before .before .before .args .weights .now) (c .before .before .before .before .before .before .before .before .before .args .c .now) (loop .i) (loop .u .all) (loop .u .upper) (omega arith) (loop .inv .4)
 
-reduce-halves-requires-4 : tie.Need-reduce-halves-requires-4 Inv-loop μ-loop
-reduce-halves-requires-4 c κs =
+reduce-parts-requires-4 : tie.Need-reduce-parts-requires-4 Inv-loop μ-loop
+reduce-parts-requires-4 c κs =
     let loop = c .before .before .before .before .loop in
     wrapped-spare (c .before .before .before .before .before .before .before .before .before .before .args .weights .now) (c .before .before .before .before .before .before .before .before .before .before .args .d .now) (loop .i) (loop .v .all) (loop .v .upper) (omega arith) (loop .inv .5)
 
@@ -113,10 +113,10 @@ returns : tie.Need-returns Inv-loop μ-loop
 returns c =
     let loop = c .before .before .before .before .before .loop in
     let w : List ℕ = c .before .before .before .before .before .before .before .before .before .before .before .args .weights .now in (
-      wrapped-done w (c .before .before .before .before .before .before .before .before .before .before .before .args .a .now) (loop .i) (loop .s .all) (loop .s .upper) (c .before .before .before .reduce-halves .result .0) (omega arith) (omega arith) (c .before .before .before .before .before .before .before .before .before .before .before .pre .1) (loop .inv .2) (c .before .before .before .reduce-halves .ensures),
-      wrapped-done w (c .before .before .before .before .before .before .before .before .before .before .before .args .b .now) (loop .i) (loop .t .all) (loop .t .upper) (c .before .before .reduce-halves2 .result .0) (omega arith) (omega arith) (c .before .before .before .before .before .before .before .before .before .before .before .pre .2) (loop .inv .3) (c .before .before .reduce-halves2 .ensures),
-      wrapped-done w (c .before .before .before .before .before .before .before .before .before .before .before .args .c .now) (loop .i) (loop .u .all) (loop .u .upper) (c .before .reduce-halves3 .result .0) (omega arith) (omega arith) (c .before .before .before .before .before .before .before .before .before .before .before .pre .3) (loop .inv .4) (c .before .reduce-halves3 .ensures),
-      wrapped-done w (c .before .before .before .before .before .before .before .before .before .before .before .args .d .now) (loop .i) (loop .v .all) (loop .v .upper) (c .reduce-halves4 .result .0) (omega arith) (omega arith) (c .before .before .before .before .before .before .before .before .before .before .before .pre .4) (loop .inv .5) (c .reduce-halves4 .ensures),
+      wrapped-done w (c .before .before .before .before .before .before .before .before .before .before .before .args .a .now) (loop .i) (loop .s .all) (loop .s .upper) (c .before .before .before .reduce-parts .result .0) (omega arith) (omega arith) (c .before .before .before .before .before .before .before .before .before .before .before .pre .1) (loop .inv .2) (c .before .before .before .reduce-parts .ensures),
+      wrapped-done w (c .before .before .before .before .before .before .before .before .before .before .before .args .b .now) (loop .i) (loop .t .all) (loop .t .upper) (c .before .before .reduce-parts2 .result .0) (omega arith) (omega arith) (c .before .before .before .before .before .before .before .before .before .before .before .pre .2) (loop .inv .3) (c .before .before .reduce-parts2 .ensures),
+      wrapped-done w (c .before .before .before .before .before .before .before .before .before .before .before .args .c .now) (loop .i) (loop .u .all) (loop .u .upper) (c .before .reduce-parts3 .result .0) (omega arith) (omega arith) (c .before .before .before .before .before .before .before .before .before .before .before .pre .3) (loop .inv .4) (c .before .reduce-parts3 .ensures),
+      wrapped-done w (c .before .before .before .before .before .before .before .before .before .before .before .args .d .now) (loop .i) (loop .v .all) (loop .v .upper) (c .reduce-parts4 .result .0) (omega arith) (omega arith) (c .before .before .before .before .before .before .before .before .before .before .before .pre .4) (loop .inv .5) (c .reduce-parts4 .ensures),
     )
 
 pub four-dots-spec : {M : Type 1} → statement M
@@ -143,8 +143,8 @@ four-dots-spec =
     add-i
     loop-less
     loop-again
-    reduce-halves-requires
-    reduce-halves-requires-2
-    reduce-halves-requires-3
-    reduce-halves-requires-4
+    reduce-parts-requires
+    reduce-parts-requires-2
+    reduce-parts-requires-3
+    reduce-parts-requires-4
     returns)

@@ -1,12 +1,12 @@
--- `sums::reduce_halves` meets its contract: the difference modulo 2^64 is the sum of the lower halves.
+-- `sums::reduce_parts` meets its contract: the difference modulo 2^64 is the sum of the lower parts.
 use mathlib.Core.Path.{_≡_, ap}
 use Prim.Native.Nat.{ℕ, _+_, _*_, _%_, _<_}
 use Rattle.algebra.specs.Prime.{q}
 use Rattle.algebra.specs.Dot.{spare}
 use Rattle.algebra.specs.Wrapped.{lowOf, low-left}
 use borrow.Author.Needs.{needs}
-use Rattle.sums.proofs.reduce_halves.Statement.{statement}
-use Rattle.sums.proofs.reduce_halves.Tie as tie
+use Rattle.sums.proofs.reduce_parts.Statement.{statement}
+use Rattle.sums.proofs.reduce_parts.Tie as tie
 
 wrapping-sub-u64-requires : tie.Need-wrapping-sub-u64-requires
 wrapping-sub-u64-requires c κs = search needs
@@ -31,7 +31,7 @@ returns : tie.Need-returns
 returns c =
     let s = c .before .before .before .args .s in
     let r : ℕ = c .before .wrapping-sub-u64 .result in
-    ap (λ (t : ℕ). (t + 5 * s .upper) % q) (low-left (s .all) (s .upper) r (search needs) (search needs) (c .before .wrapping-sub-u64 .ensures))
+    ap (λ (t : ℕ). (t + 10 * s .upper) % q) (low-left (s .all) (s .upper) r (search needs) (search needs) (c .before .wrapping-sub-u64 .ensures))
 
-pub reduce-halves-spec : {M : Type 1} → statement M
-reduce-halves-spec = tie.close (tie.spec wrapping-sub-u64-requires mul-t3 add-t4 cast-t6 returns)
+pub reduce-parts-spec : {M : Type 1} → statement M
+reduce-parts-spec = tie.close (tie.spec wrapping-sub-u64-requires mul-t3 add-t4 cast-t6 returns)
