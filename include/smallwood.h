@@ -10,7 +10,7 @@
  *   Alignment   A pointer to 32-bit words is aligned for uint32_t, one to a 64-bit number for uint64_t; the latter is never NULL.
  *   Overlap     A slice or a number that a call writes overlaps no other of that call. Slices that a call only reads may overlap.
  *   Threads     No entry keeps anything between calls: no globals, no heap, no files. Any number of threads may call at once on slices
- *               of their own; slices that are only read may be shared. A call takes at most about 34 kilobytes of stack (measured).
+ *               of their own; slices that are only read may be shared. A call takes at most about 52 kilobytes of stack (measured).
  *   Numbers     Words are in the machine's order. Multi-byte numbers in questions, replies and the check's values are little-endian.
  *
  * What a call returns
