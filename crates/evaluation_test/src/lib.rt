@@ -131,7 +131,7 @@ fn evaluation_walk(
 // The length of the shortest table of inverses, which is as good as none.
 const NO_TABLE: usize = 2;
 
-// The length of the table of inverses for so many opened leaves: as far as the distances go where it pays. An entry of it costs about one and a half times a place of the products of distances.
+// The length of the table of inverses for so many opened leaves: as far as the distances go where it pays. A place of the products of distances is taken to cost one and a half entries of it.
 fn table_length(first: usize, width: usize, opened: usize) -> usize
     requires { ⌜ (0 < first) × (first ≤ 4096) × (0 < width) × (width ≤ 320) × (opened ≤ 64) ⌝ }
     ensures { λ r. ⌜ (2 ≤ r) × (r ≤ 4416) ⌝ }
