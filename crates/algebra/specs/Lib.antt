@@ -21,3 +21,5 @@ pub mod Weights
 pub mod Differences
 pub mod Forward
 pub mod Pairs
+pub mod Values
+pub mod Stacked

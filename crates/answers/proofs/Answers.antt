@@ -4,10 +4,9 @@ use mathlib.Core.List.{List, map, flatten}
 use Prim.Native.Nat.{ℕ, _+_, _-_, _*_, _≤_, _<_}
 use native.Mathlib.Nat.{mul-comm}
 use lib.ListN.{length, getD, take, drop}
-use Rattle.lists.specs.Bytes.{Bytes, bytesOf, length-bytesOf}
+use Rattle.lists.specs.Bytes.{Bytes, bytesOf, length-bytesOf, bytesOf-flatten}
 use Rattle.lists.specs.Parts.{row-fits, span-length}
-use Rattle.answers.specs.Answers.{written}
-use Rattle.answers.proofs.Writing.{upTo, upTo-none, upTo-all, upTo-room, upTo-turn, bytesOf-flatten}
+use Rattle.lists.specs.Spliced.{upTo, upTo-none, upTo-all, upTo-room, upTo-turn, spliced}
 
 module _ (f : ℕ → List ℕ) (xs : List ℕ) (n at : ℕ) (o : Bytes) where
   -- the buffer with the first k of them
@@ -18,10 +17,10 @@ module _ (f : ℕ → List ℕ) (xs : List ℕ) (n at : ℕ) (o : Bytes) where
   answers-none = upTo-none (λ x. bytesOf (f x)) xs (4 * n) at o
 
   module _ (count : ℕ) (counted : length xs ≡ count) where
-    pub answers-all : (k : ℕ) → k ≡ count → answersTo k ≡ written at (4 * n * count) (bytesOf (flatten (map f xs))) o
+    pub answers-all : (k : ℕ) → k ≡ count → answersTo k ≡ spliced at (4 * n * count) (bytesOf (flatten (map f xs))) o
     answers-all k e =
         upTo-all (λ x. bytesOf (f x)) xs (4 * n) at o k (e ∙ sym counted)
-        ∙ ap₂ (λ (c : ℕ) (x : Bytes). written at (4 * n * c) x o) counted (bytesOf-flatten f xs)
+        ∙ ap₂ (λ (c : ℕ) (x : Bytes). spliced at (4 * n * c) x o) counted (bytesOf-flatten f xs)
 
     module _ (sized : (x : ℕ) → length (f x) ≡ n) (room : at + 4 * n * count ≤ length o) where
       sizes : (k : ℕ) → k < length xs → length (bytesOf (f (getD xs k 0))) ≡ 4 * n
@@ -33,7 +32,7 @@ module _ (f : ℕ → List ℕ) (xs : List ℕ) (n at : ℕ) (o : Bytes) where
       pub answers-room : (k : ℕ) → k < count → at + 4 * n * k + 4 * n ≤ length o
       answers-room k l = upTo-room (λ x. bytesOf (f x)) xs (4 * n) at o sizes rooms k (subst (λ (c : ℕ). k < c) (sym counted) l)
 
-      pub answers-turn : (k : ℕ) (now new : Bytes) → k < count → now ≡ answersTo k → new ≡ written (at + 4 * n * k) (4 * n) (bytesOf (f (getD xs k 0))) now
+      pub answers-turn : (k : ℕ) (now new : Bytes) → k < count → now ≡ answersTo k → new ≡ spliced (at + 4 * n * k) (4 * n) (bytesOf (f (getD xs k 0))) now
           → (new ≡ answersTo (k + 1)) × (length new ≡ length o)
       answers-turn k now new l e g = upTo-turn (λ x. bytesOf (f x)) xs (4 * n) at o sizes rooms k now new (subst (λ (c : ℕ). k < c) (sym counted) l) e g
 

@@ -21,7 +21,7 @@ use Rattle.algebra.specs.Dot.{accumulateN, accumulateN-at, length-accumulateN}
 use Rattle.algebra.specs.Numbers.{evalN, valuesAtN, interpN, interpN-below, interpN-length, interpN-values, Elements, Polys}
 use Rattle.algebra.specs.Batch.{columnN, honestN}
 use Rattle.scheme.specs.Layers.{combination}
-use Rattle.scheme.proofs.Row.{combination-length, combination-at, combination-below, combination-batch}
+use Rattle.scheme.proofs.HonestAnswers.{combination-length, combination-at, combination-below, combination-batch}
 
 -- ---- a step of Horner's rule over rows
 
@@ -98,10 +98,6 @@ module _ (n μ z : ℕ) (x : List ℕ) (whole : length x ≡ n * μ) where
       ∙ ap (combination n z) (sym (rows-from (j - 1) (omega arith)))
 
 -- ---- interpolation is linear
-
-interp-polys : (xs : List ℕ) (n : ℕ) → length xs ≡ n → (es : List (List ℕ)) → Polys n es → Polys n (map (interpN xs) es)
-interp-polys xs n e [] h = tt
-interp-polys xs n e (r ∷ rs) h = ((interpN-length xs r (h .0 .0 ∙ sym e) ∙ e, interpN-below xs r), interp-polys xs n e rs (h .1))
 
 -- at point i of xs the polynomials have the entries i of the rows
 entries : (xs : List ℕ) (n : ℕ) → length xs ≡ n → Elements xs → Distinct xs → (es : List (List ℕ)) → Polys n es → (i : ℕ) → i < n

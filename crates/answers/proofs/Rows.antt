@@ -16,11 +16,11 @@ use Rattle.algebra.specs.Prime.{q}
 use Rattle.algebra.specs.Columns.{powN}
 use Rattle.algebra.specs.Dot.{longest, dotsOf, dots-length, dots-powersN}
 use Rattle.algebra.specs.Numbers.{Polys}
-use Rattle.scheme.specs.Sizes.{Sizes, leaves, rows, columns, width}
+use Rattle.scheme.specs.Sizes.{Sizes, SizesInOrder, leaves, rows, columns, width}
 use Rattle.scheme.specs.Layers.{Lent, lentOf, extended, extendedRows, combination}
-use Rattle.scheme.proofs.Accepted.{Good, good}
-use Rattle.scheme.proofs.Lent.{Rights}
-use Rattle.scheme.proofs.Row.{ext-polys, answer-parts}
+use Rattle.scheme.proofs.Accepted.{sizes-in-order}
+use Rattle.scheme.proofs.Lent.{LentFacts}
+use Rattle.scheme.proofs.HonestAnswers.{ext-polys, answer-parts}
 use Rattle.lists.specs.Parts.{rest-length, two-parts}
 use Rattle.lent.proofs.Rows.{rows-lent}
 use Rattle.answers.specs.Answers.{Lined, CanCombine}
@@ -30,14 +30,14 @@ module _ (t : Sizes) (coefficients tails : List ℕ) (can : CanCombine t coeffic
   abbrev ext : List (List ℕ)
   ext = extendedRows t (lentOf coefficients tails [] [])
 
-  g : Good t
-  g = good t (can .extend .sizes)
+  g : SizesInOrder t
+  g = sizes-in-order t (can .extend .sizes)
 
   -- masks and nonces matter to no row: zeros serve
   abbrev lent : Lent
   lent = lentOf coefficients tails (replicate (t .η * width t) 0) (replicate (32 * leaves t) 0)
 
-  r : Rights t lent
+  r : LentFacts t lent
   r = record {
     sizes = g;
     c-length = can .extend .coefficients-length;

@@ -35,7 +35,3 @@ batchingAt first n es masks challenges k = batchingOver first n es (piece n k ma
 -- the evaluation answer to z
 abbrev pub answerAt : ℕ → List (List ℕ) → ℕ → List ℕ
 answerAt n es z = combination n z es
-
--- a buffer after n bytes x were written from `at` on
-abbrev pub written : ℕ → ℕ → Bytes → Bytes → Bytes
-written at n x buffer = take at buffer ++ (x ++ drop (at + n) buffer)

@@ -12,7 +12,8 @@ ghost use Rattle.algebra.specs.Pairs.{pointsEnd};
 ghost use Rattle.scheme.specs.Layers.{lentOf, extendedRows, combination};
 ghost use Rattle.scheme.specs.Sizes.{width};
 ghost use Rattle.commitment.specs.Shape.{sizesIn};
-ghost use Rattle.answers.specs.Answers.{Lined, CanCombine, batchingOver, batchingAt, answerAt, written};
+ghost use Rattle.lists.specs.Spliced.{spliced};
+ghost use Rattle.answers.specs.Answers.{Lined, CanCombine, batchingOver, batchingAt, answerAt};
 use commitment::Shape;
 use commitment::column_count;
 use commitment::put_words;
@@ -125,7 +126,7 @@ fn put_batching_in(
     at: usize,
 )
     requires { ⌜ CanCombine (sizesIn s) (now coefficients) (now tails) × (length (now mask) ≡ width (sizesIn s)) × (first .0 + length (now mask) ≤ pointsEnd) × (at + 4 * length (now mask) ≤ length (now out)) × (length (now sum) ≡ length (now mask)) × (length (now answer) ≡ length (now mask)) ⌝ }
-    ensures { λ _. ⌜ now (out .exit) ≡ written at (4 * length (now (mask .entry))) (bytesOf (batchingOver (first .0) (length (now (mask .entry))) (extendedRows (sizesIn s) (lentOf (now (coefficients .entry)) (now (tails .entry)) [] [])) (now (mask .entry)) (gamma .0))) (now (out .entry)) ⌝ }
+    ensures { λ _. ⌜ now (out .exit) ≡ spliced at (4 * length (now (mask .entry))) (bytesOf (batchingOver (first .0) (length (now (mask .entry))) (extendedRows (sizesIn s) (lentOf (now (coefficients .entry)) (now (tails .entry)) [] [])) (now (mask .entry)) (gamma .0))) (now (out .entry)) ⌝ }
 {
     batching_answer(s, first, coefficients, tails, mask, gamma, sum, answer);
     put_words(out, at, &answer[..]);
@@ -143,7 +144,7 @@ fn put_batching(
     at: usize,
 )
     requires { ⌜ CanCombine (sizesIn s) (now coefficients) (now tails) × (length (now mask) ≡ width (sizesIn s)) × (first .0 + length (now mask) ≤ pointsEnd) × (at + 4 * length (now mask) ≤ length (now out)) ⌝ }
-    ensures { λ _. ⌜ now (out .exit) ≡ written at (4 * length (now (mask .entry))) (bytesOf (batchingOver (first .0) (length (now (mask .entry))) (extendedRows (sizesIn s) (lentOf (now (coefficients .entry)) (now (tails .entry)) [] [])) (now (mask .entry)) (gamma .0))) (now (out .entry)) ⌝ }
+    ensures { λ _. ⌜ now (out .exit) ≡ spliced at (4 * length (now (mask .entry))) (bytesOf (batchingOver (first .0) (length (now (mask .entry))) (extendedRows (sizesIn s) (lentOf (now (coefficients .entry)) (now (tails .entry)) [] [])) (now (mask .entry)) (gamma .0))) (now (out .entry)) ⌝ }
 {
     let n = mask.len();
     if n <= FEW {
@@ -190,7 +191,7 @@ fn put_answer_in(
     at: usize,
 )
     requires { ⌜ CanCombine (sizesIn s) (now coefficients) (now tails) × (length (now answer) ≡ width (sizesIn s)) × (at + 4 * length (now answer) ≤ length (now out)) ⌝ }
-    ensures { λ _. ⌜ now (out .exit) ≡ written at (4 * length (now (answer .entry))) (bytesOf (combination (length (now (answer .entry))) (z .0) (extendedRows (sizesIn s) (lentOf (now (coefficients .entry)) (now (tails .entry)) [] [])))) (now (out .entry)) ⌝ }
+    ensures { λ _. ⌜ now (out .exit) ≡ spliced at (4 * length (now (answer .entry))) (bytesOf (combination (length (now (answer .entry))) (z .0) (extendedRows (sizesIn s) (lentOf (now (coefficients .entry)) (now (tails .entry)) [] [])))) (now (out .entry)) ⌝ }
 {
     combine_lent(s, coefficients, tails, z, answer);
     put_words(out, at, &answer[..]);
@@ -207,7 +208,7 @@ fn put_answer(
     at: usize,
 )
     requires { ⌜ CanCombine (sizesIn s) (now coefficients) (now tails) × (n ≡ width (sizesIn s)) × (at + 4 * n ≤ length (now out)) ⌝ }
-    ensures { λ _. ⌜ now (out .exit) ≡ written at (4 * n) (bytesOf (combination n (z .0) (extendedRows (sizesIn s) (lentOf (now (coefficients .entry)) (now (tails .entry)) [] [])))) (now (out .entry)) ⌝ }
+    ensures { λ _. ⌜ now (out .exit) ≡ spliced at (4 * n) (bytesOf (combination n (z .0) (extendedRows (sizesIn s) (lentOf (now (coefficients .entry)) (now (tails .entry)) [] [])))) (now (out .entry)) ⌝ }
 {
     if n <= FEW {
         let mut answer = blank_few();
@@ -234,7 +235,7 @@ pub fn put_batchings(
     at: usize,
 )
     requires { ⌜ CanCombine (sizesIn s) (now coefficients) (now tails) × (n ≡ width (sizesIn s)) × (first .0 + n ≤ pointsEnd) × (length (now masks) ≡ s .eta * n) × (challenges + 4 * s .eta ≤ length (now question)) × (at + 4 * n * s .eta ≤ length (now out)) ⌝ }
-    ensures { λ _. ⌜ now (out .exit) ≡ written at (4 * n * s .eta) (bytesOf (flatten (map (batchingAt (first .0) n (extendedRows (sizesIn s) (lentOf (now (coefficients .entry)) (now (tails .entry)) [] [])) (now (masks .entry)) (words (s .eta) (drop challenges (now (question .entry))))) (upFrom 0 (s .eta))))) (now (out .entry)) ⌝ }
+    ensures { λ _. ⌜ now (out .exit) ≡ spliced at (4 * n * s .eta) (bytesOf (flatten (map (batchingAt (first .0) n (extendedRows (sizesIn s) (lentOf (now (coefficients .entry)) (now (tails .entry)) [] [])) (now (masks .entry)) (words (s .eta) (drop challenges (now (question .entry))))) (upFrom 0 (s .eta))))) (now (out .entry)) ⌝ }
 {
     let eta = s.eta as usize;
     let size = 4 * n;
@@ -268,7 +269,7 @@ pub fn put_answers(
     at: usize,
 )
     requires { ⌜ CanCombine (sizesIn s) (now coefficients) (now tails) × (n ≡ width (sizesIn s)) × (points + 4 * m ≤ length (now question)) × (at + 4 * n * m ≤ length (now out)) ⌝ }
-    ensures { λ _. ⌜ now (out .exit) ≡ written at (4 * n * m) (bytesOf (flatten (map (answerAt n (extendedRows (sizesIn s) (lentOf (now (coefficients .entry)) (now (tails .entry)) [] []))) (words m (drop points (now (question .entry))))))) (now (out .entry)) ⌝ }
+    ensures { λ _. ⌜ now (out .exit) ≡ spliced at (4 * n * m) (bytesOf (flatten (map (answerAt n (extendedRows (sizesIn s) (lentOf (now (coefficients .entry)) (now (tails .entry)) [] []))) (words m (drop points (now (question .entry))))))) (now (out .entry)) ⌝ }
 {
     let size = 4 * n;
     for p in 0..m {

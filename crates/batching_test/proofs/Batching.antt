@@ -14,7 +14,8 @@ use Rattle.algebra.specs.Prime.{q}
 use Rattle.algebra.specs.Dot.{dotN}
 use Rattle.algebra.specs.Numbers.{evalN}
 use Rattle.scheme.specs.Sizes.{leafPoint}
-use Rattle.opened.specs.Rows.{rowsOf, powersAt}
+use Rattle.lists.specs.Rows.{rowsOf}
+use Rattle.opened.specs.Powers.{powersAt}
 use Rattle.opened.proofs.Powers.{dot-row}
 use Rattle.batching_test.specs.Batching.{batchOf, batchBy, agreesAt, valuedAt, valuedLeaf, batchedAt, batchedRow}
 use Rattle.lists.specs.Parts.{part-is}

@@ -15,17 +15,17 @@ use Rattle.lists.specs.Choice.{pick}
 use Rattle.lists.specs.Pieces.{pieces, length-pieces}
 use Rattle.lists.specs.Tests.{verdictOf, passed, verdict-hit, verdict-miss, verdict-go, verdict-stop}
 use Rattle.scheme.specs.Sizes.{Sizes, leaves}
-use Rattle.scheme.specs.Question.{Question, readQuestion, challengesAt, pointsAt, indicesAt, questionTests}
+use Rattle.scheme.specs.Question.{Question, readQuestion, challengesAt, pointsAt, indicesAt, questionTests, questionAt}
 use Rattle.scheme.specs.Reply.{readReply, replyLength}
 use Rattle.scheme.specs.Commit.{after}
 use Rattle.scheme.specs.Check.{replyTests, checkValues, checkVerdict, checking}
-use Rattle.scheme.proofs.Accepted.{good, question-numbers}
+use Rattle.scheme.proofs.Accepted.{sizes-in-order, question-numbers}
 use Rattle.commitment.specs.Shape.{sizesIn}
 use Rattle.commitment.specs.Questioned.{questioned}
 use Rattle.commitment.specs.declared.Shape.{Shape}
 use Rattle.commitment.specs.declared.Questioned.the-variants.{WellFormed, Refused}
 use Rattle.commitment.proofs.Answer.{well-asked, refused, Taken, taken}
-use Rattle.checker.specs.Posed.{posed, Posed, questionAt, Formed, checkingReply}
+use Rattle.checker.specs.Posed.{posed, Posed, Formed, checkingReply}
 
 -- ---- the lists
 
@@ -36,7 +36,7 @@ pub was-posed : (s : Sizes) (m : ℕ) (b : Bytes) (challenges points indices : L
     → challenges ≡ questionAt s m b .challenges → points ≡ questionAt s m b .evaluationPoints → indices ≡ questionAt s m b .indices
     → Posed s challenges points indices
 was-posed s m b challenges points indices f ec ep ei = record {
-  sizes-good = f .sizes-good;
+  in-order = f .in-order;
   repetitions = ap length ec ∙ length-words (s .η) (drop challengesAt b);
   few-points = subst (λ (n : ℕ). n ≤ 8) (sym (ap length ep ∙ length-words m (drop (pointsAt s) b))) (f .few-points);
   opened = ap length ei ∙ length-halves (s .ℓ) (drop (indicesAt s m) b);
@@ -99,7 +99,7 @@ formed b s m e =
     let t : Taken b s m = taken b s m e in
     let a = well-asked b s m e in
     record {
-      sizes-good = good (sizesIn s) (t .sizes-ok);
+      in-order = sizes-in-order (sizesIn s) (t .sizes-ok);
       few-points = t .m-high;
       long = t .long;
       rising = subst Rising (t .indices) (t .asks .indices-rising);

@@ -19,17 +19,16 @@ use Rattle.lists.specs.Tests.{all, every, each, each-ext, each-swap, all-is-eac
 use Rattle.algebra.specs.Numbers.{evalN, interpN}
 use Rattle.scheme.specs.Sizes.{Sizes, elements, leaves, width, recordValues, points, leafPoint}
 use Rattle.scheme.specs.Layers.{polynomialValues}
-use Rattle.scheme.specs.Question.{Question, pointsAt}
-use Rattle.checker.specs.Posed.{questionAt}
+use Rattle.scheme.specs.Question.{Question, pointsAt, questionAt}
 use Rattle.scheme.specs.Reply.{Reply, readReply, answersAt, recordsAt, recordLength, nodesAt, missingNodes, replyLength, recordWords}
 use Rattle.scheme.specs.Check.{leafAt, recordAt, batchingOf, pointOf, answerOf, replyElements, leafStrings, replyRoot, batchingAt, evaluationAt, checkValues}
-use Rattle.scheme.proofs.Walk.{batching-at, answer-at, record-at}
-use Rattle.opened.specs.Rows.{rowsOf}
+use Rattle.scheme.proofs.ReplyPlaces.{batching-at, answer-at, record-at}
+use Rattle.lists.specs.Rows.{rowsOf, all-rows, rows-ext}
 use Rattle.opened.specs.Records.{recordWordsAt}
 use Rattle.batching_test.specs.Batching.{batchOf, batchedAt, batchedRow}
 use Rattle.evaluation_test.specs.Evaluation.{evaluatedAt, evaluatedLeaf}
 use Rattle.checker.specs.Words.{batchingWords, answerWords, leafValuesAt, rowValuesAt, leafElementsAt, rootAt, recordElementsAt, leafDigestAt, pointValues, valuesAt}
-use Rattle.checker.proofs.Flat.{all-rows, rows-ext, wordsAt, words-rows, words-front, words-piece}
+use Rattle.lists.specs.Numbers.{wordsAt, words-rows, words-front, words-piece}
 
 map-map : (f : Bytes → Bytes) (g : ℕ → Bytes) (xs : List ℕ) → map f (map g xs) ≡ map (λ a. f (g a)) xs
 map-map f g [] = refl

@@ -11,9 +11,8 @@ use Rattle.sponge.specs.Digest.{digest-length}
 use Rattle.tree.specs.Leaf.{leafString}
 use Rattle.tree.specs.Tree.{parts, allParts, rootFrom}
 use Rattle.lists.specs.Bytes.{Bytes}
-use Rattle.opened.specs.Rows.{rowsOf}
+use Rattle.lists.specs.Rows.{rowsOf, rows-pieces}
 use Rattle.checker.specs.Words.{leafDigestAt, rootAt}
-use Rattle.opened.proofs.Rows.{rows-pieces}
 
 pub length-leafDigestAt : (at size : ℕ) (indices : List ℕ) (reply : Bytes) (a : ℕ) → length (leafDigestAt at size indices reply a) ≡ 32
 unfolding leafDigestAt

@@ -10,8 +10,8 @@ use Rattle.lists.specs.Pieces.{piece, pieces, pieces-snoc, length-pieces}
 use Rattle.algebra.specs.Columns.{powN}
 use Rattle.algebra.specs.Numbers.{evalN}
 use Rattle.checker.specs.Words.{pointValues, valuesAt}
-use Rattle.opened.proofs.Rows.{front-all}
-use Rattle.checker.proofs.Flat.{words-piece}
+use Rattle.lists.specs.Rows.{front-all}
+use Rattle.lists.specs.Numbers.{words-piece}
 use Rattle.lists.specs.Parts.{part-is}
 
 -- where p stands in front of d, one element more is written behind it

@@ -107,15 +107,15 @@ module _ (s : Sizes) (root challenges points indices reply : List ℕ) (p : Pose
 
   pub index-set : IndexSet (s .h) indices
   index-set = record {
-    depth = p .sizes-good .h-high;
-    some = omega (arith, p .opened, p .sizes-good .ℓ-low);
-    few = omega (arith, p .opened, p .sizes-good .ℓ-high);
+    depth = p .in-order .h-high;
+    some = omega (arith, p .opened, p .in-order .ℓ-low);
+    few = omega (arith, p .opened, p .in-order .ℓ-high);
     rising = p .rising;
     leaves = p .below;
   }
 
   pub indices-small : Below 65536 indices
-  indices-small = small (s .h) indices (p .sizes-good .h-high) (p .below)
+  indices-small = small (s .h) indices (p .in-order .h-high) (p .below)
 
   -- where the reply's parts end
   pub records-end : (at size : ℕ) → at ≡ recordsAt s (length points) → size ≡ recordLength s → at + size * length indices ≡ nodesAt s (length points)
@@ -187,11 +187,11 @@ module _ (s : Sizes) (root challenges points indices reply : List ℕ) (p : Pose
           → (0 < wide) × Below 65536 indices × (wide * length challenges ≤ length batching) × (s .μ ≤ 64) × (length challenges ≤ 4)
           × (4 * (s .μ + length challenges) ≤ size) × (at + size * length indices ≤ length reply)
       batching-asks wide g = (
-        omega (arith, g, p .sizes-good .ℓ-low),
+        omega (arith, g, p .in-order .ℓ-low),
         indices-small,
         le-of-eq (ap₂ _*_ g (p .repetitions) ∙ sym length-batching),
-        p .sizes-good .μ-high,
-        omega (arith, p .repetitions, p .sizes-good .η-high),
+        p .in-order .μ-high,
+        omega (arith, p .repetitions, p .in-order .η-high),
         omega (arith, f, p .repetitions),
         records-fit (d .whole) at size e f,
       )
@@ -201,12 +201,12 @@ module _ (s : Sizes) (root challenges points indices reply : List ℕ) (p : Pose
           × (wide * length points ≤ length answers) × (4 * s .μ ≤ size) × (at + size * length indices ≤ length reply)
       evaluation-asks first wide g h = (
         omega (arith, g, pow-pos (s .h)),
-        omega (arith, g, leaves-high s (p .sizes-good)),
+        omega (arith, g, leaves-high s (p .in-order)),
         subst (λ (k : ℕ). Below k indices) (sym g) (p .below),
-        omega (arith, p .opened, p .sizes-good .ℓ-high),
-        omega (arith, h, p .sizes-good .ℓ-low),
-        omega (arith, h, width-high s (p .sizes-good)),
-        p .sizes-good .μ-high,
+        omega (arith, p .opened, p .in-order .ℓ-high),
+        omega (arith, h, p .in-order .ℓ-low),
+        omega (arith, h, width-high s (p .in-order)),
+        p .in-order .μ-high,
         p .few-points,
         le-of-eq (ap (λ (k : ℕ). k * length points) h ∙ sym length-answers),
         omega (arith, f),

@@ -4,17 +4,16 @@ use mathlib.Core.Bool.{not}
 use mathlib.Core.List.{List, [], _∷_}
 use Prim.Native.Nat.{ℕ, _*_, _≤_}
 use lib.Dec.{eqb}
-use lib.ListN.{length, take, drop}
+use lib.ListN.{length}
 use Rattle.lists.specs.All.{Below}
 use Rattle.lists.specs.Rising.{Rising}
-use Rattle.lists.specs.Bytes.{Bytes, words, halves}
+use Rattle.lists.specs.Bytes.{Bytes}
 use Rattle.lists.specs.Tests.{Test, verdictOf, each, same}
-use Rattle.scheme.specs.Sizes.{Sizes, leaves}
-use Rattle.scheme.specs.Question.{Question, headerLength, challengesAt, pointsAt, indicesAt, questionLength}
+use Rattle.scheme.specs.Sizes.{Sizes, SizesInOrder, leaves}
+use Rattle.scheme.specs.Question.{Question, questionAt, questionLength}
 use Rattle.scheme.specs.Reply.{Reply, readReply, replyLength}
 use Rattle.scheme.specs.Commit.{after}
 use Rattle.scheme.specs.Check.{replyElements, replyRoot, batchingAt, evaluationAt, replyTests, checkValues}
-use Rattle.scheme.proofs.Accepted.{Good}
 use Rattle.checker.specs.Words.{batchingWords, answerWords}
 
 abbrev pub posed : Sizes → Bytes → List ℕ → List ℕ → List ℕ → Question
@@ -22,7 +21,7 @@ posed s root challenges points indices = record { sizes = s; m = length points; 
 
 -- what the question's tests leave of them
 pub record Posed (s : Sizes) (challenges points indices : List ℕ) : Type 0 where
-  pub sizes-good : Good s
+  pub in-order : SizesInOrder s
   pub repetitions : length challenges ≡ s .η
   pub few-points : length points ≤ 8
   pub opened : length indices ≡ s .ℓ
@@ -35,20 +34,9 @@ pub record Read (u : Question) (reply : Bytes) (batching answers : List ℕ) : T
   pub batching-read : batching ≡ batchingWords u reply
   pub answers-read : answers ≡ answerWords u reply
 
--- the question that b holds for sizes s and m points
-abbrev pub questionAt : Sizes → ℕ → Bytes → Question
-questionAt s m b = record {
-  sizes = s;
-  m = m;
-  root = take 32 (drop headerLength b);
-  challenges = words (s .η) (drop challengesAt b);
-  evaluationPoints = words m (drop (pointsAt s) b);
-  indices = halves (s .ℓ) (drop (indicesAt s m) b);
-}
-
--- what its tests leave of it
+-- what the question's tests leave of its bytes
 pub record Formed (s : Sizes) (m : ℕ) (b : Bytes) : Type 0 where
-  pub sizes-good : Good s
+  pub in-order : SizesInOrder s
   pub few-points : m ≤ 8
   pub long : length b ≡ questionLength s m
   pub rising : Rising (questionAt s m b .indices)

@@ -8,14 +8,13 @@ ghost use Rattle.lists.specs.Bytes.{words};
 ghost use Rattle.lists.specs.Tests.{verdictOf, every, each};
 ghost use Rattle.tree.specs.Sets.{missing};
 ghost use Rattle.tree.specs.Clauses.{IndexSet};
-ghost use Rattle.scheme.specs.Sizes.{elements, width};
-ghost use Rattle.scheme.specs.Question.{questionLength};
+ghost use Rattle.scheme.specs.Sizes.{SizesInOrder, elements, width};
+ghost use Rattle.scheme.specs.Question.{questionLength, questionAt};
 ghost use Rattle.scheme.specs.Reply.{readReply, recordsAt, replyLength};
 ghost use Rattle.scheme.specs.Check.{replyTests, checkValues, checking};
-ghost use Rattle.scheme.proofs.Accepted.{Good};
 ghost use Rattle.commitment.specs.Shape.{sizesIn};
-ghost use Rattle.checker.specs.Posed.{posed, Posed, Read, questionAt, Formed, laterTests, checkingReply};
-ghost use Rattle.opened.specs.Rows.{rowsOf};
+ghost use Rattle.checker.specs.Posed.{posed, Posed, Read, Formed, laterTests, checkingReply};
+ghost use Rattle.lists.specs.Rows.{rowsOf};
 ghost use Rattle.checker.specs.Words.{recordElementsAt, leafDigestAt, rootAt, pointValues, valuesAt};
 use batching_test::batching_ok;
 use commitment::Questioned;
@@ -153,7 +152,7 @@ fn blank_answer() -> [u32; 320] {
 
 // The values that an accepted reply gives.
 fn fill_values(question: &[u8], s: Shape, m: usize, reply: &[u8], values: &mut [u32])
-    requires { ⌜ Good (sizesIn s) × (m ≤ 8) × (length (now question) ≡ questionLength (sizesIn s) m) × (recordsAt (sizesIn s) m ≤ length (now reply)) × (length (now values) ≡ s .w * m) ⌝ }
+    requires { ⌜ SizesInOrder (sizesIn s) × (m ≤ 8) × (length (now question) ≡ questionLength (sizesIn s) m) × (recordsAt (sizesIn s) m ≤ length (now reply)) × (length (now values) ≡ s .w * m) ⌝ }
     ensures { λ _. ⌜ now (values .exit) ≡ checkValues (questionAt (sizesIn s) m (now (question .entry))) (readReply (questionAt (sizesIn s) m (now (question .entry))) (now (reply .entry))) ⌝ }
 {
     let width = row_width(s);

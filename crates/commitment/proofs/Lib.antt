@@ -1,8 +1,6 @@
+-- Bounds of sizes and places, by which the code's sums and products fit.
+
+-- products of sizes before they are tested
 pub mod Sizes
-pub mod Snoc
-pub mod Splice
-pub mod Scan
-pub mod Read
-pub mod Answer
-pub mod Order
+-- places and lengths of sizes that are in order
 pub mod Places

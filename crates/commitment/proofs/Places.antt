@@ -8,11 +8,10 @@ use lib.ListN.{length}
 use Rattle.tree.specs.Sets.{missing}
 use Rattle.tree.specs.Clauses.{IndexSet}
 use Rattle.tree.proofs.Counts.{missing-bound}
-use Rattle.scheme.specs.Sizes.{Sizes, width, recordValues}
+use Rattle.scheme.specs.Sizes.{Sizes, SizesInOrder, width, recordValues}
 use Rattle.scheme.specs.Reply.{recordLength, answersAt, recordsAt, nodesAt}
-use Rattle.scheme.proofs.Accepted.{Good}
 
-module _ (s : Sizes) (g : Good s) where
+module _ (s : Sizes) (g : SizesInOrder s) where
   pub width-high : width s ≤ 320
   width-high = omega (arith, g .columns-high, g .ℓ-high)
 
@@ -55,7 +54,7 @@ answers-fit s m wide from n e f h =
     let g : from + 4 * (wide * m) ≡ answersAt s + 4 * (width s * m) = ap₂ (λ (a w : ℕ). a + 4 * (w * m)) f e in
     omega (arith, g)
 
-pub buffer-high : (s : Sizes) → Good s → (m : ℕ) → m ≤ 8 → s .w * m ≤ 2048
+pub buffer-high : (s : Sizes) → SizesInOrder s → (m : ℕ) → m ≤ 8 → s .w * m ≤ 2048
 buffer-high s g m h =
     let a : s .w * 1 ≤ s .w * s .ν = mul-le-mul-left (s .w) (g .ν-low) in
     mul-le-mul {n₂ = 256} {m₂ = 8} (omega (arith, a, g .columns-high)) h

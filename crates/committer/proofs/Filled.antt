@@ -13,11 +13,10 @@ use Rattle.sponge.specs.Digest.{digest}
 use Rattle.tree.specs.Sets.{treeSize}
 use Rattle.tree.specs.Tree.{tree, parts}
 use Rattle.tree.proofs.Rows.{tree-size}
-use Rattle.scheme.specs.Sizes.{Sizes, leaves, recordValues}
+use Rattle.scheme.specs.Sizes.{Sizes, SizesInOrder, leaves, recordValues}
 use Rattle.scheme.specs.Layers.{Lent, lentOf, extended}
 use Rattle.scheme.specs.Commit.{filledOk, leafValues, tableOf, leafDigests, treeOf}
-use Rattle.scheme.proofs.Accepted.{Good}
-use Rattle.scheme.proofs.Lent.{Rights, rights}
+use Rattle.scheme.proofs.Lent.{LentFacts, lent-facts}
 use Rattle.scheme.proofs.Committed.{table-length, level-length, level-sized}
 use Rattle.lent.proofs.Measures.{leaves-low}
 use Rattle.evaluations.specs.Clauses.{Evaluable}
@@ -27,10 +26,10 @@ module _ (s : Sizes) (coefficients tails masks nonces table nodes : List ℕ) (c
   abbrev l : Lent
   l = lentOf coefficients tails masks nonces
 
-  abbrev r : Rights s l
-  r = rights s l (c .right)
+  abbrev r : LentFacts s l
+  r = lent-facts s l (c .right)
 
-  abbrev g : Good s
+  abbrev g : SizesInOrder s
   g = r .sizes
 
   lengths : (length table ≡ leaves s * recordValues s) × (length nodes ≡ 32 * (2 * leaves s - 1))

@@ -11,7 +11,7 @@ use Rattle.tree.specs.Leaf.{leafString}
 use Rattle.scheme.specs.Sizes.{Sizes, leaves, recordValues, sizesOk}
 use Rattle.scheme.specs.Layers.{Lent}
 use Rattle.scheme.specs.Commit.{filledOk}
-use Rattle.scheme.specs.Honest.{Right}
+use Rattle.scheme.specs.Honest.{WellLent}
 
 -- sizes in their ranges, a whole table, a nonce for each leaf, and room for the digest of each leaf
 pub record Hashable (s : Sizes) (table nonces nodes : List ℕ) : Type 0 where
@@ -26,5 +26,5 @@ digestOf k table nonces i = digest (leafString i (bytesOf (piece k i table) ++ p
 
 -- no test of committing holds
 pub record Committable (s : Sizes) (l : Lent) (table nodes : List ℕ) : Type 0 where
-  pub right : Right s l
+  pub right : WellLent s l
   pub filled : filledOk s table nodes ≡ true

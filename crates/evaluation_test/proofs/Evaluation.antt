@@ -21,8 +21,8 @@ use Rattle.algebra.specs.Dot.{dotN, dotN-comm, dotsOf, dots-entry}
 use Rattle.algebra.specs.Numbers.{evalN, evalN-below, interpN}
 use Rattle.algebra.specs.Barycentric.{weightsN, length-weightsN, weighedN, length-weighedN, cofactorsN, inversesFrom, hasValue, run-is, value-test, cofactors-test}
 use Rattle.scheme.specs.Sizes.{leafPoint}
-use Rattle.opened.specs.Rows.{rowsOf, powersAt}
-use Rattle.opened.proofs.Rows.{row-at, length-rows}
+use Rattle.lists.specs.Rows.{rowsOf, row-at, length-rows}
+use Rattle.opened.specs.Powers.{powersAt}
 use Rattle.opened.proofs.Powers.{dot-row}
 use Rattle.evaluation_test.specs.Evaluation.{weighedRow, weighedAt, weighedAll, weighedLeaf, evaluatedAt, evaluatedLeaf}
 

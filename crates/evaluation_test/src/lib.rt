@@ -14,7 +14,7 @@ ghost use Rattle.algebra.specs.Dot.{longest};
 ghost use Rattle.algebra.specs.Table.{tableSize};
 ghost use Rattle.algebra.specs.Inverse.{invN};
 ghost use Rattle.opened.specs.Records.{recordWordsAt};
-ghost use Rattle.opened.specs.Rows.{rowsOf};
+ghost use Rattle.lists.specs.Rows.{rowsOf};
 ghost use Rattle.evaluation_test.specs.Evaluation.{weighedRow, weighedAt, weighedAll, weighedLeaf, evaluatedLeaf};
 use field::Element;
 use opened::fill_powers;
@@ -128,7 +128,7 @@ fn evaluation_walk(
     true
 }
 
-// The length of the shortest table of inverses, which is as good as none.
+// The length of the shortest table of inverses, which is as sizes-in-order as none.
 const NO_TABLE: usize = 2;
 
 // The length of the table of inverses for so many opened leaves: as far as the distances go where it pays. A place of the products of distances is taken to cost one and a half entries of it.

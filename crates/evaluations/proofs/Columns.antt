@@ -13,7 +13,7 @@ use borrow.Author.Tests.{ltb-true, ltb-false}
 use Rattle.lists.specs.Choice.{tested}
 use Rattle.lists.specs.Maps.{getD-map-in}
 use Rattle.lists.specs.Parts.{row-fits, length-piece}
-use Rattle.lists.specs.Range.{upFrom, length-upFrom, upFrom-at, upFrom-below, upFrom-distinct, at-run}
+use Rattle.lists.specs.Range.{upFrom, length-upFrom, upFrom-at, upFrom-below, upFrom-distinct, at-run, all-run}
 use Rattle.lists.specs.All.{Sized}
 use Rattle.lists.specs.Pieces.{piece, length-flatten, getD-flatten}
 use Rattle.algebra.specs.Prime.{q}
@@ -23,11 +23,11 @@ use Rattle.algebra.specs.Interp.{interp, interp-values}
 use Rattle.algebra.specs.Numbers.{evalN, of-evalN, ofs, ofs-vals, interpN, interpN-length, valuesAtN, distinct-ofs}
 use Rattle.extrapolation.specs.Lanes.{entry, Small, KeptColumns}
 use Rattle.extrapolation.specs.Extrapolated.{Through, Columns, Extrapolated}
-use Rattle.scheme.specs.Sizes.{Sizes, leaves, rows, width, recordValues, points}
+use Rattle.scheme.specs.Sizes.{Sizes, SizesInOrder, leaves, rows, width, recordValues, points}
 use Rattle.scheme.specs.Layers.{Lent, lentOf, extended, rowPolynomials, maskPolynomial}
 use Rattle.scheme.specs.Commit.{leafValues, tableOf}
-use Rattle.scheme.proofs.Accepted.{Good, leaves-high}
-use Rattle.scheme.proofs.Row.{values-at, values-append, length-values, all-run}
+use Rattle.scheme.proofs.Accepted.{leaves-high}
+use Rattle.algebra.specs.Values.{values-at, values-append, length-values}
 use Rattle.lent.specs.Rows.{CanExtend}
 use Rattle.lent.proofs.Rows.{extended-length}
 use Rattle.evaluations.specs.Values.{Lane, RowLanes, MaskLanes, rowPolynomial}
@@ -49,7 +49,7 @@ interp-entry n width row fit len t l =
     inside = omega (arith, length-upFrom n width)
 
 -- the lanes of rows are the values of their polynomials
-pub rows-through : (s : Sizes) (l : Lent) → CanExtend s (l .coefficients) (l .tails) → Good s → (lo lanes w n : ℕ) (values : List ℕ) → lo + lanes ≤ rows s → w ≡ width s → n ≡ leaves s
+pub rows-through : (s : Sizes) (l : Lent) → CanExtend s (l .coefficients) (l .tails) → SizesInOrder s → (lo lanes w n : ℕ) (values : List ℕ) → lo + lanes ≤ rows s → w ≡ width s → n ≡ leaves s
     → RowLanes s l lo lanes values → Through (λ (j : ℕ). rowPolynomial s l (lo + j)) values w n lanes
 unfolding RowLanes Lane Through interpN
 rows-through s l can g lo lanes w n values u hw hn h j b = (omega (arith, short, hw), λ t k. value t k)
@@ -107,7 +107,7 @@ masks-through masks eta w n values len h j b = (omega (arith, short), λ t k. ap
 
 -- ---- what gathering and extrapolating ask, and the columns that they leave
 
-module _ (s : Sizes) (g : Good s) (n w k : ℕ) (hn : n ≡ leaves s) (hw : w ≡ width s) (hk : k ≡ recordValues s) where
+module _ (s : Sizes) (g : SizesInOrder s) (n w k : ℕ) (hn : n ≡ leaves s) (hw : w ≡ width s) (hk : k ≡ recordValues s) where
   width-high : w ≤ 320
   width-high = omega (arith, hw, g .ℓ-high, g .columns-high)
 

@@ -15,7 +15,7 @@ use Rattle.algebra.specs.Numbers.{evalN, valuesAtN}
 use Rattle.algebra.specs.Columns.{powN}
 use Rattle.algebra.specs.Dot.{longest, dotsOf, dots-powersN}
 use Rattle.extrapolation.specs.Lanes.{entry}
-use Rattle.scheme.proofs.Row.{values-at, length-values}
+use Rattle.algebra.specs.Values.{values-at, length-values}
 use Rattle.evaluations.specs.Values.{MaskLanes}
 
 -- ---- as dot products with the powers

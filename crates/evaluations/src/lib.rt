@@ -8,10 +8,9 @@ ghost use Rattle.algebra.specs.Prime.{q};
 ghost use Rattle.algebra.specs.Numbers.{valuesAtN};
 ghost use Rattle.extrapolation.specs.Lanes.{Small, KeptLanes, KeptColumns};
 ghost use Rattle.extrapolation.specs.Extrapolated.{Columns};
-ghost use Rattle.scheme.specs.Sizes.{leaves, rows, width, recordValues};
+ghost use Rattle.scheme.specs.Sizes.{SizesInOrder, leaves, rows, width, recordValues};
 ghost use Rattle.scheme.specs.Layers.{lentOf, extended};
 ghost use Rattle.scheme.specs.Commit.{tableOf};
-ghost use Rattle.scheme.proofs.Accepted.{Good};
 ghost use Rattle.commitment.specs.Shape.{sizesIn};
 ghost use Rattle.lent.specs.Rows.{CanExtend, strided};
 ghost use Rattle.evaluations.specs.Values.{Gathered, Lane, RowLanes, MaskLanes, rowPolynomial};
@@ -152,7 +151,7 @@ fn fill_masks(
     lines: &mut [u64],
     table: &mut [u32],
 )
-    requires { ⌜ Good (sizesIn s) × (length (now masks) ≡ s .eta * width (sizesIn s)) × (width (sizesIn s) ≤ length (now weights)) × Room (width (sizesIn s)) (now values) (now lines) × (length (now table) ≡ leaves (sizesIn s) * recordValues (sizesIn s)) ⌝ }
+    requires { ⌜ SizesInOrder (sizesIn s) × (length (now masks) ≡ s .eta * width (sizesIn s)) × (width (sizesIn s) ≤ length (now weights)) × Room (width (sizesIn s)) (now values) (now lines) × (length (now table) ≡ leaves (sizesIn s) * recordValues (sizesIn s)) ⌝ }
     ensures { λ _. ⌜ KeptColumns (recordValues (sizesIn s)) (rows (sizesIn s)) (s .eta) (now (table .entry)) (now (table .exit)) × Columns (λ (k : ℕ). piece (width (sizesIn s)) k (now (masks .entry))) (s .eta) (leaves (sizesIn s)) (rows (sizesIn s)) (recordValues (sizesIn s)) (now (table .exit)) ⌝ }
 {
     let n = leaf_count(s.h);

@@ -10,12 +10,12 @@ use lib.Pow.{pow-pos}
 use lib.ListN.{length}
 use Rattle.lists.specs.Choice.{and-right}
 use Rattle.lists.specs.Tests.{every}
-use Rattle.scheme.specs.Sizes.{Sizes, columns, leaves, width, recordValues, elements}
+use Rattle.scheme.specs.Sizes.{Sizes, SizesInOrder, columns, leaves, width, recordValues, elements}
 use Rattle.scheme.specs.Layers.{Lent}
 use Rattle.scheme.specs.Commit.{lentOk, filledOk}
-use Rattle.scheme.proofs.Accepted.{Good, leaves-high}
+use Rattle.scheme.proofs.Accepted.{leaves-high}
 
-module _ (s : Sizes) (g : Good s) where
+module _ (s : Sizes) (g : SizesInOrder s) where
   pub coefficients-bound : s .μ * columns s ≤ 16384
   coefficients-bound = mul-le-mul {n₂ = 64} {m₂ = 256} (g .μ-high) (g .columns-high)
 

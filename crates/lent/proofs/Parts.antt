@@ -8,9 +8,8 @@ use native.Mathlib.Omega.{arith}
 use lib.ListN.{length, take, drop, length-map, length-append, length-drop}
 use lib.Seq.{take-at, drop-at, drop-drop, length-take-le}
 use borrow.Rule.Slice.PartMut.{putMid}
-use Rattle.lists.specs.Range.{upFrom, length-upFrom}
+use Rattle.lists.specs.Range.{upFrom, length-upFrom, all-run}
 use Rattle.lists.specs.Pieces.{length-flatten}
-use Rattle.scheme.proofs.Row.{all-run}
 use Rattle.lists.specs.Parts.{row-fits}
 
 -- ---- many parts of k places each: f 0, f 1, .. fill the first i, and the others are as they were

@@ -133,3 +133,9 @@ words-of-piece (suc n) x =
     ap₂ (λ (a : ℕ) (t : List ℕ). a ∷ t)
     (ap fromBytes (take-take 4 (4 * suc n) x (omega arith)))
     (ap (λ (y : Bytes). map fromBytes (pieces 4 n y)) (ap (λ (k : ℕ). drop 4 (take k x)) e ∙ drop-take 4 (4 * n) x) ∙ words-of-piece n (drop 4 x))
+
+-- of lists one after the other
+pub bytesOf-flatten : (f : ℕ → List ℕ) (xs : List ℕ) → flatten (map (λ x. bytesOf (f x)) xs) ≡ bytesOf (flatten (map f xs))
+unfolding flatten
+bytesOf-flatten f [] = refl
+bytesOf-flatten f (x ∷ xs) = ap (λ (t : Bytes). bytesOf (f x) ++ t) (bytesOf-flatten f xs) ∙ sym (bytesOf-append (f x) (flatten (map f xs)))

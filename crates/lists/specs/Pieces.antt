@@ -1,12 +1,13 @@
 -- A list cut into pieces of one length, and such pieces put together.
 use mathlib.Core.Path.{_≡_, refl, sym, ap, ap₂, _∙_, subst}
-use mathlib.Core.List.{List, [], _∷_, _++_, flatten, append-assoc}
+use mathlib.Core.List.{List, [], _∷_, _++_, flatten, append-assoc, map}
 use Prim.Native.Nat.{ℕ, zero, suc, _+_, _-_, _*_, _≤_, _<_}
 use native.Mathlib.Nat.{not-suc-le-zero, le-of-suc-le-suc, mul-suc, mul-zero, sub-zero, zero-sub, suc-sub-suc, suc-ne-zero, suc-inj, zero-add, suc-add}
 use native.Mathlib.Omega.{arith}
 use lib.ListN.{length, getD, take, drop, length-append, length-drop, take-append-drop, List·getD-append}
 use lib.Seq.{take-at, drop-at, drop-drop, take-nil, length-take-le, getD-append-add, take-append-le, drop-append-le}
 use Rattle.lists.specs.All.{Sized}
+use Rattle.lists.specs.Range.{upFrom}
 
 -- the first n pieces of k elements each, one after the other
 unfoldable pub pieces : {A : Type 0} → ℕ → ℕ → List A → List (List A)
@@ -114,3 +115,12 @@ pub drop-take : {A : Type 0} (a b : ℕ) (y : List A) → drop a (take (a + b) y
 drop-take zero b y = ap (λ (k : ℕ). take k y) (zero-add b)
 drop-take (suc a) b [] = ap (drop (suc a)) (take-nil (suc a + b)) ∙ sym (take-nil b)
 drop-take (suc a) b (x ∷ y) = ap (λ (k : ℕ). drop (suc a) (take k (x ∷ y))) (suc-add a b) ∙ drop-take a b y
+
+-- pieces one by one
+pub pieces-run : (k a n : ℕ) (x : List ℕ) → map (λ j. piece k j x) (upFrom a n) ≡ pieces k n (drop (k * a) x)
+unfolding upFrom pieces
+pieces-run k a zero x = refl
+pieces-run k a (suc n) x =
+    let e : k * suc a ≡ k * a + k = omega arith in
+    ap (λ (t : List (List ℕ)). piece k a x ∷ t)
+    (pieces-run k (suc a) n x ∙ ap (λ (m : ℕ). pieces k n (drop m x)) e ∙ ap (pieces k n) (sym (drop-drop k (k * a) x)))

@@ -1,12 +1,12 @@
 -- Consecutive numbers.
-use mathlib.Core.Path.{_≡_, refl, sym, ap, _∙_}
+use mathlib.Core.Path.{_≡_, refl, sym, ap, _∙_, subst}
 use mathlib.Core.Logic.{⊎-elim}
 use mathlib.Core.List.{List, [], _∷_, _++_, map, List·Memᴰ as Mem, List·Memᴰ·head as here, List·Memᴰ·tail as there, List·Memᴰ·not-nil as not-nil}
 use Prim.Native.Nat.{ℕ, zero, suc, _+_, _≤_, _<_}
-use native.Mathlib.Nat.{eq-or-lt-of-le, not-suc-le-zero, le-of-suc-le-suc, add-zero, add-suc, suc-add}
+use native.Mathlib.Nat.{eq-or-lt-of-le, not-suc-le-zero, le-of-suc-le-suc, add-zero, add-suc, suc-add, zero-add}
 use native.Mathlib.Omega.{arith}
 use lib.ListN.{length, getD, take}
-use Rattle.lists.specs.All.{Below, Distinct}
+use Rattle.lists.specs.All.{Below, Distinct, All}
 use Rattle.lists.specs.Rising.{Rising, rising-distinct}
 
 -- n numbers from a on
@@ -66,3 +66,20 @@ upFrom-rising a (suc n) = (λ y m. upFrom-of (suc a) n y m .0, upFrom-rising (su
 
 pub upFrom-distinct : (a n : ℕ) → Distinct (upFrom a n)
 upFrom-distinct a n = rising-distinct (upFrom a n) (upFrom-rising a n)
+
+-- ---- a function along a range
+
+pub all-run : {A : Type 0} (P : A → Type 0) (f : ℕ → A) (n : ℕ) → ((j : ℕ) → j < n → P (f j)) → All P (map f (upFrom 0 n))
+all-run P f n h = go (upFrom 0 n) (λ j m. h j (subst (λ (k : ℕ). j < k) (zero-add n) (upFrom-of 0 n j m .1)))
+  where
+    go : (xs : List ℕ) → ((j : ℕ) → Mem j xs → P (f j)) → All P (map f xs)
+    go [] k = tt
+    go (x ∷ xs) k = (k x (here refl), go xs (λ j m. k j (there m)))
+
+pub run-parts : (f : ℕ → ℕ) (a n m : ℕ) → map f (upFrom a (n + m)) ≡ map f (upFrom a n) ++ map f (upFrom (a + n) m)
+unfolding upFrom
+run-parts f a zero m = rw (zero-add, add-zero)
+run-parts f a (suc n) m =
+    ap (λ (k : ℕ). map f (upFrom a k)) (suc-add n m)
+    ∙ ap (λ (r : List ℕ). f a ∷ r)
+    (run-parts f (suc a) n m ∙ ap (λ (k : ℕ). map f (upFrom (suc a) n) ++ map f (upFrom k m)) (suc-add a n ∙ sym (add-suc a n)))

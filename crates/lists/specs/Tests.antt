@@ -10,7 +10,7 @@ use native.Mathlib.Omega.{arith}
 use lib.Dec.{leb, eqb}
 use lib.ListN.{length, getD}
 use borrow.Author.Tests.{eqb-true, eq-eqb, leb-true}
-use Rattle.lists.specs.Choice.{pick, and-true, both-true, and-false, iff}
+use Rattle.lists.specs.Choice.{pick, and-true, both-true, and-false, iff, and-assoc, and-right}
 use Rattle.lists.specs.All.{All, all-at}
 
 -- a test with the number that is returned when it holds
@@ -264,3 +264,38 @@ within-low low high n e = leb-true low n (and-true (leb low n) (leb n high) e .0
 
 pub within-high : (low high n : ℕ) → within low high n ≡ true → n ≤ high
 within-high low high n e = leb-true n high (and-true (leb low n) (leb n high) e .1)
+
+-- ---- tests in a row
+
+pub all-join : (t : ℕ → Bool) (xs ys : List ℕ) → all t (xs ++ ys) ≡ all t xs && all t ys
+unfolding all
+all-join t [] ys = refl
+all-join t (x ∷ xs) ys = ap (λ (b : Bool). t x && b) (all-join t xs ys) ∙ sym (and-assoc (t x) (all t xs) (all t ys))
+
+-- the last of them, and one before others
+pub every-one : (a : Bool) → every (a ∷ []) ≡ a
+unfolding every
+every-one a = and-right a
+
+pub every-before : (a r p : Bool) (bs : List Bool) → p ≡ every bs → r ≡ a && p → r ≡ every (a ∷ bs)
+unfolding every
+every-before a r p bs e f = f ∙ ap (λ (x : Bool). a && x) e
+
+pub every-two : (a b r : Bool) → r ≡ a && b → r ≡ every (a ∷ b ∷ [])
+every-two a b r e = every-before a r b (b ∷ []) (sym (every-one b)) e
+
+pub every-three : (a b c r p : Bool) → p ≡ b && c → r ≡ a && p → r ≡ every (a ∷ b ∷ c ∷ [])
+every-three a b c r p e f = every-before a r p (b ∷ c ∷ []) (every-two b c p e) f
+
+-- three tests, one after the other
+pub every-first : (a b c : Bool) → a ≡ false → every (a ∷ b ∷ c ∷ []) ≡ false
+unfolding every
+every-first a b c e = ap (λ (t : Bool). t && (b && (c && true))) e
+
+pub every-second : (a b c : Bool) → a ≡ true → b ≡ false → every (a ∷ b ∷ c ∷ []) ≡ false
+unfolding every
+every-second a b c e f = ap₂ (λ (t u : Bool). t && (u && (c && true))) e f
+
+pub every-last : (a b c : Bool) → a ≡ true → b ≡ true → every (a ∷ b ∷ c ∷ []) ≡ c
+unfolding every
+every-last a b c e f = ap₂ (λ (t u : Bool). t && (u && (c && true))) e f ∙ and-right c

@@ -1,3 +1,4 @@
-pub mod Rows
+-- What the code reads of an opened leaf.
+
 pub mod Records
 pub mod Powers

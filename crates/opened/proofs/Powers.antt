@@ -8,8 +8,8 @@ use Rattle.lists.specs.Tabulate.{tabulate, length-from}
 use Rattle.algebra.specs.Columns.{powN}
 use Rattle.algebra.specs.Dot.{dotN, dot-powersN}
 use Rattle.algebra.specs.Numbers.{evalN}
-use Rattle.opened.specs.Rows.{rowsOf, powersAt}
-use Rattle.opened.proofs.Rows.{row-at}
+use Rattle.lists.specs.Rows.{rowsOf, row-at}
+use Rattle.opened.specs.Powers.{powersAt}
 
 pub length-powersAt : (n : ℕ) (xs : List ℕ) (a : ℕ) → length (powersAt n xs a) ≡ n
 unfolding powersAt

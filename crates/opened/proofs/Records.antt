@@ -6,7 +6,7 @@ use native.Mathlib.Omega.{arith}
 use lib.ListN.{length, take, drop}
 use Rattle.lists.specs.Bytes.{words, length-words}
 use Rattle.opened.specs.Records.{recordWordsAt}
-use Rattle.opened.proofs.Rows.{front-all}
+use Rattle.lists.specs.Rows.{front-all}
 
 pub record-read : (at size n : ℕ) (reply d : List ℕ) (a : ℕ) (t : List ℕ) → length d ≡ n
     → t ≡ words (length d) (drop 0 (take (at + size * a + size - (at + size * a)) (drop (at + size * a) reply))) ++ drop (length d) d → t ≡ recordWordsAt at size n reply a

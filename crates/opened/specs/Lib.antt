@@ -1,2 +1,6 @@
+-- What is read of an opened leaf.
+
+-- its record in the reply
 pub mod Records
-pub mod Rows
+-- powers of points
+pub mod Powers

@@ -6,7 +6,8 @@ ghost use lib.ListN.{length, getD, drop};
 ghost use Rattle.lists.specs.All.{Below};
 ghost use Rattle.scheme.specs.Sizes.{leafPoint};
 ghost use Rattle.opened.specs.Records.{recordWordsAt};
-ghost use Rattle.opened.specs.Rows.{rowsOf, powersAt};
+ghost use Rattle.lists.specs.Rows.{rowsOf};
+ghost use Rattle.opened.specs.Powers.{powersAt};
 use field::Element;
 use tree::LeafIndex;
 

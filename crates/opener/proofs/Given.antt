@@ -16,11 +16,11 @@ use Rattle.lists.specs.Tests.{every-true, true-every}
 use Rattle.tree.specs.Clauses.{IndexSet}
 use Rattle.scheme.specs.Sizes.{Sizes, leaves, sizesOk}
 use Rattle.scheme.specs.Layers.{Lent}
-use Rattle.scheme.specs.Question.{Question, readQuestion, questionVerdict, questionLength}
+use Rattle.scheme.specs.Question.{Question, readQuestion, questionVerdict, questionLength, questionAt}
 use Rattle.scheme.specs.Reply.{replyLength}
 use Rattle.scheme.specs.Commit.{lentOk, filledOk, lentElements}
 use Rattle.scheme.specs.Open.{lengthsOk, openVerdict}
-use Rattle.scheme.proofs.Accepted.{good, well-formed}
+use Rattle.scheme.proofs.Accepted.{sizes-in-order, well-formed}
 use Rattle.scheme.proofs.Opening.{lent-passed}
 use Rattle.commitment.specs.Shape.{sizesIn}
 use Rattle.commitment.specs.Questioned.{questioned}
@@ -28,7 +28,7 @@ use Rattle.commitment.specs.declared.Shape.{Shape}
 use Rattle.commitment.specs.declared.Questioned.the-variants.{WellFormed}
 use Rattle.commitment.proofs.Answer.{well-asked, taken, asked-indices}
 use Rattle.commitment.proofs.Places.{nodes-high, missing-high}
-use Rattle.opener.specs.Ready.{questionOf, Ready}
+use Rattle.opener.specs.Ready.{Ready}
 
 -- ---- the question
 
@@ -51,14 +51,14 @@ module _ (b : Bytes) (s : Shape) (m : ℕ) (e : questioned b ≡ WellFormed s m)
   pub long : length b ≡ questionLength (sizesIn s) m
   long = taken b s m e .long
 
-  pub question-is : questionOf b (sizesIn s) m ≡ readQuestion b
+  pub question-is : questionAt (sizesIn s) m b ≡ readQuestion b
   unfolding readQuestion
-  question-is = ap₂ (questionOf b) sizes-are points-are
+  question-is = ap₂ (λ (t : Sizes) (k : ℕ). questionAt t k b) sizes-are points-are
 
-  pub rising : Rising (questionOf b (sizesIn s) m .indices)
+  pub rising : Rising (questionAt (sizesIn s) m b .indices)
   rising = subst (λ (u : Question). Rising (u .indices)) (sym question-is) (well-formed b asked .indices-rising)
 
-  pub leaf : Below (leaves (sizesIn s)) (questionOf b (sizesIn s) m .indices)
+  pub leaf : Below (leaves (sizesIn s)) (questionAt (sizesIn s) m b .indices)
   leaf = subst (λ (u : Question). Below (leaves (u .sizes)) (u .indices)) (sym question-is) (well-formed b asked .indices-below)
 
 pub root-room : (s : Sizes) (table : List ℕ) (nodes : Bytes) → filledOk s table nodes ≡ true → 32 ≤ length nodes
@@ -70,17 +70,17 @@ root-room s table nodes e =
 
 -- ---- all tests have passed
 
-pub reply-small : (b : Bytes) (s : Shape) (m : ℕ) → questioned b ≡ WellFormed s m → replyLength (questionOf b (sizesIn s) m) ≤ 65536
+pub reply-small : (b : Bytes) (s : Shape) (m : ℕ) → questioned b ≡ WellFormed s m → replyLength (questionAt (sizesIn s) m b) ≤ 65536
 reply-small b s m e =
-    let i : IndexSet (s .h) (questionOf b (sizesIn s) m .indices) = subst (λ (u : Question). IndexSet (s .h) (u .indices)) (sym (question-is b s m e)) (asked-indices b s m e .1) in
-    omega (arith, nodes-high (sizesIn s) (good (sizesIn s) (sizes-ok b s m e)) m (points-few b s m e), missing-high (s .h) (questionOf b (sizesIn s) m .indices) i)
+    let i : IndexSet (s .h) (questionAt (sizesIn s) m b .indices) = subst (λ (u : Question). IndexSet (s .h) (u .indices)) (sym (question-is b s m e)) (asked-indices b s m e .1) in
+    omega (arith, nodes-high (sizesIn s) (sizes-in-order (sizesIn s) (sizes-ok b s m e)) m (points-few b s m e), missing-high (s .h) (questionAt (sizesIn s) m b .indices) i)
 
 module _ (b : Bytes) (l : Lent) (table : List ℕ) (nodes reply : Bytes) (s : Shape) (m : ℕ) (e : questioned b ≡ WellFormed s m) (z : openVerdict b l table nodes reply ≡ 0) where
   -- the lengths, for the sizes that the code holds
-  lengths : All (λ (t : Bool). t ≡ true) (lentOk (sizesIn s) l ∷ filledOk (sizesIn s) table nodes ∷ eqb (length reply) (replyLength (questionOf b (sizesIn s) m)) ∷ [])
+  lengths : All (λ (t : Bool). t ≡ true) (lentOk (sizesIn s) l ∷ filledOk (sizesIn s) table nodes ∷ eqb (length reply) (replyLength (questionAt (sizesIn s) m b)) ∷ [])
   lengths = every-true _ (ap (λ (u : Question). lengthsOk u l table nodes reply) (question-is b s m e) ∙ lent-passed b l table nodes reply z .0)
 
-  pub exact : length reply ≡ replyLength (questionOf b (sizesIn s) m)
+  pub exact : length reply ≡ replyLength (questionAt (sizesIn s) m b)
   exact = eqb-true _ _ (lengths .1 .1 .0)
 
   pub ready : Ready b (sizesIn s) m l table nodes reply

@@ -14,14 +14,12 @@ use Rattle.lists.specs.Parts.{put-tail}
 use Rattle.scheme.specs.Sizes.{Sizes, leaves}
 use Rattle.scheme.specs.Reply.{recordLength, recordsAt, nodesAt}
 use Rattle.scheme.specs.Commit.{leafRecord}
-use Rattle.commitment.proofs.Splice.{spliced-more}
-use Rattle.answers.specs.Answers.{written}
+use Rattle.lists.specs.Spliced.{spliced-more, all-length, spliced}
 use Rattle.opener.specs.Parts.{CanRecord, CanList}
 use Rattle.opener.proofs.Records.{record-sized}
-use Rattle.answers.proofs.Writing.{all-length}
 
 -- bytes written from n on, through the part of the buffer that begins there
-through-part : (n k : ℕ) (x o out : Bytes) → out ≡ x ++ drop k (take (length o - n) (drop n o)) → putMid n (length o - n) o out ≡ written n k x o
+through-part : (n k : ℕ) (x o out : Bytes) → out ≡ x ++ drop k (take (length o - n) (drop n o)) → putMid n (length o - n) o out ≡ spliced n k x o
 through-part n k x o out e =
     put-tail n o out
     ∙ ap (λ (t : Bytes). take n o ++ t)
@@ -51,14 +49,14 @@ module _ (s : Sizes) (m : ℕ) (table : List ℕ) (nonces : Bytes) (indices : Li
   )
 
   pub leaves-are : (r n c : ℕ) (x o₁ out : Bytes) → r ≡ recordsAt s m → n ≡ nodesAt s m → c ≡ length (missing 2 (s .h) indices)
-      → o₁ ≡ written r (recordLength s * length indices) records o → out ≡ x ++ drop (32 * c) (take (length o₁ - n) (drop n o₁))
+      → o₁ ≡ spliced r (recordLength s * length indices) records o → out ≡ x ++ drop (32 * c) (take (length o₁ - n) (drop n o₁))
       → putMid n (length o₁ - n) o₁ out ≡ take (recordsAt s m) o ++ ((records ++ x) ++ drop (n + 32 * c) o)
   leaves-are r n c x o₁ out er en ec e₁ e =
       let k : ℕ = recordLength s * length indices in
       let a : n ≡ recordsAt s m + k = en ∙ sym nodes-are in
       let z : recordsAt s m + (k + 32 * c) ≡ n + 32 * c = omega (arith, a) in
       through-part n (32 * c) x o₁ out e
-      ∙ ap₂ (λ (j : ℕ) (y : Bytes). written j (32 * c) x y) a (e₁ ∙ ap (λ (j : ℕ). written j k records o) er)
+      ∙ ap₂ (λ (j : ℕ) (y : Bytes). spliced j (32 * c) x y) a (e₁ ∙ ap (λ (j : ℕ). spliced j k records o) er)
       ∙ spliced-more (recordsAt s m) k records o
       (all-length (leafRecord s table nonces) indices (recordLength s) (recordsAt s m) o (record-sized s table nonces indices (can .recorded)) records-room)
       records-room (32 * c) x

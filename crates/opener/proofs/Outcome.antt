@@ -7,7 +7,7 @@ use lib.ListN.{drop}
 use lib.Seq.{drop-length}
 use Rattle.lists.specs.Bytes.{Bytes}
 use Rattle.scheme.specs.Layers.{Lent}
-use Rattle.scheme.specs.Question.{Question}
+use Rattle.scheme.specs.Question.{Question, questionAt}
 use Rattle.scheme.specs.Reply.{replyLength}
 use Rattle.scheme.specs.Open.{replyOf, openVerdict, opening}
 use Rattle.commitment.specs.Shape.{sizesIn}
@@ -15,7 +15,7 @@ use Rattle.commitment.specs.Questioned.{questioned}
 use Rattle.commitment.specs.declared.Shape.{Shape}
 use Rattle.commitment.specs.declared.Questioned.the-variants.{WellFormed, Refused}
 use Rattle.commitment.proofs.Answer.{refused}
-use Rattle.opener.specs.Ready.{questionOf, Ready}
+use Rattle.opener.specs.Ready.{Ready}
 use Rattle.scheme.proofs.Opening.{asked-verdict, opening-refused, opening-done}
 use Rattle.opener.proofs.Given.{question-is, exact, ready}
 
@@ -36,10 +36,10 @@ module _ (b : Bytes) (l : Lent) (table : List ℕ) (nodes reply : Bytes) where
     is-ready = ready b l table nodes reply s m asked passed
 
     -- nothing is refused: the reply takes the whole buffer
-    pub replied : (n : ℕ) (out : Bytes) → n ≡ replyLength (questionOf b (sizesIn s) m) → out ≡ replyOf (questionOf b (sizesIn s) m) l table nodes ++ drop n reply
+    pub replied : (n : ℕ) (out : Bytes) → n ≡ replyLength (questionAt (sizesIn s) m b) → out ≡ replyOf (questionAt (sizesIn s) m b) l table nodes ++ drop n reply
         → (0, n, out) ≡ opening b l table nodes reply
     replied n out k o =
-        let w : Question = questionOf b (sizesIn s) m in
+        let w : Question = questionAt (sizesIn s) m b in
         let none : drop n reply ≡ [] = ap (λ (j : ℕ). drop j reply) (k ∙ sym (exact b l table nodes reply s m asked passed)) ∙ drop-length reply in
         ap₂ (λ (x : ℕ) (y : Bytes). (0, x, y)) k (o ∙ ap (λ (y : Bytes). replyOf w l table nodes ++ y) none ∙ append-nil (replyOf w l table nodes))
         ∙ ap (λ (v : Question). (0, replyLength v, replyOf v l table nodes)) (question-is b s m asked)

@@ -12,18 +12,17 @@ use Rattle.scheme.specs.Reply.{recordLength}
 use Rattle.scheme.specs.Commit.{leafRecord}
 use Rattle.lists.specs.Parts.{length-piece}
 use Rattle.scheme.proofs.Parts.{values-room as one-values-room, nonce-room as one-nonce-room, record-sized as one-sized}
-use Rattle.answers.specs.Answers.{written}
 use Rattle.opener.specs.Parts.{CanRecord}
-use Rattle.commitment.proofs.Splice.{spliced-more}
+use Rattle.lists.specs.Spliced.{spliced-more, spliced}
 
 -- ---- a record written
 
 -- the values of a leaf, then its nonce
 pub put-record : (s : Sizes) (table : List ℕ) (nonces o o₁ o₂ : Bytes) (i at : ℕ)
     → recordValues s * i + recordValues s ≤ length table → 32 * i + 32 ≤ length nonces → at + recordLength s ≤ length o
-    → o₁ ≡ (let w : List ℕ = take (recordValues s * i + recordValues s - recordValues s * i) (drop (recordValues s * i) table) in written at (4 * length w) (bytesOf w) o)
-    → o₂ ≡ (let v : Bytes = take (32 * i + 32 - 32 * i) (drop (32 * i) nonces) in written (at + 4 * recordValues s) (length v) v o₁)
-    → o₂ ≡ written at (recordLength s) (leafRecord s table nonces i) o
+    → o₁ ≡ (let w : List ℕ = take (recordValues s * i + recordValues s - recordValues s * i) (drop (recordValues s * i) table) in spliced at (4 * length w) (bytesOf w) o)
+    → o₂ ≡ (let v : Bytes = take (32 * i + 32 - 32 * i) (drop (32 * i) nonces) in spliced (at + 4 * recordValues s) (length v) v o₁)
+    → o₂ ≡ spliced at (recordLength s) (leafRecord s table nonces i) o
 unfolding leafRecord
 put-record s table nonces o o₁ o₂ i at lt ln lo e₁ e₂ =
     let n : ℕ = recordValues s in
@@ -34,11 +33,11 @@ put-record s table nonces o o₁ o₂ i at lt ln lo e₁ e₂ =
     let lw : length w ≡ n = length-piece n i table lt in
     let lv : length v ≡ 32 = length-piece 32 i nonces ln in
     let lb : length (bytesOf w) ≡ 4 * n = length-bytesOf w ∙ ap (λ (k : ℕ). 4 * k) lw in
-    let f₁ : o₁ ≡ written at (4 * n) (bytesOf w) o =
-    e₁ ∙ ap (λ (k : ℕ). written at (4 * length (take k (drop (n * i) table))) (bytesOf (take k (drop (n * i) table))) o) kw
-    ∙ ap (λ (k : ℕ). written at (4 * k) (bytesOf w) o) lw in
-    e₂ ∙ ap (λ (k : ℕ). written (at + 4 * n) (length (take k (drop (32 * i) nonces))) (take k (drop (32 * i) nonces)) o₁) kv
-    ∙ ap₂ (λ (k : ℕ) (b : Bytes). written (at + 4 * n) k v b) lv f₁
+    let f₁ : o₁ ≡ spliced at (4 * n) (bytesOf w) o =
+    e₁ ∙ ap (λ (k : ℕ). spliced at (4 * length (take k (drop (n * i) table))) (bytesOf (take k (drop (n * i) table))) o) kw
+    ∙ ap (λ (k : ℕ). spliced at (4 * k) (bytesOf w) o) lw in
+    e₂ ∙ ap (λ (k : ℕ). spliced (at + 4 * n) (length (take k (drop (32 * i) nonces))) (take k (drop (32 * i) nonces)) o₁) kv
+    ∙ ap₂ (λ (k : ℕ) (b : Bytes). spliced (at + 4 * n) k v b) lv f₁
     ∙ spliced-more at (4 * n) (bytesOf w) o lb (omega arith) 32 v
 
 -- ---- the records of some leaves

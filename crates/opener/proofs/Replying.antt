@@ -9,29 +9,29 @@ use Rattle.lists.specs.Bytes.{Bytes, bytesOf}
 use Rattle.lists.specs.Pieces.{pieces, length-pieces}
 use Rattle.tree.specs.Sets.{missing}
 use Rattle.tree.specs.Tree.{allParts, opened}
-use Rattle.scheme.specs.Sizes.{Sizes, leaves}
+use Rattle.scheme.specs.Sizes.{Sizes, SizesInOrder, leaves}
 use Rattle.scheme.specs.Layers.{Lent, lentOf, extendedRows}
-use Rattle.scheme.specs.Question.{Question, indicesAt}
+use Rattle.scheme.specs.Question.{Question, indicesAt, questionAt}
 use Rattle.scheme.specs.Reply.{recordsAt, nodesAt, replyLength}
 use Rattle.scheme.specs.Commit.{leafRecord}
 use Rattle.scheme.specs.Open.{openedBatching, openedAnswers, replyOf}
-use Rattle.scheme.proofs.Accepted.{Good, good}
-use Rattle.scheme.proofs.Lent.{Rights, rights}
+use Rattle.scheme.proofs.Accepted.{sizes-in-order}
+use Rattle.scheme.proofs.Lent.{LentFacts, lent-facts}
 use Rattle.scheme.proofs.Parts.{filled-lengths, tree-length}
 use Rattle.lent.proofs.Rows.{rows-lent}
 use Rattle.opener.specs.Parts.{CanList, CanSum, sums}
-use Rattle.opener.specs.Ready.{questionOf, Ready}
+use Rattle.opener.specs.Ready.{Ready}
 use Rattle.opener.proofs.Sums.{sums-length, sums-opened}
 
 module _ (question : Bytes) (t : Sizes) (m : ℕ) (l : Lent) (table : List ℕ) (nodes reply : Bytes) (ready : Ready question t m l table nodes reply) where
   abbrev u : Question
-  u = questionOf question t m
+  u = questionAt t m question
 
-  g : Good t
-  g = good t (ready .sizes)
+  g : SizesInOrder t
+  g = sizes-in-order t (ready .sizes)
 
-  r : Rights t l
-  r = rights t l (record { sizes = ready .sizes; lengths = ready .lengths; elements = ready .elements })
+  r : LentFacts t l
+  r = lent-facts t l (record { sizes = ready .sizes; lengths = ready .lengths; elements = ready .elements })
 
   -- ---- the answers
 

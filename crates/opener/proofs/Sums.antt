@@ -10,17 +10,16 @@ use Rattle.lists.specs.Bytes.{Bytes, words, bytesOf, length-bytesOf, length-wor
 use Rattle.lists.specs.Pieces.{length-flatten}
 use Rattle.lists.specs.Range.{upFrom, length-upFrom}
 use Rattle.algebra.specs.Pairs.{pointsEnd}
-use Rattle.scheme.specs.Sizes.{Sizes, leaves, width}
+use Rattle.scheme.specs.Sizes.{Sizes, SizesInOrder, leaves, width}
 use Rattle.scheme.specs.Layers.{Lent, lentOf, extendedRows}
-use Rattle.scheme.specs.Question.{Question, challengesAt, pointsAt}
+use Rattle.scheme.specs.Question.{Question, challengesAt, pointsAt, questionAt}
 use Rattle.scheme.specs.Reply.{recordsAt}
 use Rattle.scheme.specs.Open.{openedBatching, openedAnswers}
-use Rattle.scheme.proofs.Accepted.{Good, good, leaves-high}
-use Rattle.scheme.proofs.Row.{combination-length}
-use Rattle.commitment.proofs.Splice.{spliced-more}
-use Rattle.answers.specs.Answers.{CanCombine, batchingAt, answerAt, written}
+use Rattle.scheme.proofs.Accepted.{sizes-in-order, leaves-high}
+use Rattle.scheme.proofs.HonestAnswers.{combination-length}
+use Rattle.lists.specs.Spliced.{spliced-more, spliced}
+use Rattle.answers.specs.Answers.{CanCombine, batchingAt, answerAt}
 use Rattle.opener.specs.Parts.{CanSum, sums}
-use Rattle.opener.specs.Ready.{questionOf}
 use Rattle.commitment.proofs.Places.{width-high}
 
 answers-length : (f : ℕ → List ℕ) (xs : List ℕ) (n : ℕ) → ((x : ℕ) → length (f x) ≡ n) → length (bytesOf (flatten (map f xs))) ≡ 4 * n * length xs
@@ -30,10 +29,10 @@ answers-length f xs n sized =
     ∙ omega arith
 
 -- two parts, the first from the start on
-pub two-parts : (a b : ℕ) (x y o o₁ o₂ : Bytes) → length x ≡ a → a + b ≤ length o → o₁ ≡ written 0 a x o → o₂ ≡ written a b y o₁ → o₂ ≡ (x ++ y) ++ drop (a + b) o
+pub two-parts : (a b : ℕ) (x y o o₁ o₂ : Bytes) → length x ≡ a → a + b ≤ length o → o₁ ≡ spliced 0 a x o → o₂ ≡ spliced a b y o₁ → o₂ ≡ (x ++ y) ++ drop (a + b) o
 two-parts a b x y o o₁ o₂ e l h₁ h₂ =
     h₂
-    ∙ ap₂ (λ (k : ℕ) (z : Bytes). written k b y z) (sym (zero-add a)) h₁
+    ∙ ap₂ (λ (k : ℕ) (z : Bytes). spliced k b y z) (sym (zero-add a)) h₁
     ∙ spliced-more 0 a x o e (omega arith) b y
     ∙ ap (λ (k : ℕ). (x ++ y) ++ drop k o) (zero-add (a + b))
 
@@ -41,8 +40,8 @@ module _ (t : Sizes) (m : ℕ) (question : Bytes) (coefficients tails masks : Li
   abbrev es : List (List ℕ)
   es = extendedRows t (lentOf coefficients tails [] [])
 
-  g : Good t
-  g = good t (can .combine .extend .sizes)
+  g : SizesInOrder t
+  g = sizes-in-order t (can .combine .extend .sizes)
 
   pub batchings-ask : (n first : ℕ) → n ≡ width t → first ≡ leaves t
       → CanCombine t coefficients tails × (n ≡ width t) × (first + n ≤ pointsEnd) × (length masks ≡ t .η * n) × (challengesAt + 4 * t .η ≤ length question) × (0 + 4 * n * t .η ≤ length o)
@@ -59,9 +58,9 @@ module _ (t : Sizes) (m : ℕ) (question : Bytes) (coefficients tails masks : Li
   -- what the two loops leave
   abbrev Left : ℕ → ℕ → Bytes → Bytes → Type 0
   Left n first o₁ o₂ =
-      (o₁ ≡ written 0 (4 * n * t .η) (bytesOf (flatten (map (batchingAt first n es masks (words (t .η) (drop 46 question))) (upFrom 0 (t .η))))) o)
-      → (o₂ ≡ written (4 * n * t .η) (4 * n * m) (bytesOf (flatten (map (answerAt n es) (words m (drop (46 + 4 * t .η) question))))) o₁)
-      → o₂ ≡ sums (questionOf question t m) es masks ++ drop (recordsAt t m) o
+      (o₁ ≡ spliced 0 (4 * n * t .η) (bytesOf (flatten (map (batchingAt first n es masks (words (t .η) (drop 46 question))) (upFrom 0 (t .η))))) o)
+      → (o₂ ≡ spliced (4 * n * t .η) (4 * n * m) (bytesOf (flatten (map (answerAt n es) (words m (drop (46 + 4 * t .η) question))))) o₁)
+      → o₂ ≡ sums (questionAt t m question) es masks ++ drop (recordsAt t m) o
 
   left : (o₁ o₂ : Bytes) → Left (width t) (leaves t) o₁ o₂
   unfolding sums
@@ -74,7 +73,7 @@ module _ (t : Sizes) (m : ℕ) (question : Bytes) (coefficients tails masks : Li
   pub sums-are : (n first : ℕ) (o₁ o₂ : Bytes) → n ≡ width t → first ≡ leaves t → Left n first o₁ o₂
   sums-are n first o₁ o₂ e f = subst (λ (k : ℕ). Left k first o₁ o₂) (sym e) (subst (λ (k : ℕ). Left (width t) k o₁ o₂) (sym f) (left o₁ o₂))
 
-pub sums-length : (t : Sizes) (m : ℕ) (question : Bytes) (es : List (List ℕ)) (masks : List ℕ) → length (sums (questionOf question t m) es masks) ≡ recordsAt t m
+pub sums-length : (t : Sizes) (m : ℕ) (question : Bytes) (es : List (List ℕ)) (masks : List ℕ) → length (sums (questionAt t m question) es masks) ≡ recordsAt t m
 unfolding sums
 sums-length t m question es masks =
     let f : ℕ → List ℕ = batchingAt (leaves t) (width t) es masks (words (t .η) (drop 46 question)) in

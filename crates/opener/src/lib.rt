@@ -9,7 +9,7 @@ ghost use Rattle.lists.specs.Tests.{every, same};
 ghost use Rattle.scheme.specs.Layers.{lentOf, extendedRows};
 ghost use Rattle.scheme.specs.Commit.{lentOk, filledOk, lentElements, lastDigest, leafRecord};
 ghost use Rattle.scheme.specs.Sizes.{sizesOk, elements, recordValues};
-ghost use Rattle.scheme.specs.Question.{headerLength, readQuestion};
+ghost use Rattle.scheme.specs.Question.{headerLength, readQuestion, questionAt};
 ghost use Rattle.scheme.specs.Reply.{recordLength, recordsAt, nodesAt, replyLength};
 ghost use Rattle.scheme.specs.Open.{replyOf, openVerdict, opening};
 ghost use Rattle.tree.specs.Sets.{missing};
@@ -18,10 +18,10 @@ ghost use Rattle.tree.specs.Clauses.{IndexSet};
 ghost use Rattle.commitment.specs.Shape.{sizesIn};
 ghost use Rattle.commitment.specs.Questioned.{questioned};
 ghost use Rattle.commitment.specs.declared.Questioned.the-variants.{WellFormed};
-ghost use Rattle.answers.specs.Answers.{written};
+ghost use Rattle.lists.specs.Spliced.{spliced};
 ghost use Rattle.opener.specs.Parts.{CanRecord, CanList, CanSum, sums};
 ghost use Rattle.opener.specs.Opened.{numberOf, lengthOf};
-ghost use Rattle.opener.specs.Ready.{questionOf, Ready};
+ghost use Rattle.opener.specs.Ready.{Ready};
 use answers::put_answers;
 use answers::put_batchings;
 use commitment::Questioned;
@@ -55,7 +55,7 @@ const CHALLENGES: usize = 46;
 // The values of leaf i from the table, and its nonce.
 fn put_record(s: Shape, table: &[u32], nonces: &[u8], i: usize, out: &mut [u8], at: usize)
     requires { ⌜ (recordValues (sizesIn s) * i + recordValues (sizesIn s) ≤ length (now table)) × (32 * i + 32 ≤ length (now nonces)) × (at + recordLength (sizesIn s) ≤ length (now out)) ⌝ }
-    ensures { λ _. ⌜ now (out .exit) ≡ written at (recordLength (sizesIn s)) (leafRecord (sizesIn s) (now (table .entry)) (now (nonces .entry)) i) (now (out .entry)) ⌝ }
+    ensures { λ _. ⌜ now (out .exit) ≡ spliced at (recordLength (sizesIn s)) (leafRecord (sizesIn s) (now (table .entry)) (now (nonces .entry)) i) (now (out .entry)) ⌝ }
 {
     let n = s.mu as usize + s.eta as usize;
     let from = n * i;
@@ -69,7 +69,7 @@ fn put_record(s: Shape, table: &[u32], nonces: &[u8], i: usize, out: &mut [u8], 
 
 fn put_records(s: Shape, table: &[u32], nonces: &[u8], indices: &[usize], out: &mut [u8], at: usize)
     requires { ⌜ CanRecord (sizesIn s) (now table) (now nonces) (now indices) × (at + recordLength (sizesIn s) * length (now indices) ≤ length (now out)) ⌝ }
-    ensures { λ _. ⌜ now (out .exit) ≡ written at (recordLength (sizesIn s) * length (now (indices .entry))) (flatten (map (leafRecord (sizesIn s) (now (table .entry)) (now (nonces .entry))) (now (indices .entry)))) (now (out .entry)) ⌝ }
+    ensures { λ _. ⌜ now (out .exit) ≡ spliced at (recordLength (sizesIn s) * length (now (indices .entry))) (flatten (map (leafRecord (sizesIn s) (now (table .entry)) (now (nonces .entry))) (now (indices .entry)))) (now (out .entry)) ⌝ }
 {
     let size = 4 * (s.mu as usize + s.eta as usize) + 32;
     for a in 0..indices.len() {
@@ -173,7 +173,7 @@ fn put_sums(
     reply: &mut [u8],
 )
     requires { ⌜ CanSum (now question) (sizesIn s) m (now coefficients) (now tails) (now masks) (now reply) ⌝ }
-    ensures { λ _. ⌜ now (reply .exit) ≡ sums (questionOf (now (question .entry)) (sizesIn s) m) (extendedRows (sizesIn s) (lentOf (now (coefficients .entry)) (now (tails .entry)) [] [])) (now (masks .entry)) ++ drop (recordsAt (sizesIn s) m) (now (reply .entry)) ⌝ }
+    ensures { λ _. ⌜ now (reply .exit) ≡ sums (questionAt (sizesIn s) m (now (question .entry))) (extendedRows (sizesIn s) (lentOf (now (coefficients .entry)) (now (tails .entry)) [] [])) (now (masks .entry)) ++ drop (recordsAt (sizesIn s) m) (now (reply .entry)) ⌝ }
 {
     let n = row_width(s);
     let eta = s.eta as usize;
@@ -246,9 +246,9 @@ fn write_reply(
     tree: &[u8],
     reply: &mut [u8],
 ) -> usize
-    requires { ⌜ Ready (now question) (sizesIn s) m (lentOf (now coefficients) (now tails) (now masks) (now nonces)) (now table) (now tree) (now reply) × (now indices ≡ questionOf (now question) (sizesIn s) m .indices) ⌝ }
-    ensures { λ r. ⌜ r ≡ replyLength (questionOf (now (question .entry)) (sizesIn s) m) ⌝ }
-    ensures { λ r. ⌜ now (reply .exit) ≡ replyOf (questionOf (now (question .entry)) (sizesIn s) m) (lentOf (now (coefficients .entry)) (now (tails .entry)) (now (masks .entry)) (now (nonces .entry))) (now (table .entry)) (now (tree .entry)) ++ drop r (now (reply .entry)) ⌝ }
+    requires { ⌜ Ready (now question) (sizesIn s) m (lentOf (now coefficients) (now tails) (now masks) (now nonces)) (now table) (now tree) (now reply) × (now indices ≡ questionAt (sizesIn s) m (now question) .indices) ⌝ }
+    ensures { λ r. ⌜ r ≡ replyLength (questionAt (sizesIn s) m (now (question .entry))) ⌝ }
+    ensures { λ r. ⌜ now (reply .exit) ≡ replyOf (questionAt (sizesIn s) m (now (question .entry))) (lentOf (now (coefficients .entry)) (now (tails .entry)) (now (masks .entry)) (now (nonces .entry))) (now (table .entry)) (now (tree .entry)) ++ drop r (now (reply .entry)) ⌝ }
 {
     put_sums(s, m, question, coefficients, tails, masks, reply);
     put_leaves(s, m, indices, table, nonces, tree, reply)

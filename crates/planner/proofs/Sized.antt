@@ -6,11 +6,11 @@ use lib.ListN.{length}
 use Rattle.tree.specs.Sets.{missing}
 use Rattle.tree.specs.Clauses.{IndexSet}
 use Rattle.lists.specs.Bytes.{Bytes}
-use Rattle.scheme.specs.Sizes.{Sizes}
+use Rattle.scheme.specs.Sizes.{Sizes, SizesInOrder}
 use Rattle.scheme.specs.Question.{readQuestion}
 use Rattle.scheme.specs.Reply.{nodesAt, replyLength}
 use Rattle.scheme.specs.Sizing.{sizing}
-use Rattle.scheme.proofs.Accepted.{Good, good}
+use Rattle.scheme.proofs.Accepted.{sizes-in-order}
 use Rattle.scheme.proofs.Opening.{sizing-is, sizing-refused}
 use Rattle.commitment.specs.Shape.{sizesIn}
 use Rattle.commitment.specs.Questioned.{questioned}
@@ -20,10 +20,10 @@ use Rattle.commitment.proofs.Answer.{well-asked, taken, refused, asked-indices}
 
 module _ (b : Bytes) (s : Shape) (m : ℕ) (asked : questioned b ≡ WellFormed s m) where
   -- the indices x are the question's
-  pub can-size : (x : List ℕ) → x ≡ readQuestion b .indices → Good (sizesIn s) × (m ≤ 8) × IndexSet (s .h) x
+  pub can-size : (x : List ℕ) → x ≡ readQuestion b .indices → SizesInOrder (sizesIn s) × (m ≤ 8) × IndexSet (s .h) x
   can-size x e =
       let t = taken b s m asked in
-      (good (sizesIn s) (t .sizes-ok), t .m-high, subst (IndexSet (s .h)) (sym e) (asked-indices b s m asked .1))
+      (sizes-in-order (sizesIn s) (t .sizes-ok), t .m-high, subst (IndexSet (s .h)) (sym e) (asked-indices b s m asked .1))
 
   pub length-is : (x : List ℕ) (r : ℕ) → x ≡ readQuestion b .indices → r ≡ nodesAt (sizesIn s) m + 32 * length (missing 2 (s .h) x) → r ≡ replyLength (readQuestion b)
   length-is x r e f =

@@ -19,7 +19,7 @@ use Rattle.scheme.specs.Reply.{readReply}
 use Rattle.scheme.specs.Commit.{after}
 use Rattle.scheme.specs.Check.{checkVerdict, checkValues, checking}
 use Rattle.scheme.specs.Program.{inputLimit, headerVerdict, questionPart, replyPart, valueLines, text, printed}
-use Rattle.scheme.proofs.Accepted.{good}
+use Rattle.scheme.proofs.Accepted.{sizes-in-order}
 use Rattle.scheme.proofs.Replies.{header-sizes}
 use Rattle.commitment.specs.Shape.{sizesIn}
 use Rattle.commitment.specs.Questioned.{headed}
@@ -146,7 +146,7 @@ module _ (b : Bytes) (few : length b ≤ inputLimit) (e : headerVerdict b ≡ 0)
 pub few-values : (b : Bytes) (s : Shape) (m : ℕ) → headed b ≡ WellFormed s m → (m ≤ 8) × (s .w ≤ 256) × (s .w * m ≤ 2048)
 few-values b s m e =
     let h = well-headed b s m e in
-    let g = good (sizesIn s) (h .sizes-ok) in
+    let g = sizes-in-order (sizesIn s) (h .sizes-ok) in
     let hm : m ≤ 8 = within-high 1 8 m (h .points-ok) in
     let one : s .w * 1 ≤ s .w * s .nu = mul-le-mul-left (s .w) (g .ν-low) in
     let hw : s .w ≤ 256 = omega (arith, g .columns-high) in

@@ -7,7 +7,7 @@ use native.Mathlib.Omega.{arith}
 use lib.ListN.{length, set, take, drop, length-append}
 use lib.Seq.{length-take-le}
 use Rattle.lists.specs.Bytes.{Bytes}
-use Rattle.commitment.proofs.Splice.{spliced, spliced-none, set-spliced, length-spliced, spliced-more}
+use Rattle.lists.specs.Spliced.{spliced, spliced-none, set-spliced, length-spliced, spliced-more}
 use Rattle.report.specs.Written.{written, overwritten}
 
 paired : {m n : ℕ} {x y : Bytes} → m ≡ n → x ≡ y → _≡_ {A = ℕ × Bytes} (m, x) (n, y)

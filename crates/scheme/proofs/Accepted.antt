@@ -15,8 +15,7 @@ use Rattle.algebra.specs.Prime.{q}
 use Rattle.algebra.specs.Numbers.{evalN, interpN, Elements}
 use Rattle.lists.specs.Range.{upFrom-below, upFrom-distinct, length-upFrom}
 use Rattle.lists.specs.Tests.{Test, all, passed, every-true, all-true, each-true, same-true, within-low, within-high}
-use Rattle.scheme.specs.Sizes.{elements}
-use Rattle.scheme.specs.Sizes.{Sizes, leaves, columns, width, degree, points, leafPoint, sizesOk}
+use Rattle.scheme.specs.Sizes.{Sizes, SizesInOrder, leaves, columns, width, degree, points, leafPoint, sizesOk, elements}
 use Rattle.scheme.specs.Question.{Question, readQuestion, questionTests, questionVerdict}
 use Rattle.scheme.specs.Reply.{Reply, readReply, replyLength, recordWords, rowValues, maskValue}
 use Rattle.scheme.specs.Check.{bufferTest, leafAt, recordAt, challengeOf, batchingOf, pointOf, answerOf, replyElements, replyRoot, batchingAt, evaluationAt, replyTests, checkVerdict}
@@ -24,23 +23,9 @@ use Rattle.lists.specs.Choice.{and-true}
 
 -- ---- sizes
 
-pub record Good (s : Sizes) : Type 0 where
-  pub h-low : 1 ≤ s .h
-  pub h-high : s .h ≤ 12
-  pub μ-low : 1 ≤ s .μ
-  pub μ-high : s .μ ≤ 64
-  pub ν-low : 1 ≤ s .ν
-  pub w-low : 1 ≤ s .w
-  pub columns-high : columns s ≤ 256
-  pub ℓ-low : 1 ≤ s .ℓ
-  pub ℓ-high : s .ℓ ≤ 64
-  pub η-low : 1 ≤ s .η
-  pub η-high : s .η ≤ 4
-  pub fits : width s ≤ leaves s
-
-pub good : (s : Sizes) → sizesOk s ≡ true → Good s
+pub sizes-in-order : (s : Sizes) → sizesOk s ≡ true → SizesInOrder s
 unfolding sizesOk
-good s e =
+sizes-in-order s e =
     let t = every-true _ e in
     record {
       h-low = within-low 1 12 (s .h) (t .0);
@@ -57,7 +42,7 @@ good s e =
       fits = leb-true (width s) (leaves s) (t .1 .1 .1 .1 .1 .1 .1 .0);
     }
 
-module _ (s : Sizes) (g : Good s) where
+module _ (s : Sizes) (g : SizesInOrder s) where
   pub leaves-high : leaves s ≤ 4096
   leaves-high = pow-le-pow-right (omega arith) (g .h-high)
 
@@ -84,7 +69,7 @@ indices-under n s e = all-imp (λ (i : ℕ) (t : ltb i n ≡ true). ltb-true i n
 -- ---- a question
 
 pub record Asked (u : Question) : Type 0 where
-  pub sizes-good : Good (u .sizes)
+  pub in-order : SizesInOrder (u .sizes)
   pub m-low : 1 ≤ u .m
   pub m-high : u .m ≤ 8
   pub challenges-below : Elements (u .challenges)
@@ -100,7 +85,7 @@ asked-passed b t =
     let el = elements-below _ (not-false _ (t .1 .1 .1 .1 .0)) in
     let ix = and-true _ _ (not-false _ (t .1 .1 .1 .1 .1 .0)) in
     record {
-      sizes-good = good _ (ok .0);
+      in-order = sizes-in-order _ (ok .0);
       m-low = within-low 1 8 _ (ok .1);
       m-high = within-high 1 8 _ (ok .1);
       challenges-below = all-left (λ (x : ℕ). x < q) (u .challenges) (u .evaluationPoints) el;

@@ -27,23 +27,24 @@ use Rattle.scheme.specs.Layers.{Lent, rowPolynomials, maskPolynomial}
 use Rattle.tree.specs.Leaf.{leafString}
 use Rattle.scheme.specs.Reply.{recordWords, rowValues, maskValue}
 use Rattle.scheme.specs.Commit.{lentOk, filledOk, commitTests, leafValues, tableOf, leafRecord, leafDigests, treeOf, lastDigest, commitVerdict, committing}
-use Rattle.scheme.specs.Honest.{Right}
+use Rattle.scheme.specs.Honest.{WellLent}
 use Rattle.scheme.proofs.Bound.{some-children, leaves-are}
-use Rattle.scheme.proofs.Lent.{small, Rights}
-use Rattle.scheme.proofs.Row.{length-values, values-append, values-at, values-below, P-count}
-use Rattle.scheme.proofs.Whole.{words-one, piece-flatten}
+use Rattle.scheme.proofs.Lent.{small, LentFacts}
+use Rattle.algebra.specs.Values.{length-values, values-append, values-at, values-below}
+use Rattle.scheme.proofs.HonestAnswers.{P-count}
+use Rattle.scheme.proofs.ReplyReadBack.{words-one, piece-flatten}
 
 -- committing takes what is right
-pub commits : (s : Sizes) (l : Lent) → Right s l → (table : List ℕ) (nodes : Bytes) → filledOk s table nodes ≡ true → commitVerdict s l table nodes ≡ 0
+pub commits : (s : Sizes) (l : Lent) → WellLent s l → (table : List ℕ) (nodes : Bytes) → filledOk s table nodes ≡ true → commitVerdict s l table nodes ≡ 0
 unfolding commitVerdict commitTests
 commits s l r table nodes f =
     pass _ (ap not (r .sizes), (ap not (true-every (lentOk s l ∷ filledOk s table nodes ∷ []) (r .lengths, (f, tt))), (ap not (r .elements), tt)))
 
-pub committing-is : (s : Sizes) (l : Lent) → Right s l → (table : List ℕ) (nodes : Bytes) → filledOk s table nodes ≡ true → committing s l table nodes ≡ (0, tableOf s l, treeOf s l)
+pub committing-is : (s : Sizes) (l : Lent) → WellLent s l → (table : List ℕ) (nodes : Bytes) → filledOk s table nodes ≡ true → committing s l table nodes ≡ (0, tableOf s l, treeOf s l)
 unfolding committing
 committing-is s l r table nodes f = rw (commits s l r table nodes f)
 
-module _ (s : Sizes) (l : Lent) (r : Rights s l) where
+module _ (s : Sizes) (l : Lent) (r : LentFacts s l) where
   abbrev pub table : List ℕ
   table = tableOf s l
 

@@ -27,12 +27,12 @@ use Rattle.tree.specs.Leaf.{leafString}
 use Rattle.scheme.specs.Commit.{lentOk, filledOk, lentElements, tableOf, treeOf, leafRecord, lastDigest}
 use Rattle.scheme.specs.Open.{openedBatching, openedAnswers, openedRecords, openedNodes, replyOf, openTests, openVerdict, opening}
 use Rattle.scheme.specs.Check.{leafAt, recordAt, challengeOf, batchingOf, pointOf, answerOf, replyElements, leafStrings, replyRoot, batchingAt, evaluationAt, replyTests, checkVerdict, checkValues, checking, checkingC}
-use Rattle.scheme.specs.Honest.{trueValues, Right, Replied, Completeness}
+use Rattle.scheme.specs.Honest.{trueValues, WellLent, Replied, Completeness}
 use Rattle.scheme.proofs.Accepted.{Asked, well-formed, question-numbers}
 use Rattle.scheme.proofs.Bound.{some-children, leaves-are, indices-length, points-length}
-use Rattle.scheme.proofs.Row.{evaluation-honest, batching-honest, values-honest}
-use Rattle.scheme.proofs.Whole.{FourParts, whole-length, back-batching, back-answers, back-records, back-nodes}
-use Rattle.scheme.proofs.Lent.{below-elements, Rights, rights}
+use Rattle.scheme.proofs.HonestAnswers.{evaluation-honest, batching-honest, values-honest}
+use Rattle.scheme.proofs.ReplyReadBack.{FourParts, whole-length, back-batching, back-answers, back-records, back-nodes}
+use Rattle.scheme.proofs.Lent.{below-elements, LentFacts, lent-facts}
 use Rattle.scheme.proofs.Parts.{all-in, in-tree, batching-below, answers-below, four-parts}
 use Rattle.scheme.proofs.Opening.{sizing-is}
 use Rattle.scheme.proofs.Committed.{committing-is, rec, record-below, record-rows, record-mask, level, level-length, level-at, digests, tree-parts, last-is, filled, table-below}
@@ -55,7 +55,7 @@ map-places f xs n e = ap (λ (k : ℕ). map (λ a. f (getD xs a 0)) (upFrom 0 k)
 in-run : (n p : ℕ) → Mem p (upFrom 0 n) → p < n
 in-run n p m = subst (λ (k : ℕ). p < k) (zero-add n) (upFrom-of 0 n p m .1)
 
-module _ (question : Bytes) (l : Lent) (wf : questionVerdict question ≡ 0) (right : Right (readQuestion question .sizes) l)
+module _ (question : Bytes) (l : Lent) (wf : questionVerdict question ≡ 0) (right : WellLent (readQuestion question .sizes) l)
     (named : readQuestion question .root ≡ lastDigest (treeOf (readQuestion question .sizes) l)) where
   abbrev pub u : Question
   u = readQuestion question
@@ -63,8 +63,8 @@ module _ (question : Bytes) (l : Lent) (wf : questionVerdict question ≡ 0) (ri
   abbrev pub s : Sizes
   s = u .sizes
 
-  pub r : Rights s l
-  r = rights s l right
+  pub r : LentFacts s l
+  r = lent-facts s l right
 
   a : Asked u
   a = well-formed question wf
@@ -158,7 +158,7 @@ module _ (question : Bytes) (l : Lent) (wf : questionVerdict question ≡ 0) (ri
       ap₂ (λ (ds : List Bytes) (x : List Bytes). rootFrom digest (arity s) (nodePrefix s) (levels s) (u .indices) ds x) digests-are
       (back-nodes u bs ans xs ns parts ∙ ns-are ∙ sym (append-nil (opened (arity s) (levels s) (digests s l r) (u .indices))))
       ∙ complete digest (arity s) (nodePrefix s) (some-children s) (levels s) (level s l r) (u .indices) [] (level-length s l r ∙ sym (leaves-are s)) (in-tree question l (tableOf s l) (treeOf s l) a (right .lengths) (filled s l r)) (leafAt u 0)
-      (getD-in (u .indices) 0 (subst (λ (n : ℕ). 0 < n) (sym ci) (a .sizes-good .ℓ-low)))
+      (getD-in (u .indices) 0 (subst (λ (n : ℕ). 0 < n) (sym ci) (a .in-order .ℓ-low)))
       ∙ sym (last-is s l r)
       ∙ sym named
 
@@ -255,6 +255,6 @@ pub completeness : (s : Sizes) (l : Lent) → Completeness s l
 completeness s l right = (
   committing-is s l right,
   λ question buffer names e.
-      subst (λ (t : Sizes). Right t l → readQuestion question .root ≡ lastDigest (treeOf t l) → Replied t l question buffer)
+      subst (λ (t : Sizes). WellLent t l → readQuestion question .root ≡ lastDigest (treeOf t l) → Replied t l question buffer)
       (names .sizes) (λ rt nm. replied question l (names .well-formed) rt nm buffer e) right (names .root),
 )

@@ -13,11 +13,11 @@ use Rattle.lists.specs.All.{Below, all-append, all-imp}
 use Rattle.lists.specs.Rising.{rising}
 use Rattle.lists.specs.Bytes.{Bytes, fromBytes, littleEndian, halves, words, bytesOf, Small, number-littleEndian, numbers-back, length-numbers, words-bytesOf, length-bytesOf}
 use Rattle.lists.specs.Tests.{all, same, same-refl, pass, all-true, true-all}
-use Rattle.scheme.specs.Sizes.{Sizes, leaves, sizesOk, pointsOk, elements}
+use Rattle.scheme.specs.Sizes.{Sizes, SizesInOrder, leaves, sizesOk, pointsOk, elements}
 use Rattle.scheme.specs.Question.{Question, readQuestion, questionTests, questionVerdict, headerLength, headerSizes, headerPoints, mark, challengesAt, pointsAt, indicesAt, questionLength}
 use Rattle.scheme.specs.HonestCalls.{headerBytes, questionBytes}
 use Rattle.algebra.specs.Prime.{q}
-use Rattle.scheme.proofs.Accepted.{Good, good, leaves-high, elements-below}
+use Rattle.scheme.proofs.Accepted.{sizes-in-order, leaves-high, elements-below}
 use native.Mathlib.Nat.{mul-le-mul-left, mul-le-mul-right}
 
 -- ---- the header
@@ -60,8 +60,8 @@ pub record Fit (s : Sizes) (m : ℕ) (root : Bytes) (challenges points indices :
   pub indices-right : all (λ i. ltb i (leaves s)) indices ≡ true
 
 module _ (s : Sizes) (m : ℕ) (root : Bytes) (γs zs is : List ℕ) (f : Fit s m root γs zs is) where
-  good-sizes : Good s
-  good-sizes = good s (f .sizes-right)
+  good-sizes : SizesInOrder s
+  good-sizes = sizes-in-order s (f .sizes-right)
 
   small-elements : (xs : List ℕ) → elements xs ≡ true → Small xs
   small-elements xs e = all-imp (λ (x : ℕ) (l : x < q). omega (arith, l)) xs (elements-below xs e)

@@ -26,14 +26,14 @@ use Rattle.scheme.specs.Commit.{tableOf, treeOf, lastDigest}
 use Rattle.scheme.specs.Open.{replyOf}
 use Rattle.scheme.specs.Check.{checking, batchingOf, challengeOf, leafAt}
 use Rattle.scheme.specs.Collect.{Call, forRust, Answered, asked, given, Collected, Opens, Covered}
-use Rattle.scheme.specs.Honest.{Right, Names, trueValues}
+use Rattle.scheme.specs.Honest.{WellLent, Names, trueValues}
 use Rattle.scheme.specs.HonestCalls.{headerBytes, questionBytes, committedRoot, honestQuestion, honestCall, honestChallenges, honestAnswers, honestRuns, honestCalls, HonestCollection}
 use Rattle.scheme.proofs.Accepted.{degree-suc}
-use Rattle.scheme.proofs.Lent.{Rights, rights, below-elements}
+use Rattle.scheme.proofs.Lent.{LentFacts, lent-facts, below-elements}
 use Rattle.scheme.proofs.Committed.{tree-bytes}
 use Rattle.scheme.proofs.Complete.{checks, batching-is, reply-is}
 use Rattle.scheme.proofs.Replies.{collected-replies}
-use Rattle.scheme.proofs.Both.{Honest, extracted-committed}
+use Rattle.scheme.proofs.HonestRows.{Honest, extracted-committed}
 use Rattle.scheme.proofs.Encoded.{Fit, header-length, header-sizes-back, question-back, question-right}
 use Rattle.lists.specs.Number.{order}
 
@@ -65,12 +65,12 @@ elements-copies (suc n) x l = (l, elements-copies n x l)
 -- ---- one honest call
 
 -- the check's answer to an opener's reply
-pub honest-answered : (s : Sizes) (l : Lent) (question : Bytes) → Right s l → Names s l question → Answered (honestCall s l question)
+pub honest-answered : (s : Sizes) (l : Lent) (question : Bytes) → WellLent s l → Names s l question → Answered (honestCall s l question)
 honest-answered s l question right names = record { outcome = sym outcome }
   where
     outcome : checking question (replyOf (readQuestion question) l (tableOf s l) (treeOf s l)) (replicate (s .w * readQuestion question .m) 0) ≡ (0, trueValues s l (readQuestion question .evaluationPoints))
     outcome =
-        subst (λ (t : Sizes). Right t l → readQuestion question .root ≡ lastDigest (treeOf t l)
+        subst (λ (t : Sizes). WellLent t l → readQuestion question .root ≡ lastDigest (treeOf t l)
         → checking question (replyOf (readQuestion question) l (tableOf t l) (treeOf t l)) (replicate (t .w * readQuestion question .m) 0) ≡ (0, trueValues t l (readQuestion question .evaluationPoints)))
         (names .sizes)
         (λ rt nm.
@@ -80,10 +80,10 @@ honest-answered s l question right names = record { outcome = sym outcome }
         right (names .root)
 
 -- its batching answers
-honest-batching : (s : Sizes) (l : Lent) (question : Bytes) → Right s l → Names s l question → (k : ℕ) → k < s .η
+honest-batching : (s : Sizes) (l : Lent) (question : Bytes) → WellLent s l → Names s l question → (k : ℕ) → k < s .η
     → batchingOf (given (honestCall s l question)) k ≡ batchingAnswer s l k (challengeOf (readQuestion question) k)
 honest-batching s l question right names =
-    subst (λ (t : Sizes). Right t l → readQuestion question .root ≡ lastDigest (treeOf t l) → (k : ℕ) → k < t .η
+    subst (λ (t : Sizes). WellLent t l → readQuestion question .root ≡ lastDigest (treeOf t l) → (k : ℕ) → k < t .η
     → batchingOf (given (honestCall t l question)) k ≡ batchingAnswer t l k (challengeOf (readQuestion question) k))
     (names .sizes)
     (λ rt nm k m.
@@ -100,9 +100,9 @@ honest-batching s l question right names =
 
 -- ---- the honest questions
 
-module _ (s : Sizes) (l : Lent) (right : Right s l) where
-  r : Rights s l
-  r = rights s l right
+module _ (s : Sizes) (l : Lent) (right : WellLent s l) where
+  r : LentFacts s l
+  r = lent-facts s l right
 
   abbrev pub root : Bytes
   root = committedRoot s l
@@ -238,7 +238,7 @@ module _ (s : Sizes) (l : Lent) (right : Right s l) where
   }
 
 -- for every commitment
-pub honest-collection : (s : Sizes) (l : Lent) → Right s l → HonestCollection s l
+pub honest-collection : (s : Sizes) (l : Lent) → WellLent s l → HonestCollection s l
 honest-collection s l right =
     let cov = covers s l right in
     let same = header-is s l right in
@@ -249,7 +249,7 @@ honest-collection s l right =
           let e = collected-replies (honestCalls s l) (headerBytes s 1) (committedRoot s l) (answered s l right) nc (upFrom 0 (leaves s)) 0 (honestChallenges s) (honestAnswers s l) cov in (
             e,
             sym (ap (λ (t : Sizes). rowPolynomials t l) (sym same)
-                ∙ extracted-committed (honestCalls s l) (headerBytes s 1) (committedRoot s l) l (subst (λ (t : Sizes). Right t l) (sym same) right) (honest s l right)
+                ∙ extracted-committed (honestCalls s l) (headerBytes s 1) (committedRoot s l) l (subst (λ (t : Sizes). WellLent t l) (sym same) right) (honest s l right)
                 (answered s l right) nc (upFrom 0 (leaves s)) 0 (honestChallenges s) (honestAnswers s l) cov),
           );
     }

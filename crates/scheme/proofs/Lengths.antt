@@ -49,8 +49,8 @@ bound-reached question e =
 -- it has some bytes
 pub some-bytes : (u : Question) → Asked u → 0 < replyLength u
 some-bytes u a =
-    let w : 1 ≤ 4 * width (u .sizes) = omega (arith, a .sizes-good .ℓ-low) in
-    let h : 1 * 1 ≤ 4 * width (u .sizes) * u .sizes .η = mul-le-mul w (a .sizes-good .η-low) in
+    let w : 1 ≤ 4 * width (u .sizes) = omega (arith, a .in-order .ℓ-low) in
+    let h : 1 * 1 ≤ 4 * width (u .sizes) * u .sizes .η = mul-le-mul w (a .in-order .η-low) in
     omega arith
 
 module _ (question : Bytes) where

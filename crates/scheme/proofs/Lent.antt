@@ -10,14 +10,14 @@ use borrow.Author.Tests.{eqb-true, lt-ltb}
 use Rattle.algebra.specs.Prime.{q}
 use Rattle.lists.specs.All.{all-imp}
 use Rattle.algebra.specs.Numbers.{Elements}
-use Rattle.scheme.specs.Sizes.{elements}
+use Rattle.scheme.specs.Sizes.{SizesInOrder, elements}
 use Rattle.scheme.specs.Sizes.{Sizes, leaves, rows, width}
 use Rattle.scheme.specs.Layers.{Lent}
 use Rattle.scheme.specs.Commit.{lentOk}
-use Rattle.scheme.specs.Honest.{Right}
+use Rattle.scheme.specs.Honest.{WellLent}
 use Rattle.lists.specs.Tests.{every-true, true-all}
 use Rattle.lists.specs.Bytes.{Small}
-use Rattle.scheme.proofs.Accepted.{Good, good, elements-below}
+use Rattle.scheme.proofs.Accepted.{sizes-in-order, elements-below}
 
 pub small : (xs : List ℕ) → Elements xs → Small xs
 small xs h = all-imp (λ (x : ℕ) (l : x < q). omega arith) xs h
@@ -26,8 +26,8 @@ pub below-elements : (xs : List ℕ) → Elements xs → elements xs ≡ true
 below-elements xs h = true-all (λ x. ltb x q) xs (all-imp (λ (x : ℕ) (l : x < q). lt-ltb x q l) xs h)
 
 -- what is lent, as facts
-pub record Rights (s : Sizes) (l : Lent) : Type 0 where
-  pub sizes : Good s
+pub record LentFacts (s : Sizes) (l : Lent) : Type 0 where
+  pub sizes : SizesInOrder s
   pub c-length : length (l .coefficients) ≡ s .w * (s .μ * s .ν)
   pub t-length : length (l .tails) ≡ rows s * s .ℓ
   pub m-length : length (l .masks) ≡ s .η * width s
@@ -36,13 +36,13 @@ pub record Rights (s : Sizes) (l : Lent) : Type 0 where
   pub t-below : Elements (l .tails)
   pub m-below : Elements (l .masks)
 
-pub rights : (s : Sizes) (l : Lent) → Right s l → Rights s l
+pub lent-facts : (s : Sizes) (l : Lent) → WellLent s l → LentFacts s l
 unfolding lentOk
-rights s l r =
+lent-facts s l r =
     let t = every-true _ (r .lengths) in
     let e = every-true _ (r .elements) in
     record {
-      sizes = good s (r .sizes);
+      sizes = sizes-in-order s (r .sizes);
       c-length = eqb-true _ _ (t .0);
       t-length = eqb-true _ _ (t .1 .0);
       m-length = eqb-true _ _ (t .1 .1 .0);

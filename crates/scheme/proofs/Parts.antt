@@ -27,8 +27,8 @@ use Rattle.scheme.specs.Open.{openedBatching, openedAnswers, openedRecor
 use Rattle.scheme.proofs.Accepted.{Asked}
 use Rattle.scheme.proofs.Bound.{some-children, leaves-are, indices-length, points-length}
 use Rattle.scheme.proofs.Lent.{small}
-use Rattle.scheme.proofs.Row.{combination-length, combination-below}
-use Rattle.scheme.proofs.Whole.{FourParts, whole-length}
+use Rattle.scheme.proofs.HonestAnswers.{combination-length, combination-below}
+use Rattle.scheme.proofs.ReplyReadBack.{FourParts, whole-length}
 
 pub all-in : {A : Type 0} (P : A → Type 0) (f : ℕ → A) (xs : List ℕ) → ((x : ℕ) → Mem x xs → P (f x)) → All P (map f xs)
 all-in P f [] h = tt

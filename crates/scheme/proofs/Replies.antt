@@ -14,16 +14,16 @@ use Rattle.lists.specs.All.{Distinct, all-from, mem-all}
 use Rattle.algebra.specs.Numbers.{values-from, evalN, interpN, valuesAtN, Elements, Polys, rowsN, rowsN-length, rowsN-polys, rowsN-take, rowsN-unique, answerN-true}
 use Rattle.algebra.specs.Columns.{powN}
 use Rattle.lists.specs.Pieces.{piece}
-use Rattle.scheme.specs.Sizes.{Sizes, leaves, rows, width, degree, points, leafPoint}
+use Rattle.scheme.specs.Sizes.{Sizes, SizesInOrder, leaves, rows, width, degree, points, leafPoint}
 use Rattle.scheme.specs.Layers.{heldPolynomial}
 use Rattle.scheme.specs.Question.{readQuestion, headerLength, headerSizes}
 use Rattle.scheme.specs.Reply.{rowValues, maskValue}
 use Rattle.scheme.specs.Check.{recordAt, challengeOf, batchingOf}
 use Rattle.scheme.specs.Collect.{Call, Answered, returned, asked, given, Collected, Opens, Holds, NoCollision, Covered, TakesOpened, AcceptedAt, CollectedReplies}
-use Rattle.scheme.proofs.Accepted.{Good, leaves-high, degree-suc, points-are-below, points-differ, points-count}
+use Rattle.scheme.proofs.Accepted.{leaves-high, degree-suc, points-are-below, points-differ, points-count}
 use Rattle.scheme.proofs.Bound.{same-record}
-use Rattle.scheme.proofs.Values.{stacked-value}
-use Rattle.scheme.proofs.Facts.{Poly, Facts, facts}
+use Rattle.algebra.specs.Stacked.{stacked-value}
+use Rattle.scheme.proofs.AcceptedCall.{Poly, Facts, facts}
 
 -- ---- the header
 
@@ -102,8 +102,8 @@ module _ (calls : List Call) (header root : Bytes) (ans : (c : Call) → Mem c c
         → (c : Call) × (a : ℕ) × Collected calls header root c × Opens c i a × (challengeOf (asked c) k ≡ getD γs g 0) × (batchingOf (given c) k ≡ getD Rs g [])
     opener = cov .opened-under
 
-    good : Good s
-    good = let i = first-of (degree s) L (cov .enough-leaves) in let w = opener (i .0) (i .1) 0 some-challenge in fact (w .0) (w .2) .good
+    sizes-in-order : SizesInOrder s
+    sizes-in-order = let i = first-of (degree s) L (cov .enough-leaves) in let w = opener (i .0) (i .1) 0 some-challenge in fact (w .0) (w .2) .in-order
 
     γs-below : Elements γs
     γs-below =
@@ -115,11 +115,11 @@ module _ (calls : List Call) (header root : Bytes) (ans : (c : Call) → Mem c c
         let i = first-of (degree s) L (cov .enough-leaves) in
         all-from (Poly n) [] Rs (λ g l.
         let w = opener (i .0) (i .1) g (subst (λ (m : ℕ). g < m) (cov .one-answer-each) l) in
-        subst (λ (m : ℕ). Poly m (getD Rs g [])) (sym (degree-suc s good))
+        subst (λ (m : ℕ). Poly m (getD Rs g [])) (sym (degree-suc s sizes-in-order))
         (subst (λ (x : List ℕ). Poly (width s) x) (w .5) (fact (w .0) (w .2) .batching-poly k (cov .repetition))))
 
     leaf-small : (c : Call) → In c → (i a : ℕ) → Opens c i a → i < q
-    leaf-small c m i a o = let l = fact c m .leaf-below i a o in omega (arith, leaves-high s good)
+    leaf-small c m i a o = let l = fact c m .leaf-below i a o in omega (arith, leaves-high s sizes-in-order)
 
     L-below : Elements L
     L-below = mem-all (λ (i : ℕ). i < q) L (λ i m. let w = opener i m 0 some-challenge in leaf-small (w .0) (w .2) i (w .1) (w .3))
@@ -162,15 +162,15 @@ module _ (calls : List Call) (header root : Bytes) (ans : (c : Call) → Mem c c
           let i = first-of (degree s) at enough in
           let w = acc (i .0) (i .1) .1 in
           let p = w .at-point in
-          subst (λ (m : ℕ). Poly m A) (sym (degree-suc s good))
+          subst (λ (m : ℕ). Poly m A) (sym (degree-suc s sizes-in-order))
           (subst (λ (x : List ℕ). Poly (width s) x) (p .1 .answer) (fact (w .call) (w .collected) .answer-poly (p .0) (p .1 .place)))
 
       A-true : A ≡ map (λ x. evalN (valuesAtN rs x) z) (points s)
       A-true =
-          answerN-true rs n (omega (arith, rs-count, good .μ-low)) rs-polys z (points s) A at
-          (points-count s good ∙ sym (degree-suc s good)) (A-poly .0) enough
+          answerN-true rs n (omega (arith, rs-count, sizes-in-order .μ-low)) rs-polys z (points s) A at
+          (points-count s sizes-in-order ∙ sym (degree-suc s sizes-in-order)) (A-poly .0) enough
           (mem-all (λ (i : ℕ). i < q) at (λ i m. let w = acc i m .1 in leaf-small (w .call) (w .collected) i (w .at-leaf .0) (w .at-leaf .1)))
-          differ (points-are-below s good) (points-differ s good) (A-poly .1)
+          differ (points-are-below s sizes-in-order) (points-differ s sizes-in-order) (A-poly .1)
           (mem-all (λ (e : ℕ). evalN (interpN (points s) A) e ≡ evalN (valuesAtN rs e) z) at (λ i m.
           let w = acc i m .1 in
           let o = w .at-leaf in

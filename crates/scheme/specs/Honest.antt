@@ -22,7 +22,7 @@ unfoldable pub trueValues : Sizes → Lent → List ℕ → List ℕ
 trueValues s l zs = flatten (map (λ z. map (λ p. evalN p z) (pieces (s .μ * s .ν) (s .w) (l .coefficients))) zs)
 
 -- sizes in their ranges, and lent slices of the right lengths that hold elements
-pub record Right (s : Sizes) (l : Lent) : Type 0 where
+pub record WellLent (s : Sizes) (l : Lent) : Type 0 where
   pub sizes : sizesOk s ≡ true
   pub lengths : lentOk s l ≡ true
   pub elements : every (lentElements l) ≡ true
@@ -45,6 +45,6 @@ pub record Replied (s : Sizes) (l : Lent) (question buffer : Bytes) : Type 0 whe
 
 abbrev pub Completeness : Sizes → Lent → Type 0
 Completeness s l =
-    Right s l
+    WellLent s l
     → ((table : List ℕ) (nodes : Bytes) → filledOk s table nodes ≡ true → committing s l table nodes ≡ (0, tableOf s l, treeOf s l))
     × ((question buffer : Bytes) → Names s l question → length buffer ≡ replyLength (readQuestion question) → Replied s l question buffer)

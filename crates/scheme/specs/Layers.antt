@@ -1,12 +1,12 @@
 -- The three layers: polynomials to rows (PCS), rows to polynomials (LVCS), degree (DECS). A row is a list of field elements.
-use mathlib.Core.List.{List, [], _∷_, _++_, map}
-use Prim.Native.Nat.{ℕ, _+_, _%_}
-use lib.ListN.{getD, replicate}
+use mathlib.Core.List.{List, _∷_, _++_, map}
+use Prim.Native.Nat.{ℕ}
+use lib.ListN.{getD}
 use Rattle.lists.specs.Range.{upFrom}
-use Rattle.algebra.specs.Prime.{q}
 use Rattle.algebra.specs.Numbers.{evalN, interpN, valuesAtN}
 use Rattle.algebra.specs.Batch.{columnN}
 use Rattle.algebra.specs.Columns.{powN}
+use Rattle.algebra.specs.Stacked.{stacked}
 use Rattle.lists.specs.Pieces.{pieces, piece}
 use Rattle.scheme.specs.Sizes.{Sizes, columns, rows, width, points}
 
@@ -66,17 +66,6 @@ abbrev pub batchingAnswer : Sizes → Lent → ℕ → ℕ → List ℕ
 batchingAnswer s l k γ = combination (width s) γ (maskPolynomial s l k ∷ rowPolynomials s l)
 
 -- ---- the polynomials that rows hold
-
--- the sum of two polynomials
-unfoldable pub addN : List ℕ → List ℕ → List ℕ
-addN [] ys = ys
-addN (x ∷ xs) [] = x ∷ xs
-addN (x ∷ xs) (y ∷ ys) = (x + y) % q ∷ addN xs ys
-
--- the sum over t of X^(tμ) times polynomial t
-unfoldable pub stacked : ℕ → List (List ℕ) → List ℕ
-stacked μ [] = []
-stacked μ (c ∷ cs) = addN c (replicate μ 0 ++ stacked μ cs)
 
 -- polynomial i that the rows ps hold: the sum over its columns t and all rows j of X^(tμ + j) times P_j(N + iν + t)
 unfoldable pub heldPolynomial : Sizes → List (List ℕ) → ℕ → List ℕ

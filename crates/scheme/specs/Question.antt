@@ -5,10 +5,9 @@ use Prim.Native.Nat.{ℕ, _+_, _*_}
 use lib.Dec.{ltb, eqb}
 use lib.ListN.{length, getD, take, drop}
 use Rattle.lists.specs.Bytes.{Bytes, fromBytes, littleEndian, halves, words}
-use Rattle.lists.specs.Tests.{Test, verdictOf, every, all, same}
+use Rattle.lists.specs.Tests.{Test, verdictOf, all, same}
 use Rattle.lists.specs.Rising.{rising}
-use Rattle.scheme.specs.Sizes.{elements}
-use Rattle.scheme.specs.Sizes.{Sizes, leaves, sizesOk, pointsOk}
+use Rattle.scheme.specs.Sizes.{Sizes, leaves, sizesOk, pointsOk, elements}
 
 -- "SWQ", and the version in two bytes
 abbrev pub version : ℕ
@@ -56,18 +55,20 @@ indicesAt s m = pointsAt s + 4 * m
 abbrev pub questionLength : Sizes → ℕ → ℕ
 questionLength s m = indicesAt s m + 2 * s .ℓ
 
+-- what the bytes hold, for sizes s and m points
+abbrev pub questionAt : Sizes → ℕ → Bytes → Question
+questionAt s m b = record {
+  sizes = s;
+  m = m;
+  root = take 32 (drop headerLength b);
+  challenges = words (s .η) (drop challengesAt b);
+  evaluationPoints = words m (drop (pointsAt s) b);
+  indices = halves (s .ℓ) (drop (indicesAt s m) b);
+}
+
+-- and for those that their header gives
 unfoldable pub readQuestion : Bytes → Question
-readQuestion b =
-    let s : Sizes = headerSizes b in
-    let m : ℕ = headerPoints b in
-    record {
-      sizes = s;
-      m = m;
-      root = take 32 (drop headerLength b);
-      challenges = words (s .η) (drop challengesAt b);
-      evaluationPoints = words m (drop (pointsAt s) b);
-      indices = halves (s .ℓ) (drop (indicesAt s m) b);
-    }
+readQuestion b = questionAt (headerSizes b) (headerPoints b) b
 
 -- the header's tests
 abbrev pub headerTests : Bytes → List Test

@@ -1,7 +1,7 @@
 -- The sizes of a commitment, and the numbers that follow from them.
 use mathlib.Core.Bool.{Bool}
 use mathlib.Core.List.{List, [], _∷_}
-use Prim.Native.Nat.{ℕ, _+_, _-_, _*_, _^_}
+use Prim.Native.Nat.{ℕ, _+_, _-_, _*_, _^_, _≤_}
 use lib.Dec.{leb, ltb}
 use Rattle.algebra.specs.Prime.{q}
 use Rattle.lists.specs.Bytes.{Bytes}
@@ -68,6 +68,21 @@ sizesOk s =
     every
     (within 1 12 (s .h) ∷ within 1 64 (s .μ) ∷ within 1 256 (s .ν) ∷ within 1 256 (s .w) ∷ leb (columns s) 256 ∷ within 1 64 (s .ℓ)
     ∷ within 1 4 (s .η) ∷ leb (width s) (leaves s) ∷ [])
+
+-- the same as facts
+pub record SizesInOrder (s : Sizes) : Type 0 where
+  pub h-low : 1 ≤ s .h
+  pub h-high : s .h ≤ 12
+  pub μ-low : 1 ≤ s .μ
+  pub μ-high : s .μ ≤ 64
+  pub ν-low : 1 ≤ s .ν
+  pub w-low : 1 ≤ s .w
+  pub columns-high : columns s ≤ 256
+  pub ℓ-low : 1 ≤ s .ℓ
+  pub ℓ-high : s .ℓ ≤ 64
+  pub η-low : 1 ≤ s .η
+  pub η-high : s .η ≤ 4
+  pub fits : width s ≤ leaves s
 
 -- m, the number of evaluation points, in its range
 abbrev pub pointsOk : ℕ → Bool

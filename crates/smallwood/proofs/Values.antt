@@ -11,12 +11,12 @@ use borrow.Author.Tests.{eq-eqb, ne-eqb}
 use Rattle.lists.specs.Choice.{pick}
 use Rattle.lists.specs.Bytes.{Bytes, bytesOf}
 use Rattle.lists.specs.Tests.{verdictOf, verdict-go, verdict-stop, verdict-hit}
-use Rattle.scheme.specs.Sizes.{Sizes}
+use Rattle.scheme.specs.Sizes.{Sizes, SizesInOrder}
 use Rattle.scheme.specs.Question.{Question, readQuestion, questionTests}
 use Rattle.scheme.specs.Reply.{readReply}
 use Rattle.scheme.specs.Commit.{after}
 use Rattle.scheme.specs.Check.{checkVerdict, checkValues, replyTests, checking, checkingC}
-use Rattle.scheme.proofs.Accepted.{Good, well-formed, question-numbers}
+use Rattle.scheme.proofs.Accepted.{well-formed, question-numbers}
 use Rattle.commitment.specs.Shape.{sizesIn}
 use Rattle.commitment.proofs.Places.{buffer-high}
 use Rattle.commitment.specs.Questioned.{questioned}
@@ -49,7 +49,7 @@ pub few-values : (b : Bytes) (s : Shape) (m : ℕ) → questioned b ≡ WellForm
 few-values b s m e =
     let a = well-asked b s m e in
     let h = well-formed b (a .0) in
-    buffer-high (sizesIn s) (subst Good (sym (a .1)) (h .sizes-good)) m (subst (λ (n : ℕ). n ≤ 8) (sym (a .2)) (h .m-high))
+    buffer-high (sizesIn s) (subst SizesInOrder (sym (a .1)) (h .in-order)) m (subst (λ (n : ℕ). n ≤ 8) (sym (a .2)) (h .m-high))
 
 module _ (question reply before : Bytes) where
   -- a refusal changes nothing

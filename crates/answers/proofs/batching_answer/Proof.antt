@@ -7,7 +7,7 @@ use Rattle.algebra.specs.Prime.{q}
 use Rattle.algebra.specs.Numbers.{interpN, Polys}
 use Rattle.lists.specs.Range.{upFrom}
 use Rattle.scheme.specs.Layers.{lentOf, extendedRows, combination}
-use Rattle.scheme.proofs.Row.{combination-length}
+use Rattle.scheme.proofs.HonestAnswers.{combination-length}
 use Rattle.commitment.specs.Shape.{sizesIn}
 use Rattle.answers.proofs.Combining.{batching-one, interpolation-asks}
 use Rattle.answers.proofs.Rows.{rows-polys, rows-some, answer-narrow, answer-some}

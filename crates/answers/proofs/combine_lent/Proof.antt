@@ -4,7 +4,7 @@ use mathlib.Core.List.{List}
 use Prim.Native.Nat.{ℕ}
 use lib.ListN.{length}
 use Rattle.commitment.specs.Shape.{sizesIn}
-use Rattle.scheme.proofs.Accepted.{good}
+use Rattle.scheme.proofs.Accepted.{sizes-in-order}
 use Rattle.answers.proofs.Rows.{weights-fit, weights-room, columns-length, weights-kept, weights-length, dots-ask, rest-ask, combined}
 use borrow.Author.Needs.{needs}
 use Rattle.answers.proofs.combine_lent.Statement.{statement}
@@ -14,7 +14,7 @@ cast-mu : tie.Need-cast-mu
 cast-mu c = search needs
 
 column-count-requires : tie.Need-column-count-requires
-column-count-requires c κs = good _ (c .before .before .before .before .pre .0 .extend .sizes)
+column-count-requires c κs = sizes-in-order _ (c .before .before .before .before .pre .0 .extend .sizes)
 
 blank-weights-requires : tie.Need-blank-weights-requires
 blank-weights-requires c κs = search needs

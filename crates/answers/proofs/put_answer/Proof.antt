@@ -7,7 +7,7 @@ use lib.Seq.{length-take-le}
 use Rattle.lists.specs.Bytes.{bytesOf}
 use Rattle.scheme.specs.Layers.{lentOf, extendedRows, combination}
 use Rattle.commitment.specs.Shape.{sizesIn}
-use Rattle.answers.specs.Answers.{written}
+use Rattle.lists.specs.Spliced.{spliced}
 use Rattle.answers.proofs.Rows.{answer-fits, answer-room}
 use borrow.Author.Needs.{needs}
 use native.Mathlib.Omega.{arith}
@@ -43,7 +43,7 @@ returns c =
     let b : List ℕ = c .before .before .before .before .before .before .blank-few .result in
     let l : length b ≡ 32 = search needs in
     let es : List (List ℕ) = extendedRows (sizesIn (s .s)) (lentOf (s .coefficients .now) (s .tails .now) [] []) in
-    c .before .before .before .put-answer-in .ensures ∙ ap (λ (k : ℕ). written (s .at) (4 * k) (bytesOf (combination k (s .z .0) es)) (s .out .now)) (length-take-le (s .n) b (omega arith))
+    c .before .before .before .put-answer-in .ensures ∙ ap (λ (k : ℕ). spliced (s .at) (4 * k) (bytesOf (combination k (s .z .0) es)) (s .out .now)) (length-take-le (s .n) b (omega arith))
 
 blank-requires : tie.Need-blank-requires
 blank-requires c κs = search needs
@@ -79,7 +79,7 @@ returns-2 c =
     let b : List ℕ = c .before .before .before .before .before .before .blank .result in
     let l : length b ≡ 320 = search needs in
     let es : List (List ℕ) = extendedRows (sizesIn (s .s)) (lentOf (s .coefficients .now) (s .tails .now) [] []) in
-    c .before .before .before .put-answer-in2 .ensures ∙ ap (λ (k : ℕ). written (s .at) (4 * k) (bytesOf (combination k (s .z .0) es)) (s .out .now)) (sym (answer-room (sizesIn (s .s)) (s .coefficients .now) (s .tails .now) (c .before .before .before .before .before .before .before .before .before .before .before .pre .0) (s .n) b (c .before .before .before .before .before .before .before .before .before .before .before .pre .1) l))
+    c .before .before .before .put-answer-in2 .ensures ∙ ap (λ (k : ℕ). spliced (s .at) (4 * k) (bytesOf (combination k (s .z .0) es)) (s .out .now)) (sym (answer-room (sizesIn (s .s)) (s .coefficients .now) (s .tails .now) (c .before .before .before .before .before .before .before .before .before .before .before .pre .0) (s .n) b (c .before .before .before .before .before .before .before .before .before .before .before .pre .1) l))
 
 pub put-answer-spec : {M : Type 1} → statement M
 put-answer-spec =

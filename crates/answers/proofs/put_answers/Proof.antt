@@ -5,9 +5,10 @@ use Prim.Native.Nat.{ℕ, _+_, _*_, _-_, _≤_}
 use lib.ListN.{length, drop, getD}
 use Rattle.lists.specs.Bytes.{words, length-words, word-from, bytesOf}
 use Rattle.scheme.specs.Layers.{lentOf, extendedRows}
-use Rattle.scheme.proofs.Row.{combination-length}
+use Rattle.scheme.proofs.HonestAnswers.{combination-length}
 use Rattle.commitment.specs.Shape.{sizesIn}
-use Rattle.answers.specs.Answers.{answerAt, written}
+use Rattle.lists.specs.Spliced.{spliced}
+use Rattle.answers.specs.Answers.{answerAt}
 use Rattle.answers.proofs.Answers.{answersTo, answers-none, answers-all, answers-room, answers-turn}
 use Rattle.answers.proofs.Rows.{answer-narrow}
 use borrow.Author.Needs.{needs}
@@ -84,7 +85,7 @@ loop-again c =
     let z : c .before .before .before .before .word .result ≡ getD xs p 0 = c .before .before .before .before .word .ensures ∙ sym (word-from (s .m) (s .points) p (s .question .now) (omega arith)) in
     let r = answers-turn f xs (s .n) (s .at) (s .out .now) (s .m) (length-words (s .m) (drop (s .points) (s .question .now)))
     (λ z. combination-length (s .n) z es) (c .before .before .before .before .before .before .before .before .before .before .before .pre .3) p (c .before .before .before .before .before .before .loop .out) (c .before .before .put-answer .last .1 .1 .1 .1 .1 .0) (omega arith) (c .before .before .before .before .before .before .loop .inv .2)
-    (c .before .before .put-answer .ensures ∙ ap (λ (y : ℕ). written (s .at + 4 * s .n * p) (4 * s .n) (bytesOf (f y)) (c .before .before .before .before .before .before .loop .out)) z) in
+    (c .before .before .put-answer .ensures ∙ ap (λ (y : ℕ). spliced (s .at + 4 * s .n * p) (4 * s .n) (bytesOf (f y)) (c .before .before .before .before .before .before .loop .out)) z) in
     (refl, omega arith, r .0, r .1)
 
 same-length : tie.Need-same-length Inv-loop μ-loop

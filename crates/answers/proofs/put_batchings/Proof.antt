@@ -8,10 +8,11 @@ use Rattle.lists.specs.Bytes.{words, word-from, bytesOf}
 use Rattle.lists.specs.Parts.{part-is}
 use Rattle.lists.specs.Range.{upFrom, length-upFrom, upFrom-at}
 use Rattle.scheme.specs.Layers.{lentOf, extendedRows}
-use Rattle.scheme.proofs.Row.{combination-length}
+use Rattle.scheme.proofs.HonestAnswers.{combination-length}
 use Rattle.commitment.specs.Shape.{sizesIn}
 use Rattle.algebra.specs.Pairs.{pointsEnd}
-use Rattle.answers.specs.Answers.{batchingOver, batchingAt, written}
+use Rattle.lists.specs.Spliced.{spliced}
+use Rattle.answers.specs.Answers.{batchingOver, batchingAt}
 use Rattle.answers.proofs.Answers.{answersTo, answers-none, answers-all, answers-room, answers-turn, mask-room, mask-length}
 use borrow.Author.Needs.{needs}
 use native.Mathlib.Omega.{arith}
@@ -125,9 +126,9 @@ loop-again c =
     let r = answers-turn f (upFrom 0 (s .s .eta)) (s .n) (s .at) (s .out .now) (s .s .eta) (length-upFrom 0 (s .s .eta))
     (λ k. combination-length (s .n) (getD γs k 0) _) (c .before .before .before .before .before .before .before .before .before .before .before .before .before .before .pre .5) k (c .before .before .before .before .before .before .before .loop .out) (c .before .before .put-batching .last .1 .1 .1 .1 .1 .1 .0) (omega arith) (c .before .before .before .before .before .before .before .loop .inv .3)
     (c .before .before .put-batching .ensures
-    ∙ ap (λ (j : ℕ). written (s .at + 4 * s .n * k) (4 * j) (bytesOf (batchingOver (s .first .0) j es mask (c .before .before .before .before .before .word .result))) (c .before .before .before .before .before .before .before .loop .out)) l
-    ∙ ap₂ (λ (x : List ℕ) (y : ℕ). written (s .at + 4 * s .n * k) (4 * s .n) (bytesOf (batchingOver (s .first .0) (s .n) es x y)) (c .before .before .before .before .before .before .before .loop .out)) (part-is (s .n) k (s .masks .now)) γ
-    ∙ ap (λ (j : ℕ). written (s .at + 4 * s .n * k) (4 * s .n) (bytesOf (f j)) (c .before .before .before .before .before .before .before .loop .out)) i) in
+    ∙ ap (λ (j : ℕ). spliced (s .at + 4 * s .n * k) (4 * j) (bytesOf (batchingOver (s .first .0) j es mask (c .before .before .before .before .before .word .result))) (c .before .before .before .before .before .before .before .loop .out)) l
+    ∙ ap₂ (λ (x : List ℕ) (y : ℕ). spliced (s .at + 4 * s .n * k) (4 * s .n) (bytesOf (batchingOver (s .first .0) (s .n) es x y)) (c .before .before .before .before .before .before .before .loop .out)) (part-is (s .n) k (s .masks .now)) γ
+    ∙ ap (λ (j : ℕ). spliced (s .at + 4 * s .n * k) (4 * s .n) (bytesOf (f j)) (c .before .before .before .before .before .before .before .loop .out)) i) in
     (refl, refl, omega arith, r .0, r .1)
 
 same-length : tie.Need-same-length Inv-loop μ-loop

@@ -5,9 +5,8 @@ use Prim.Native.Nat.{ℕ, _+_, _-_, _*_, _≤_}
 use lib.ListN.{length, drop}
 use borrow.Rule.Slice.PartMut.{same-len-mid}
 use Rattle.lists.specs.Bytes.{words}
-use Rattle.opened.specs.Rows.{rowsOf}
+use Rattle.lists.specs.Rows.{rowsOf, front-all, rows-start, row-turn, part-length}
 use Rattle.checker.specs.Words.{valuesAt}
-use Rattle.opened.proofs.Rows.{front-all, rows-start, row-turn, part-length}
 use Rattle.lists.specs.Parts.{row-fits}
 use Rattle.checker.proofs.Values.{length-valuesAt, answer-read, values-is}
 use borrow.Author.Needs.{needs}

@@ -1,6 +1,6 @@
 -- `checker::check_reply` meets its contract.
+use Rattle.scheme.specs.Question.{questionAt}
 use Rattle.commitment.specs.Shape.{sizesIn}
-use Rattle.checker.specs.Posed.{questionAt}
 use Rattle.commitment.proofs.Places.{buffer-high}
 use Rattle.checker.proofs.Asking.{answer-2, answer-refused, answer-0, accepted-length}
 use borrow.Author.Needs.{needs}
@@ -13,7 +13,7 @@ cast-if1 c = search needs
 
 mul-if1 : tie.Need-mul-if1
 mul-if1 c =
-    let h = buffer-high (sizesIn (c .before .before .before .before .args .s)) (c .before .before .before .before .pre .sizes-good) (c .before .before .before .before .args .m) (c .before .before .before .before .pre .few-points) in search needs
+    let h = buffer-high (sizesIn (c .before .before .before .before .args .s)) (c .before .before .before .before .pre .in-order) (c .before .before .before .before .args .m) (c .before .before .before .before .pre .few-points) in search needs
 
 returns : tie.Need-returns
 returns c =
@@ -32,7 +32,7 @@ fill-values-requires : tie.Need-fill-values-requires
 fill-values-requires c κs =
     let s = c .before .before .before .before .before .before .before .before .args in
     let e = accepted-length (questionAt (sizesIn (s .s)) (s .m) (s .question .now)) (s .reply .now) (c .before .before .asked-verdict .result) (c .before .before .asked-verdict .ensures) (c .before .if2 .left) in
-    (c .before .before .before .before .before .before .before .before .pre .sizes-good, c .before .before .before .before .before .before .before .before .pre .few-points, c .before .before .before .before .before .before .before .before .pre .long, omega (arith, e), c .before .before .before .if1 .left)
+    (c .before .before .before .before .before .before .before .before .pre .in-order, c .before .before .before .before .before .before .before .before .pre .few-points, c .before .before .before .before .before .before .before .before .pre .long, omega (arith, e), c .before .before .before .if1 .left)
 
 same-length : tie.Need-same-length
 same-length c = search needs

@@ -2,10 +2,9 @@
 use mathlib.Core.Path.{sym, _∙_}
 use mathlib.Core.Bool.{Bool}
 use borrow.Author.Tests.{not-true, not-false}
-use Rattle.lists.specs.Tests.{each}
+use Rattle.lists.specs.Tests.{each, every-first, every-second, every-last}
 use Rattle.scheme.specs.Sizes.{elements}
 use Rattle.checker.specs.Words.{recordElementsAt}
-use Rattle.checker.proofs.Flat.{every-first, every-second, every-last}
 use borrow.Author.Needs.{needs}
 use Rattle.checker.proofs.elements_read.Statement.{statement}
 use Rattle.checker.proofs.elements_read.Tie as tie

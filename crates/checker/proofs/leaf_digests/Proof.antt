@@ -5,9 +5,8 @@ use Prim.Native.Nat.{ℕ, _+_, _-_, _*_, _≤_, _<_}
 use lib.ListN.{length, drop}
 use borrow.Rule.Slice.PartMut.{same-len-mid}
 use Rattle.lists.specs.All.{all-at}
-use Rattle.opened.specs.Rows.{rowsOf}
+use Rattle.lists.specs.Rows.{rowsOf, rows-start, row-turn, part-length}
 use Rattle.checker.specs.Words.{leafDigestAt}
-use Rattle.opened.proofs.Rows.{rows-start, row-turn, part-length}
 use Rattle.lists.specs.Parts.{row-fits, span-length}
 use Rattle.checker.proofs.Roots.{length-leafDigestAt, digest-row}
 use borrow.Author.Needs.{needs}

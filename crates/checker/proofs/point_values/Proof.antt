@@ -5,7 +5,7 @@ use Prim.Native.Nat.{_+_, _-_, _≤_}
 use lib.ListN.{length, drop, length-set}
 use Rattle.checker.specs.Words.{pointValues}
 use Rattle.lists.specs.Parts.{row-fits}
-use Rattle.opened.proofs.Rows.{front-all}
+use Rattle.lists.specs.Rows.{front-all}
 use Rattle.checker.proofs.Values.{point-start, point-turn}
 use borrow.Author.Needs.{needs}
 use native.Mathlib.Omega.{arith}

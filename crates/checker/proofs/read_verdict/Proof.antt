@@ -15,7 +15,7 @@ row-width-requires c κs = search needs
 mul-b : tie.Need-mul-b
 mul-b c =
     let s = c .before .before .before .before .before .before .before .before .args in
-    let h : c .row-width .result * length (s .challenges .now) ≤ 1280 = subst (λ (k : ℕ). k ≤ 1280) (sym (ap₂ _*_ (c .row-width .ensures) (c .before .before .before .before .before .before .before .before .pre .0 .repetitions))) (batching-high (sizesIn (s .s)) (c .before .before .before .before .before .before .before .before .pre .0 .sizes-good)) in
+    let h : c .row-width .result * length (s .challenges .now) ≤ 1280 = subst (λ (k : ℕ). k ≤ 1280) (sym (ap₂ _*_ (c .row-width .ensures) (c .before .before .before .before .before .before .before .before .pre .0 .repetitions))) (batching-high (sizesIn (s .s)) (c .before .before .before .before .before .before .before .before .pre .0 .in-order)) in
     search needs
 
 read-words-requires : tie.Need-read-words-requires
@@ -27,7 +27,7 @@ read-words-requires c κs =
 mul-a : tie.Need-mul-a
 mul-a c =
     let s = c .before .before .before .before .before .before .before .before .before .before .before .before .args in
-    let h : c .before .before .before .before .row-width .result * length (s .points .now) ≤ 2560 = subst (λ (k : ℕ). k * length (s .points .now) ≤ 2560) (sym (c .before .before .before .before .row-width .ensures)) (evaluation-high (sizesIn (s .s)) (c .before .before .before .before .before .before .before .before .before .before .before .before .pre .0 .sizes-good) (length (s .points .now)) (c .before .before .before .before .before .before .before .before .before .before .before .before .pre .0 .few-points)) in
+    let h : c .before .before .before .before .row-width .result * length (s .points .now) ≤ 2560 = subst (λ (k : ℕ). k * length (s .points .now) ≤ 2560) (sym (c .before .before .before .before .row-width .ensures)) (evaluation-high (sizesIn (s .s)) (c .before .before .before .before .before .before .before .before .before .before .before .before .pre .0 .in-order) (length (s .points .now)) (c .before .before .before .before .before .before .before .before .before .before .before .before .pre .0 .few-points)) in
     search needs
 
 answers-at-requires : tie.Need-answers-at-requires

@@ -17,7 +17,7 @@ use Rattle.checker.proofs.reply_verdict.Tie as tie
 length-for-requires : tie.Need-length-for-requires
 length-for-requires c κs =
     let s = c .before .before .before .before .before .args in
-    (c .before .before .before .before .before .pre .sizes-good, c .before .before .before .before .before .pre .few-points, index-set (sizesIn (s .s)) (s .root .now) (s .challenges .now) (s .points .now) (s .indices .now) (s .reply .now) (c .before .before .before .before .before .pre))
+    (c .before .before .before .before .before .pre .in-order, c .before .before .before .before .before .pre .few-points, index-set (sizesIn (s .s)) (s .root .now) (s .challenges .now) (s .points .now) (s .indices .now) (s .reply .now) (c .before .before .before .before .before .pre))
 
 returns : tie.Need-returns
 returns c =
@@ -44,7 +44,7 @@ read-verdict-requires c κs =
     let s = c .before .before .before .before .before .before .before .before .before .before .before .before .before .args in
     let whole : length (s .reply .now) ≡ replyLength (posed (sizesIn (s .s)) (s .root .now) (s .challenges .now) (s .points .now) (s .indices .now)) = c .before .before .before .before .before .before .if1 .left ∙ c .before .before .before .before .before .before .before .length-for .ensures in
     let w : width (sizesIn (s .s)) ≤ 32 = omega (arith, c .before .before .before .before .before .row-width .ensures, c .before .before .before .before .if2 .taken) in
-    let k : length (s .challenges .now) ≤ 4 = omega (arith, c .before .before .before .before .before .before .before .before .before .before .before .before .before .pre .repetitions, c .before .before .before .before .before .before .before .before .before .before .before .before .before .pre .sizes-good .η-high) in
+    let k : length (s .challenges .now) ≤ 4 = omega (arith, c .before .before .before .before .before .before .before .before .before .before .before .before .before .pre .repetitions, c .before .before .before .before .before .before .before .before .before .before .before .before .before .pre .in-order .η-high) in
     let g : width (sizesIn (s .s)) * length (s .challenges .now) ≤ 32 * 4 = mul-le-mul {n₂ = 32} {m₂ = 4} w k in
     let h : width (sizesIn (s .s)) * length (s .points .now) ≤ 32 * 8 = mul-le-mul {n₂ = 32} {m₂ = 8} w (c .before .before .before .before .before .before .before .before .before .before .before .before .before .pre .few-points) in
     let i : length (c .before .before .before .blank-short-batching .result) ≡ 128 = search needs in
@@ -67,8 +67,8 @@ read-verdict-requires-2 : tie.Need-read-verdict-requires-2
 read-verdict-requires-2 c κs =
     let s = c .before .before .before .before .before .before .before .before .before .before .before .before .before .args in
     let whole : length (s .reply .now) ≡ replyLength (posed (sizesIn (s .s)) (s .root .now) (s .challenges .now) (s .points .now) (s .indices .now)) = c .before .before .before .before .before .before .if1 .left ∙ c .before .before .before .before .before .before .before .length-for .ensures in
-    let w : width (sizesIn (s .s)) ≤ 320 = width-high (sizesIn (s .s)) (c .before .before .before .before .before .before .before .before .before .before .before .before .before .pre .sizes-good) in
-    let k : length (s .challenges .now) ≤ 4 = omega (arith, c .before .before .before .before .before .before .before .before .before .before .before .before .before .pre .repetitions, c .before .before .before .before .before .before .before .before .before .before .before .before .before .pre .sizes-good .η-high) in
+    let w : width (sizesIn (s .s)) ≤ 320 = width-high (sizesIn (s .s)) (c .before .before .before .before .before .before .before .before .before .before .before .before .before .pre .in-order) in
+    let k : length (s .challenges .now) ≤ 4 = omega (arith, c .before .before .before .before .before .before .before .before .before .before .before .before .before .pre .repetitions, c .before .before .before .before .before .before .before .before .before .before .before .before .before .pre .in-order .η-high) in
     let g : width (sizesIn (s .s)) * length (s .challenges .now) ≤ 320 * 4 = mul-le-mul {n₂ = 320} {m₂ = 4} w k in
     let h : width (sizesIn (s .s)) * length (s .points .now) ≤ 320 * 8 = mul-le-mul {n₂ = 320} {m₂ = 8} w (c .before .before .before .before .before .before .before .before .before .before .before .before .before .pre .few-points) in
     let i : length (c .before .before .before .blank-batching .result) ≡ 1280 = search needs in

@@ -16,7 +16,7 @@ record-length-requires : tie.Need-record-length-requires
 record-length-requires c κs = search needs
 
 record-values-requires : tie.Need-record-values-requires
-record-values-requires c κs = c .before .before .before .before .before .before .before .before .before .pre .0 .sizes-good
+record-values-requires c κs = c .before .before .before .before .before .before .before .before .before .pre .0 .in-order
 
 elements-read-requires : tie.Need-elements-read-requires
 elements-read-requires c κs =
@@ -39,7 +39,7 @@ reply-root-requires : tie.Need-reply-root-requires
 reply-root-requires c κs =
     let s = c .before .before .before .before .before .before .before .before .before .before .before .before .before .before .args in (
       index-set (sizesIn (s .s)) (s .root .now) (s .challenges .now) (s .points .now) (s .indices .now) (s .reply .now) (c .before .before .before .before .before .before .before .before .before .before .before .before .before .before .pre .0),
-      omega (arith, c .before .before .before .before .before .record-length .ensures, record-high (sizesIn (s .s)) (c .before .before .before .before .before .before .before .before .before .before .before .before .before .before .pre .0 .sizes-good)),
+      omega (arith, c .before .before .before .before .before .record-length .ensures, record-high (sizesIn (s .s)) (c .before .before .before .before .before .before .before .before .before .before .before .before .before .before .pre .0 .in-order)),
       root-fits (sizesIn (s .s)) (s .root .now) (s .challenges .now) (s .points .now) (s .indices .now) (s .reply .now) (c .before .before .before .before .before .before .before .before .before .before .before .before .before .before .pre .0) (c .before .before .before .before .before .before .before .before .before .before .before .before .before .before .pre .1 .whole) (c .before .before .before .before .before .before .records-at .result) (c .before .before .before .before .before .record-length .result) (c .before .before .before .before .before .before .records-at .ensures) (c .before .before .before .before .before .record-length .ensures),
     )
 
@@ -83,7 +83,7 @@ returns-3 c =
 
 leaf-count-requires : tie.Need-leaf-count-requires
 leaf-count-requires c κs =
-    c .before .before .before .before .before .before .before .before .before .before .before .before .before .before .before .before .before .before .before .before .before .before .pre .0 .sizes-good .h-high
+    c .before .before .before .before .before .before .before .before .before .before .before .before .before .before .before .before .before .before .before .before .before .before .pre .0 .in-order .h-high
 
 evaluation-ok-requires : tie.Need-evaluation-ok-requires
 evaluation-ok-requires c κs =

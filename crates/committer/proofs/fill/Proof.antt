@@ -1,7 +1,7 @@
 -- `committer::fill` meets its contract: the table, and the tree from it.
 use mathlib.Core.List.{List}
 use Prim.Native.Nat.{ℕ}
-use Rattle.scheme.proofs.Accepted.{good}
+use Rattle.scheme.proofs.Accepted.{sizes-in-order}
 use Rattle.commitment.specs.Shape.{sizesIn}
 use Rattle.committer.proofs.Filled.{evaluable, table-is, hashable, first-length, tree-is}
 use borrow.Author.Needs.{needs}
@@ -25,7 +25,7 @@ cast-fill-tree c = search needs
 
 leaf-count-requires : tie.Need-leaf-count-requires
 leaf-count-requires c κs =
-    good (sizesIn (c .before .before .before .before .before .before .before .before .before .before .before .before .before .before .before .before .args .s)) (c .before .before .before .before .before .before .before .before .before .before .before .before .before .before .before .before .pre .right .sizes) .h-high
+    sizes-in-order (sizesIn (c .before .before .before .before .before .before .before .before .before .before .before .before .before .before .before .before .args .s)) (c .before .before .before .before .before .before .before .before .before .before .before .before .before .before .before .before .pre .right .sizes) .h-high
 
 fill-tree-requires : tie.Need-fill-tree-requires
 fill-tree-requires c κs =

@@ -3,8 +3,8 @@ use mathlib.Core.Path.{_≡_, refl, sym, ap, _∙_, subst}
 use mathlib.Core.List.{List}
 use Prim.Native.Nat.{ℕ, _+_, _-_, _*_, _≤_, _<_}
 use lib.ListN.{length}
-use Rattle.scheme.specs.Sizes.{Sizes, leaves, recordValues}
-use Rattle.scheme.proofs.Accepted.{Good, good, leaves-high}
+use Rattle.scheme.specs.Sizes.{Sizes, SizesInOrder, leaves, recordValues}
+use Rattle.scheme.proofs.Accepted.{sizes-in-order, leaves-high}
 use Rattle.lists.specs.Parts.{row-fits}
 use Rattle.commitment.specs.Shape.{sizesIn}
 use Rattle.lent.proofs.Measures.{table-bound}
@@ -23,7 +23,7 @@ abbrev μ-loop : tie.MeasureT-loop
 μ-loop table nonces tree₀ n values index₀ tree index = n - index
 
 leaf-count-requires : tie.Need-leaf-count-requires Inv-loop μ-loop
-leaf-count-requires c κs = good (sizesIn (c .before .before .before .args .s)) (c .before .before .before .pre .sizes) .h-high
+leaf-count-requires c κs = sizes-in-order (sizesIn (c .before .before .before .args .s)) (c .before .before .before .pre .sizes) .h-high
 
 cast-values : tie.Need-cast-values Inv-loop μ-loop
 cast-values c = search needs
@@ -43,7 +43,7 @@ mul-from : tie.Need-mul-from Inv-loop μ-loop
 mul-from c =
     let s : Sizes = sizesIn (c .before .before .before .before .before .before .before .before .args .s) in
     let k : ℕ = recordValues s in
-    let g : Good s = good s (c .before .before .before .before .before .before .before .before .pre .sizes) in
+    let g : SizesInOrder s = sizes-in-order s (c .before .before .before .before .before .before .before .before .pre .sizes) in
     let e : c .before .before .before .before .leaf-count .result ≡ leaves s = c .before .before .before .before .leaf-count .ensures in
     let h : leaves s ≤ 4096 = leaves-high s g in
     let l : c .before .loop .index < leaves s = omega (arith, e, c .loop-test .taken) in
@@ -58,7 +58,7 @@ add-to : tie.Need-add-to Inv-loop μ-loop
 add-to c =
     let s : Sizes = sizesIn (c .before .before .before .before .before .before .before .before .args .s) in
     let k : ℕ = recordValues s in
-    let g : Good s = good s (c .before .before .before .before .before .before .before .before .pre .sizes) in
+    let g : SizesInOrder s = sizes-in-order s (c .before .before .before .before .before .before .before .before .pre .sizes) in
     let e : c .before .before .before .before .leaf-count .result ≡ leaves s = c .before .before .before .before .leaf-count .ensures in
     let h : leaves s ≤ 4096 = leaves-high s g in
     let l : c .before .loop .index < leaves s = omega (arith, e, c .loop-test .taken) in
@@ -73,7 +73,7 @@ mul-start : tie.Need-mul-start Inv-loop μ-loop
 mul-start c =
     let s : Sizes = sizesIn (c .before .before .before .before .before .before .before .before .args .s) in
     let k : ℕ = recordValues s in
-    let g : Good s = good s (c .before .before .before .before .before .before .before .before .pre .sizes) in
+    let g : SizesInOrder s = sizes-in-order s (c .before .before .before .before .before .before .before .before .pre .sizes) in
     let e : c .before .before .before .before .leaf-count .result ≡ leaves s = c .before .before .before .before .leaf-count .ensures in
     let h : leaves s ≤ 4096 = leaves-high s g in
     let l : c .before .loop .index < leaves s = omega (arith, e, c .loop-test .taken) in
@@ -88,7 +88,7 @@ add-end : tie.Need-add-end Inv-loop μ-loop
 add-end c =
     let s : Sizes = sizesIn (c .before .before .before .before .before .before .before .before .args .s) in
     let k : ℕ = recordValues s in
-    let g : Good s = good s (c .before .before .before .before .before .before .before .before .pre .sizes) in
+    let g : SizesInOrder s = sizes-in-order s (c .before .before .before .before .before .before .before .before .pre .sizes) in
     let e : c .before .before .before .before .leaf-count .result ≡ leaves s = c .before .before .before .before .leaf-count .ensures in
     let h : leaves s ≤ 4096 = leaves-high s g in
     let l : c .before .loop .index < leaves s = omega (arith, e, c .loop-test .taken) in
@@ -103,7 +103,7 @@ cast-t16 : tie.Need-cast-t16 Inv-loop μ-loop
 cast-t16 c =
     let s : Sizes = sizesIn (c .before .before .before .before .before .before .before .before .args .s) in
     let k : ℕ = recordValues s in
-    let g : Good s = good s (c .before .before .before .before .before .before .before .before .pre .sizes) in
+    let g : SizesInOrder s = sizes-in-order s (c .before .before .before .before .before .before .before .before .pre .sizes) in
     let e : c .before .before .before .before .leaf-count .result ≡ leaves s = c .before .before .before .before .leaf-count .ensures in
     let h : leaves s ≤ 4096 = leaves-high s g in
     let l : c .before .loop .index < leaves s = omega (arith, e, c .loop-test .taken) in
@@ -118,7 +118,7 @@ mul-hash-leaf : tie.Need-mul-hash-leaf Inv-loop μ-loop
 mul-hash-leaf c =
     let s : Sizes = sizesIn (c .before .before .before .before .before .before .before .before .args .s) in
     let k : ℕ = recordValues s in
-    let g : Good s = good s (c .before .before .before .before .before .before .before .before .pre .sizes) in
+    let g : SizesInOrder s = sizes-in-order s (c .before .before .before .before .before .before .before .before .pre .sizes) in
     let e : c .before .before .before .before .leaf-count .result ≡ leaves s = c .before .before .before .before .leaf-count .ensures in
     let h : leaves s ≤ 4096 = leaves-high s g in
     let l : c .before .loop .index < leaves s = omega (arith, e, c .loop-test .taken) in
@@ -139,7 +139,7 @@ part-hash-leaf-end : tie.Need-part-hash-leaf-end Inv-loop μ-loop
 part-hash-leaf-end c =
     let s : Sizes = sizesIn (c .before .before .before .before .before .before .before .before .args .s) in
     let k : ℕ = recordValues s in
-    let g : Good s = good s (c .before .before .before .before .before .before .before .before .pre .sizes) in
+    let g : SizesInOrder s = sizes-in-order s (c .before .before .before .before .before .before .before .before .pre .sizes) in
     let e : c .before .before .before .before .leaf-count .result ≡ leaves s = c .before .before .before .before .leaf-count .ensures in
     let h : leaves s ≤ 4096 = leaves-high s g in
     let l : c .before .loop .index < leaves s = omega (arith, e, c .loop-test .taken) in
@@ -160,7 +160,7 @@ part-hash-leaf-end-2 : tie.Need-part-hash-leaf-end-2 Inv-loop μ-loop
 part-hash-leaf-end-2 c =
     let s : Sizes = sizesIn (c .before .before .before .before .before .before .before .before .before .args .s) in
     let k : ℕ = recordValues s in
-    let g : Good s = good s (c .before .before .before .before .before .before .before .before .before .pre .sizes) in
+    let g : SizesInOrder s = sizes-in-order s (c .before .before .before .before .before .before .before .before .before .pre .sizes) in
     let e : c .before .before .before .before .before .leaf-count .result ≡ leaves s = c .before .before .before .before .before .leaf-count .ensures in
     let h : leaves s ≤ 4096 = leaves-high s g in
     let l : c .before .before .loop .index < leaves s = omega (arith, e, c .before .loop-test .taken) in
@@ -181,7 +181,7 @@ part-hash-leaf-end-3 : tie.Need-part-hash-leaf-end-3 Inv-loop μ-loop
 part-hash-leaf-end-3 c =
     let s : Sizes = sizesIn (c .before .before .before .before .before .before .before .before .before .before .args .s) in
     let k : ℕ = recordValues s in
-    let g : Good s = good s (c .before .before .before .before .before .before .before .before .before .before .pre .sizes) in
+    let g : SizesInOrder s = sizes-in-order s (c .before .before .before .before .before .before .before .before .before .before .pre .sizes) in
     let e : c .before .before .before .before .before .before .leaf-count .result ≡ leaves s = c .before .before .before .before .before .before .leaf-count .ensures in
     let h : leaves s ≤ 4096 = leaves-high s g in
     let l : c .before .before .before .loop .index < leaves s = omega (arith, e, c .before .before .loop-test .taken) in
@@ -197,7 +197,7 @@ hash-leaf-requires c κs =
     let args = c .before .before .before .before .before .before .before .before .before .before .before .args in
     let loop = c .before .before .before .before .loop in
     let s : Sizes = sizesIn (args .s) in
-    let g : Good s = good s (c .before .before .before .before .before .before .before .before .before .before .before .pre .sizes) in
+    let g : SizesInOrder s = sizes-in-order s (c .before .before .before .before .before .before .before .before .before .before .before .pre .sizes) in
     let k : ℕ = recordValues s in
     let e : c .before .before .before .before .before .before .before .leaf-count .result ≡ leaves s = c .before .before .before .before .before .before .before .leaf-count .ensures in
     let l : loop .index < leaves s = omega (arith, e, c .before .before .before .loop-test .taken) in

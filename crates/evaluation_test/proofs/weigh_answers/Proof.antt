@@ -5,8 +5,7 @@ use Prim.Native.Nat.{ℕ, _+_, _-_, _*_, _≤_}
 use lib.ListN.{length, drop}
 use borrow.Rule.Slice.PartMut.{same-len-mid}
 use Rattle.lists.specs.Parts.{row-fits}
-use Rattle.opened.specs.Rows.{rowsOf}
-use Rattle.opened.proofs.Rows.{rows-start, row-turn, part-length}
+use Rattle.lists.specs.Rows.{rowsOf, rows-start, row-turn, part-length}
 use Rattle.evaluation_test.specs.Evaluation.{weighedRow}
 use Rattle.evaluation_test.proofs.Evaluation.{length-weighedRow, weigh-turn}
 use borrow.Author.Needs.{needs}

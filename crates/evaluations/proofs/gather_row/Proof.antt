@@ -3,7 +3,7 @@ use mathlib.Core.List.{List, []}
 use Prim.Native.Nat.{ℕ}
 use lib.ListN.{length}
 use Rattle.scheme.specs.Layers.{Lent, lentOf}
-use Rattle.scheme.proofs.Accepted.{good}
+use Rattle.scheme.proofs.Accepted.{sizes-in-order}
 use Rattle.commitment.specs.Shape.{sizesIn}
 use Rattle.lent.proofs.Rows.{entries-there, tails-there}
 use Rattle.evaluations.proofs.Gathering.{row-lane, both-kept}
@@ -13,7 +13,7 @@ use Rattle.evaluations.proofs.gather_row.Statement.{statement}
 use Rattle.evaluations.proofs.gather_row.Tie as tie
 
 column-count-requires : tie.Need-column-count-requires
-column-count-requires c κs = good (sizesIn (c .before .before .before .args .s)) (c .before .before .before .pre .0 .sizes)
+column-count-requires c κs = sizes-in-order (sizesIn (c .before .before .before .args .s)) (c .before .before .before .pre .0 .sizes)
 
 cast-l : tie.Need-cast-l
 cast-l c = search needs

@@ -1,8 +1,8 @@
 -- `lent::filled_ok` meets its contract.
 use mathlib.Core.Path.{_≡_, sym, subst}
 use Prim.Native.Nat.{ℕ, _+_, _*_, _≤_, _<_}
-use Rattle.scheme.specs.Sizes.{Sizes, leaves}
-use Rattle.scheme.proofs.Accepted.{Good, good, leaves-high}
+use Rattle.scheme.specs.Sizes.{Sizes, SizesInOrder, leaves}
+use Rattle.scheme.proofs.Accepted.{sizes-in-order, leaves-high}
 use Rattle.commitment.specs.Shape.{sizesIn}
 use Rattle.lent.proofs.Measures.{filled-tests, table-bound, leaves-low}
 use borrow.Author.Needs.{needs}
@@ -10,7 +10,7 @@ use Rattle.lent.proofs.filled_ok.Statement.{statement}
 use Rattle.lent.proofs.filled_ok.Tie as tie
 
 leaf-count-requires : tie.Need-leaf-count-requires
-leaf-count-requires c κs = good (sizesIn (c .before .before .args .s)) (c .before .before .pre) .h-high
+leaf-count-requires c κs = sizes-in-order (sizesIn (c .before .before .args .s)) (c .before .before .pre) .h-high
 
 cast-values : tie.Need-cast-values
 cast-values c = search needs
@@ -24,7 +24,7 @@ add-values c = search needs
 mul-both : tie.Need-mul-both
 mul-both c =
     let s : Sizes = sizesIn (c .before .before .before .before .before .args .s) in
-    let g : Good s = good s (c .before .before .before .before .before .pre) in
+    let g : SizesInOrder s = sizes-in-order s (c .before .before .before .before .before .pre) in
     let e : c .before .before .leaf-count .result ≡ leaves s = c .before .before .leaf-count .ensures in
     let b : c .before .before .leaf-count .result * (s .μ + s .η) ≤ 278528 = subst (λ (k : ℕ). k * (s .μ + s .η) ≤ 278528) (sym e) (table-bound s g) in
     let h : leaves s ≤ 4096 = leaves-high s g in
@@ -34,7 +34,7 @@ mul-both c =
 mul-both-2 : tie.Need-mul-both-2
 mul-both-2 c =
     let s : Sizes = sizesIn (c .before .before .before .before .before .args .s) in
-    let g : Good s = good s (c .before .before .before .before .before .pre) in
+    let g : SizesInOrder s = sizes-in-order s (c .before .before .before .before .before .pre) in
     let e : c .before .before .leaf-count .result ≡ leaves s = c .before .before .leaf-count .ensures in
     let b : c .before .before .leaf-count .result * (s .μ + s .η) ≤ 278528 = subst (λ (k : ℕ). k * (s .μ + s .η) ≤ 278528) (sym e) (table-bound s g) in
     let h : leaves s ≤ 4096 = leaves-high s g in
@@ -44,7 +44,7 @@ mul-both-2 c =
 sub-both : tie.Need-sub-both
 sub-both c =
     let s : Sizes = sizesIn (c .before .before .before .before .before .args .s) in
-    let g : Good s = good s (c .before .before .before .before .before .pre) in
+    let g : SizesInOrder s = sizes-in-order s (c .before .before .before .before .before .pre) in
     let e : c .before .before .leaf-count .result ≡ leaves s = c .before .before .leaf-count .ensures in
     let b : c .before .before .leaf-count .result * (s .μ + s .η) ≤ 278528 = subst (λ (k : ℕ). k * (s .μ + s .η) ≤ 278528) (sym e) (table-bound s g) in
     let h : leaves s ≤ 4096 = leaves-high s g in
@@ -54,7 +54,7 @@ sub-both c =
 mul-both-3 : tie.Need-mul-both-3
 mul-both-3 c =
     let s : Sizes = sizesIn (c .before .before .before .before .before .args .s) in
-    let g : Good s = good s (c .before .before .before .before .before .pre) in
+    let g : SizesInOrder s = sizes-in-order s (c .before .before .before .before .before .pre) in
     let e : c .before .before .leaf-count .result ≡ leaves s = c .before .before .leaf-count .ensures in
     let b : c .before .before .leaf-count .result * (s .μ + s .η) ≤ 278528 = subst (λ (k : ℕ). k * (s .μ + s .η) ≤ 278528) (sym e) (table-bound s g) in
     let h : leaves s ≤ 4096 = leaves-high s g in

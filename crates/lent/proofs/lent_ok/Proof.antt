@@ -3,7 +3,7 @@ use mathlib.Core.Path.{_≡_, sym, subst}
 use Prim.Native.Nat.{ℕ, _*_, _≤_}
 use Rattle.scheme.specs.Sizes.{Sizes, columns, leaves, width}
 use Rattle.scheme.specs.Layers.{lentOf}
-use Rattle.scheme.proofs.Accepted.{good, leaves-high}
+use Rattle.scheme.proofs.Accepted.{sizes-in-order, leaves-high}
 use Rattle.commitment.specs.Shape.{sizesIn}
 use Rattle.lent.proofs.Measures.{lent-tests, coefficients-bound, tails-bound, masks-bound}
 use borrow.Author.Needs.{needs}
@@ -14,19 +14,19 @@ cast-mu : tie.Need-cast-mu
 cast-mu c = search needs
 
 column-count-requires : tie.Need-column-count-requires
-column-count-requires c κs = good _ (c .before .before .before .before .before .pre)
+column-count-requires c κs = sizes-in-order _ (c .before .before .before .before .before .pre)
 
 row-width-requires : tie.Need-row-width-requires
-row-width-requires c κs = good _ (c .before .before .before .before .before .before .pre)
+row-width-requires c κs = sizes-in-order _ (c .before .before .before .before .before .before .pre)
 
 leaf-count-requires : tie.Need-leaf-count-requires
-leaf-count-requires c κs = good (sizesIn (c .before .before .before .before .before .before .before .args .s)) (c .before .before .before .before .before .before .before .pre) .h-high
+leaf-count-requires c κs = sizes-in-order (sizesIn (c .before .before .before .before .before .before .before .args .s)) (c .before .before .before .before .before .before .before .pre) .h-high
 
 mul-c : tie.Need-mul-c
 mul-c c =
     let s : Sizes = sizesIn (c .before .before .before .before .before .before .before .before .args .s) in
     let e : c .before .before .column-count .result ≡ columns s = c .before .before .column-count .ensures in
-    let b : s .μ * c .before .before .column-count .result ≤ 16384 = subst (λ (k : ℕ). s .μ * k ≤ 16384) (sym e) (coefficients-bound s (good s (c .before .before .before .before .before .before .before .before .pre))) in
+    let b : s .μ * c .before .before .column-count .result ≤ 16384 = subst (λ (k : ℕ). s .μ * k ≤ 16384) (sym e) (coefficients-bound s (sizes-in-order s (c .before .before .before .before .before .before .before .before .pre))) in
     search needs
 
 cast-t : tie.Need-cast-t
@@ -35,7 +35,7 @@ cast-t c = search needs
 mul-t : tie.Need-mul-t
 mul-t c =
     let s : Sizes = sizesIn (c .before .before .before .before .before .before .before .before .before .args .s) in
-    let b : s .μ * s .ℓ ≤ 4096 = tails-bound s (good s (c .before .before .before .before .before .before .before .before .before .pre)) in
+    let b : s .μ * s .ℓ ≤ 4096 = tails-bound s (sizes-in-order s (c .before .before .before .before .before .before .before .before .before .pre)) in
     search needs
 
 cast-m : tie.Need-cast-m
@@ -45,14 +45,14 @@ mul-m : tie.Need-mul-m
 mul-m c =
     let s : Sizes = sizesIn (c .before .before .before .before .before .before .before .before .before .before .args .s) in
     let e : c .before .before .before .row-width .result ≡ width s = c .before .before .before .row-width .ensures in
-    let b : s .η * c .before .before .before .row-width .result ≤ 1280 = subst (λ (k : ℕ). s .η * k ≤ 1280) (sym e) (masks-bound s (good s (c .before .before .before .before .before .before .before .before .before .before .pre))) in
+    let b : s .η * c .before .before .before .row-width .result ≤ 1280 = subst (λ (k : ℕ). s .η * k ≤ 1280) (sym e) (masks-bound s (sizes-in-order s (c .before .before .before .before .before .before .before .before .before .before .pre))) in
     search needs
 
 mul-o : tie.Need-mul-o
 mul-o c =
     let s : Sizes = sizesIn (c .before .before .before .before .before .before .before .before .before .before .args .s) in
     let e : c .before .before .leaf-count .result ≡ leaves s = c .before .before .leaf-count .ensures in
-    let b : leaves s ≤ 4096 = leaves-high s (good s (c .before .before .before .before .before .before .before .before .before .before .pre)) in
+    let b : leaves s ≤ 4096 = leaves-high s (sizes-in-order s (c .before .before .before .before .before .before .before .before .before .before .pre)) in
     search needs
 
 both-requires : tie.Need-both-requires

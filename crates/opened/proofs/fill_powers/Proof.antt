@@ -4,8 +4,8 @@ use mathlib.Core.List.{List, _++_}
 use Prim.Native.Nat.{ℕ, _+_, _-_, _*_, _≤_}
 use lib.ListN.{length, drop}
 use borrow.Rule.Slice.PartMut.{same-len-mid}
-use Rattle.opened.specs.Rows.{rowsOf, powersAt}
-use Rattle.opened.proofs.Rows.{rows-start, row-turn, part-length}
+use Rattle.lists.specs.Rows.{rowsOf, rows-start, row-turn, part-length}
+use Rattle.opened.specs.Powers.{powersAt}
 use Rattle.lists.specs.Parts.{row-fits}
 use Rattle.opened.proofs.Powers.{length-powersAt, powers-is}
 use borrow.Author.Needs.{needs}

@@ -4,7 +4,7 @@ use mathlib.Core.Bool.{Bool, _&&_}
 use Prim.Native.Nat.{ℕ}
 use lib.Dec.{eqb}
 use lib.ListN.{length}
-use Rattle.scheme.proofs.Accepted.{good}
+use Rattle.scheme.proofs.Accepted.{sizes-in-order}
 use Rattle.opener.proofs.Order.{three}
 use borrow.Author.Needs.{needs}
 use Rattle.opener.proofs.lengths_ok.Statement.{statement}
@@ -18,7 +18,7 @@ filled-ok-requires c κs = search needs
 
 length-for-requires : tie.Need-length-for-requires
 length-for-requires c κs =
-    (good _ (c .before .before .before .before .before .before .before .before .before .before .pre .0), c .before .before .before .before .before .before .before .before .before .before .pre .1, c .before .before .before .before .before .before .before .before .before .before .pre .2)
+    (sizes-in-order _ (c .before .before .before .before .before .before .before .before .before .before .pre .0), c .before .before .before .before .before .before .before .before .before .before .pre .1, c .before .before .before .before .before .before .before .before .before .before .pre .2)
 
 both-requires : tie.Need-both-requires
 both-requires c κs = search needs

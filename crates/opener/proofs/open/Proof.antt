@@ -4,7 +4,7 @@ use native.Mathlib.Omega.{arith}
 use lib.ListN.{length}
 use Rattle.scheme.specs.Layers.{lentOf}
 use Rattle.scheme.specs.Question.{Question}
-use Rattle.scheme.proofs.Accepted.{good}
+use Rattle.scheme.proofs.Accepted.{sizes-in-order}
 use Rattle.commitment.proofs.Answer.{taken, asked-indices}
 use Rattle.opener.proofs.Given.{question-is}
 use Rattle.opener.proofs.Outcome.{question-refused, lent-refused, is-ready, replied}
@@ -35,7 +35,7 @@ question-indices-requires c κs =
 array-share-prefix-indices : tie.Need-array-share-prefix-indices
 array-share-prefix-indices c =
     let b : length (c .before .before .before .blank-indices .result) ≡ 64 = search needs in
-    omega (arith, good _ (taken (c .before .before .before .before .before .before .before .before .before .before .before .before .before .before .before .before .before .args .question .now) (c .before .before .before .before .before .before .s .given .0 .0) (c .before .before .before .before .before .before .s .given .0 .1 .0) (sym (c .before .before .before .before .before .before .before .before .ask .ensures) ∙ c .before .before .before .before .before .before .s .given .1) .sizes-ok) .ℓ-high, c .before .question-indices .kept .1 .1 .1 .0)
+    omega (arith, sizes-in-order _ (taken (c .before .before .before .before .before .before .before .before .before .before .before .before .before .before .before .before .before .args .question .now) (c .before .before .before .before .before .before .s .given .0 .0) (c .before .before .before .before .before .before .s .given .0 .1 .0) (sym (c .before .before .before .before .before .before .before .before .ask .ensures) ∙ c .before .before .before .before .before .before .s .given .1) .sizes-ok) .ℓ-high, c .before .question-indices .kept .1 .1 .1 .0)
 
 slice-aggregate-lent-verdict : tie.Need-slice-aggregate-lent-verdict
 slice-aggregate-lent-verdict c =
@@ -48,7 +48,7 @@ lent-verdict-requires c κs =
 array-share-prefix-indices-2 : tie.Need-array-share-prefix-indices-2
 array-share-prefix-indices-2 c =
     let b : length (c .before .before .before .before .before .before .before .blank-indices .result) ≡ 64 = search needs in
-    omega (arith, good _ (taken (c .before .before .before .before .before .before .before .before .before .before .before .before .before .before .before .before .before .before .before .before .before .args .question .now) (c .before .before .before .before .before .before .before .before .before .before .s .given .0 .0) (c .before .before .before .before .before .before .before .before .before .before .s .given .0 .1 .0) (sym (c .before .before .before .before .before .before .before .before .before .before .before .before .ask .ensures) ∙ c .before .before .before .before .before .before .before .before .before .before .s .given .1) .sizes-ok) .ℓ-high, c .before .before .before .before .before .question-indices .kept .1 .1 .1 .0)
+    omega (arith, sizes-in-order _ (taken (c .before .before .before .before .before .before .before .before .before .before .before .before .before .before .before .before .before .before .before .before .before .args .question .now) (c .before .before .before .before .before .before .before .before .before .before .s .given .0 .0) (c .before .before .before .before .before .before .before .before .before .before .s .given .0 .1 .0) (sym (c .before .before .before .before .before .before .before .before .before .before .before .before .ask .ensures) ∙ c .before .before .before .before .before .before .before .before .before .before .s .given .1) .sizes-ok) .ℓ-high, c .before .before .before .before .before .question-indices .kept .1 .1 .1 .0)
 
 slice-aggregate-write-reply : tie.Need-slice-aggregate-write-reply
 slice-aggregate-write-reply c =

@@ -6,9 +6,8 @@ use Rattle.scheme.specs.Sizes.{Sizes}
 use Rattle.scheme.specs.Reply.{recordLength}
 use Rattle.scheme.specs.Commit.{leafRecord}
 use Rattle.commitment.specs.Shape.{sizesIn}
-use Rattle.answers.specs.Answers.{written}
 use Rattle.opener.proofs.Records.{values-room, nonce-room, record-sized}
-use Rattle.answers.proofs.Writing.{upTo, upTo-none, upTo-all, upTo-room, upTo-turn}
+use Rattle.lists.specs.Spliced.{upTo, upTo-none, upTo-all, upTo-room, upTo-turn, spliced}
 use borrow.Author.Needs.{needs}
 use native.Mathlib.Omega.{arith}
 use Rattle.opener.proofs.put_records.Statement.{statement}

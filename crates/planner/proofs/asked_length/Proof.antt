@@ -2,7 +2,7 @@
 use mathlib.Core.Path.{_≡_, sym, ap, _∙_}
 use native.Mathlib.Omega.{arith}
 use lib.ListN.{length, take}
-use Rattle.scheme.proofs.Accepted.{good}
+use Rattle.scheme.proofs.Accepted.{sizes-in-order}
 use Rattle.commitment.specs.Shape.{sizesIn}
 use Rattle.commitment.proofs.Answer.{taken, asked-indices}
 use Rattle.planner.proofs.Sized.{can-size, length-is}
@@ -28,7 +28,7 @@ array-share-prefix-indices : tie.Need-array-share-prefix-indices
 array-share-prefix-indices c =
     let s = c .before .before .before .before .before .before .args in
     let b : length (c .before .before .before .blank-indices .result) ≡ 64 = search needs in
-    omega (arith, good (sizesIn (s .s)) (taken (s .question .now) (s .s) (s .m) (c .before .before .before .before .before .before .pre) .sizes-ok) .ℓ-high, c .before .question-indices .kept .1 .1 .1 .0)
+    omega (arith, sizes-in-order (sizesIn (s .s)) (taken (s .question .now) (s .s) (s .m) (c .before .before .before .before .before .before .pre) .sizes-ok) .ℓ-high, c .before .question-indices .kept .1 .1 .1 .0)
 
 slice-aggregate-length-for : tie.Need-slice-aggregate-length-for
 slice-aggregate-length-for c =
