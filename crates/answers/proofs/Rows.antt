@@ -31,7 +31,7 @@ module _ (t : Sizes) (coefficients tails : List ℕ) (can : CanCombine t coeffic
   ext = extendedRows t (lentOf coefficients tails [] [])
 
   g : SizesInOrder t
-  g = sizes-in-order t (can .extend .sizes)
+  g = can .extend .sizes
 
   -- masks and nonces matter to no row: zeros serve
   abbrev lent : Lent

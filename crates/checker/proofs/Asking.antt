@@ -21,10 +21,10 @@ use Rattle.scheme.specs.Commit.{after}
 use Rattle.scheme.specs.Check.{replyTests, checkValues, checkVerdict, checking}
 use Rattle.scheme.proofs.Accepted.{sizes-in-order, question-numbers}
 use Rattle.commitment.specs.Shape.{sizesIn}
-use Rattle.commitment.specs.Questioned.{questioned}
+use Rattle.question.specs.Questioned.{questioned}
 use Rattle.commitment.specs.declared.Shape.{Shape}
-use Rattle.commitment.specs.declared.Questioned.the-variants.{WellFormed, Refused}
-use Rattle.commitment.proofs.Answer.{well-asked, refused, Taken, taken}
+use Rattle.question.specs.declared.Questioned.the-variants.{WellFormed, Refused}
+use Rattle.question.proofs.Answer.{well-asked, refused, Taken, taken}
 use Rattle.checker.specs.Posed.{posed, Posed, Formed, checkingReply}
 
 -- ---- the lists

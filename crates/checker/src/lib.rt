@@ -17,7 +17,7 @@ ghost use Rattle.checker.specs.Posed.{posed, Posed, Read, Formed, laterT
 ghost use Rattle.lists.specs.Rows.{rowsOf};
 ghost use Rattle.checker.specs.Words.{recordElementsAt, leafDigestAt, rootAt, pointValues, valuesAt};
 use batching_test::batching_ok;
-use commitment::Questioned;
+use question::Questioned;
 use commitment::Shape;
 use commitment::answers_at;
 use commitment::record_length;
@@ -39,7 +39,7 @@ fn record_elements(at: usize, size: usize, n: usize, count: usize, reply: &[u8])
     for a in 0..count {
         let from = at + size * a;
         let to = from + size;
-        if !commitment::elements_in(&reply[from..to], 0, n) {
+        if !codec::elements_in(&reply[from..to], 0, n) {
             return false;
         }
     }
@@ -59,10 +59,10 @@ fn elements_read(
     requires { ⌜ (at + size * count ≤ length (now reply)) × (4 * n ≤ size) ⌝ }
     ensures { λ r. ⌜ r ≡ every (elements (now (batching .entry)) ∷ elements (now (answers .entry)) ∷ each count (recordElementsAt at size n (now (reply .entry))) ∷ []) ⌝ }
 {
-    if !commitment::elements_ok(batching) {
+    if !codec::elements_ok(batching) {
         return false;
     }
-    if !commitment::elements_ok(answers) {
+    if !codec::elements_ok(answers) {
         return false;
     }
     record_elements(at, size, n, count, reply)
@@ -135,7 +135,7 @@ fn all_values(
         let first = w * p;
         let last = first + w;
         let base = field::power(Element(points[p]), mu);
-        commitment::read_words(reply, at + size * p, answer.len(), answer);
+        codec::read_words(reply, at + size * p, answer.len(), answer);
         point_values(nu, base, answer, &mut values[first..last]);
     }
 }
@@ -157,7 +157,7 @@ fn fill_values(question: &[u8], s: Shape, m: usize, reply: &[u8], values: &mut [
 {
     let width = row_width(s);
     let mut points = blank_points();
-    commitment::read_words(question, 46 + 4 * s.eta as usize, m, &mut points);
+    codec::read_words(question, 46 + 4 * s.eta as usize, m, &mut points);
     let mut answer = blank_answer();
     all_values(
         s.mu as usize,
@@ -194,7 +194,7 @@ fn words_verdict(
         return 3;
     }
     let found = reply_root(s.h as usize, at, size, indices, reply);
-    if !commitment::same_bytes(&found, root) {
+    if !codec::same_bytes(&found, root) {
         return 8;
     }
     let width = row_width(s);
@@ -225,9 +225,9 @@ fn read_verdict(
 {
     let width = row_width(s);
     let b = width * challenges.len();
-    commitment::read_words(reply, 0, b, batching);
+    codec::read_words(reply, 0, b, batching);
     let a = width * points.len();
-    commitment::read_words(reply, answers_at(s), a, answers);
+    codec::read_words(reply, answers_at(s), a, answers);
     words_verdict(
         s,
         challenges,
@@ -316,11 +316,11 @@ fn asked_verdict(question: &[u8], s: Shape, m: usize, reply: &[u8]) -> u32
     let l = s.l as usize;
     let points_at = 46 + 4 * eta;
     let mut challenges = blank_challenges();
-    commitment::read_words(question, 46, eta, &mut challenges);
+    codec::read_words(question, 46, eta, &mut challenges);
     let mut points = blank_points();
-    commitment::read_words(question, points_at, m, &mut points);
-    let mut indices = commitment::blank_indices();
-    commitment::read_indices(question, points_at + 4 * m, l, &mut indices);
+    codec::read_words(question, points_at, m, &mut points);
+    let mut indices = question::blank_indices();
+    codec::read_halves(question, points_at + 4 * m, l, &mut indices);
     reply_verdict(
         s,
         &challenges[0..eta],
@@ -351,7 +351,7 @@ fn check_reply(question: &[u8], s: Shape, m: usize, reply: &[u8], values: &mut [
 pub fn check(question: &[u8], reply: &[u8], values: &mut [u32]) -> u32
     ensures { λ r. ⌜ (r, now (values .exit)) ≡ checking (now (question .entry)) (now (reply .entry)) (now (values .entry)) ⌝ }
 {
-    let asked = commitment::ask(question);
+    let asked = question::ask(question);
     match asked {
         Questioned::WellFormed(s, m) => check_reply(question, s, m as usize, reply, values),
         Questioned::Refused(v) => v,

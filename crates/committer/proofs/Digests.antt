@@ -1,20 +1,22 @@
 -- The record of a leaf, and the digests of all leaves.
-use mathlib.Core.Path.{_≡_, sym, ap, ap₂, _∙_}
+use mathlib.Core.Path.{_≡_, sym, ap, ap₂, _∙_, subst}
 use mathlib.Core.List.{List, _++_, map, flatten, append-assoc}
-use Prim.Native.Nat.{ℕ, _+_, _-_, _*_}
+use Prim.Native.Nat.{ℕ, _+_, _-_, _*_, _≤_, _<_}
 use native.Mathlib.Omega.{arith}
 use lib.ListN.{length, take, drop, length-append}
 use lib.Seq.{take-at}
 use Rattle.lists.specs.Bytes.{Bytes, bytesOf, length-bytesOf}
 use Rattle.lists.specs.Pieces.{piece}
 use Rattle.lists.specs.Range.{upFrom}
-use Rattle.sponge.specs.Digest.{digest}
-use Rattle.sponge.specs.Digest.{digest-length}
+use Rattle.sponge.specs.Digest.{digest, digest-length}
 use Rattle.tree.specs.Leaf.{leafString}
-use Rattle.scheme.specs.Sizes.{Sizes, leaves, recordValues}
+use Rattle.scheme.specs.Sizes.{Sizes, SizesInOrder, leaves, recordValues}
+use Rattle.scheme.proofs.Accepted.{leaves-high}
+use Rattle.lent.proofs.Measures.{table-bound}
+use Rattle.lists.specs.Parts.{row-fits, part-is}
 use Rattle.scheme.specs.Commit.{leafRecord, leafDigests}
-use Rattle.lent.proofs.Parts.{filledParts}
-use Rattle.committer.specs.Clauses.{digestOf}
+use Rattle.lists.specs.Rows.{rowsOf}
+use Rattle.committer.specs.Clauses.{Hashable, digestOf}
 
 -- values and then nonce, written to the front of a longer list
 module _ (values : List ℕ) (nonce old one two : Bytes) (at : ℕ) (ha : at ≡ 4 * length values) (hn : length nonce ≡ 32)
@@ -42,18 +44,38 @@ unfolding digestOf
 digestOf-length k table nonces i = digest-length (leafString i (bytesOf (piece k i table) ++ piece 32 i nonces))
 
 -- leaf i is hashed from its parts of the table and of the nonces
-pub digest-is : (k i a b c e : ℕ) (table nonces ys : List ℕ) → a ≡ k * i → b ≡ a + k → c ≡ 32 * i → e ≡ c + 32
-    → ys ≡ digest (leafString i (bytesOf (take (b - a) (drop a table)) ++ take (e - c) (drop c nonces))) → ys ≡ digestOf k table nonces i
+pub digest-is : (k i : ℕ) (table nonces ys : List ℕ)
+    → ys ≡ digest (leafString i (bytesOf (take (k * i + k - k * i) (drop (k * i) table)) ++ take (32 * i + 32 - 32 * i) (drop (32 * i) nonces))) → ys ≡ digestOf k table nonces i
 unfolding digestOf
-digest-is k i a b c e table nonces ys ha hb hc he h =
-    let m : b - a ≡ k = omega arith in
-    let n : e - c ≡ 32 = omega arith in
-    h ∙ ap₂ (λ (x y : ℕ). digest (leafString i (bytesOf (take x (drop y table)) ++ take (e - c) (drop c nonces)))) m ha
-    ∙ ap₂ (λ (x y : ℕ). digest (leafString i (bytesOf (piece k i table) ++ take x (drop y nonces)))) n hc
+digest-is k i table nonces ys h =
+    h ∙ ap₂ (λ (x y : List ℕ). digest (leafString i (bytesOf x ++ y))) (part-is k i table) (part-is 32 i nonces)
 
 -- all leaves hashed
 pub digests-done : (s : Sizes) (k i : ℕ) (table nonces old : List ℕ) → k ≡ recordValues s → i ≡ leaves s
-    → filledParts (digestOf k table nonces) 32 i old ≡ flatten (leafDigests s table nonces) ++ drop (32 * leaves s) old
-unfolding filledParts digestOf leafDigests leafRecord
+    → rowsOf (digestOf k table nonces) i ++ drop (32 * i) old ≡ flatten (leafDigests s table nonces) ++ drop (32 * leaves s) old
+unfolding rowsOf digestOf leafDigests leafRecord
 digests-done s k i table nonces old hk hi =
     ap₂ (λ (m n : ℕ). flatten (map (λ j. digest (leafString j (bytesOf (piece m j table) ++ piece 32 j nonces))) (upFrom 0 n)) ++ drop (32 * n) old) hk hi
+
+-- where leaf i of n stands: in the table, with k values a leaf, among the nonces and among the digests
+pub record LeafFits (k i : ℕ) (table nonces nodes : List ℕ) : Type 0 where
+  pub values : k * i + k ≤ length table
+  pub table-small : length table ≤ 278528
+  pub nonce : 32 * i + 32 ≤ length nonces
+  pub node : 32 * i + 32 ≤ length nodes
+  pub index-small : i < 4096
+  pub few-values : k ≤ 68
+
+pub leaf-fits : (s : Sizes) (table nonces nodes : List ℕ) (k n i : ℕ) → Hashable s table nonces nodes → k ≡ recordValues s → n ≡ leaves s → i < n → LeafFits k i table nonces nodes
+leaf-fits s table nonces nodes k n i h hk hn l =
+    let g : SizesInOrder s = h .sizes in
+    let m : i < leaves s = subst (λ (j : ℕ). i < j) hn l in
+    let e : length table ≡ leaves s * k = h .table-length ∙ ap (λ (j : ℕ). leaves s * j) (sym hk) in
+    record {
+      values = omega (arith, e, row-fits k i (leaves s) m);
+      table-small = omega (arith, h .table-length, table-bound s g);
+      nonce = omega (arith, h .nonces-length, m);
+      node = omega (arith, h .room, m);
+      index-small = omega (arith, m, leaves-high s g);
+      few-values = omega (arith, hk, g .μ-high, g .η-high);
+    }

@@ -38,7 +38,7 @@ module _ (s : Sizes) (coefficients tails masks nonces table nodes : List ℕ) (c
 
   pub evaluable : Evaluable s coefficients tails masks table
   evaluable = record {
-    extend = record { sizes = c .right .sizes; coefficients-length = r .c-length; tails-length = r .t-length };
+    extend = record { sizes = g; coefficients-length = r .c-length; tails-length = r .t-length };
     masks-length = r .m-length;
     table-length = lengths .0;
   }
@@ -52,7 +52,7 @@ module _ (s : Sizes) (coefficients tails masks nonces table nodes : List ℕ) (c
 
   pub hashable : (t : List ℕ) → t ≡ tableOf s l → Hashable s t nonces nodes
   hashable t e = record {
-    sizes = c .right .sizes;
+    sizes = g;
     table-length = ap length e ∙ table-length s l r;
     nonces-length = r .n-length;
     room = omega (arith, lengths .1, leaves-low s g);

@@ -7,9 +7,10 @@ use native.Mathlib.Omega.{arith}
 use borrow.Author.Tests.{not-true, not-false, ne-eqb}
 use Rattle.lists.specs.Choice.{pick}
 use Rattle.lists.specs.Tests.{every, verdictOf, verdict-hit, verdict-miss, passed, every-true, true-every}
-use Rattle.scheme.specs.Sizes.{Sizes, sizesOk}
+use Rattle.scheme.specs.Sizes.{Sizes, SizesInOrder, sizesOk}
 use Rattle.scheme.specs.Layers.{Lent}
 use Rattle.scheme.specs.Commit.{lentOk, filledOk, lentElements, commitTests, commitVerdict, tableOf, treeOf, after, committing}
+use Rattle.scheme.proofs.Accepted.{sizes-in-order}
 use Rattle.committer.specs.Clauses.{Committable}
 
 module _ (s : Sizes) (l : Lent) (table nodes : List ℕ) where
@@ -19,8 +20,8 @@ module _ (s : Sizes) (l : Lent) (table nodes : List ℕ) where
   refused-1 a ea na = sym (verdict-hit 1 (not (sizesOk s)) _ (ap not (sym ea) ∙ na))
 
   module _ (a : Bool) (ea : a ≡ sizesOk s) (na : not a ≡ false) where
-    pub sizes-passed : sizesOk s ≡ true
-    sizes-passed = sym ea ∙ not-false a na
+    pub sizes-passed : SizesInOrder s
+    sizes-passed = sizes-in-order s (sym ea ∙ not-false a na)
 
     one-passed : commitVerdict s l table nodes ≡ verdictOf ((2, not (every (lentOk s l ∷ filledOk s table nodes ∷ []))) ∷ (3, not (every (lentElements l))) ∷ [])
     unfolding commitVerdict commitTests

@@ -8,14 +8,14 @@ use Rattle.lists.specs.Bytes.{bytesOf}
 use Rattle.lists.specs.Pieces.{piece}
 use Rattle.sponge.specs.Digest.{digest}
 use Rattle.tree.specs.Leaf.{leafString}
-use Rattle.scheme.specs.Sizes.{Sizes, leaves, recordValues, sizesOk}
+use Rattle.scheme.specs.Sizes.{Sizes, SizesInOrder, leaves, recordValues}
 use Rattle.scheme.specs.Layers.{Lent}
 use Rattle.scheme.specs.Commit.{filledOk}
 use Rattle.scheme.specs.Honest.{WellLent}
 
 -- sizes in their ranges, a whole table, a nonce for each leaf, and room for the digest of each leaf
 pub record Hashable (s : Sizes) (table nonces nodes : List ℕ) : Type 0 where
-  pub sizes : sizesOk s ≡ true
+  pub sizes : SizesInOrder s
   pub table-length : length table ≡ leaves s * recordValues s
   pub nonces-length : length nonces ≡ 32 * leaves s
   pub room : 32 * leaves s ≤ length nodes

@@ -13,8 +13,9 @@ ghost use Rattle.commitment.specs.Shape.{sizesIn};
 ghost use Rattle.committer.specs.Clauses.{Hashable, Committable};
 use commitment::Shape;
 use commitment::leaf_count;
-use commitment::put_bytes;
-use commitment::put_words;
+use commitment::record_values;
+use codec::put_bytes;
+use codec::put_words;
 use commitment::sizes_ok;
 use evaluations::fill_table;
 use lent::filled_ok;
@@ -50,10 +51,9 @@ fn hash_leaves(s: Shape, table: &[u32], nonces: &[u8], tree: &mut [u8])
     ensures { λ _. ⌜ now (tree .exit) ≡ flatten (leafDigests (sizesIn s) (now (table .entry)) (now (nonces .entry))) ++ drop (32 * leaves (sizesIn s)) (now (tree .entry)) ⌝ }
 {
     let n = leaf_count(s.h);
-    let values = s.mu as usize + s.eta as usize;
-    let mut index = 0;
-    while index < n {
-        let from = index * values;
+    let values = record_values(s);
+    for index in 0..n {
+        let from = values * index;
         let to = from + values;
         let start = 32 * index;
         let end = start + 32;
@@ -63,7 +63,6 @@ fn hash_leaves(s: Shape, table: &[u32], nonces: &[u8], tree: &mut [u8])
             &nonces[start..end],
             &mut tree[start..end],
         );
-        index += 1;
     }
 }
 

@@ -1,4 +1,3 @@
 pub mod Measures
-pub mod Parts
 pub mod Rows
 pub mod Strides

@@ -9,8 +9,8 @@ use lib.Dec.{eqb}
 use lib.Pow.{pow-pos}
 use lib.ListN.{length}
 use Rattle.lists.specs.Choice.{and-right}
-use Rattle.lists.specs.Tests.{every}
-use Rattle.scheme.specs.Sizes.{Sizes, SizesInOrder, columns, leaves, width, recordValues, elements}
+use Rattle.lists.specs.Tests.{every, every-before, every-two, every-three}
+use Rattle.scheme.specs.Sizes.{Sizes, SizesInOrder, columns, rows, leaves, width, recordValues, elements}
 use Rattle.scheme.specs.Layers.{Lent}
 use Rattle.scheme.specs.Commit.{lentOk, filledOk}
 use Rattle.scheme.proofs.Accepted.{leaves-high}
@@ -31,38 +31,27 @@ module _ (s : Sizes) (g : SizesInOrder s) where
   pub leaves-low : 0 < leaves s
   leaves-low = pow-pos (s .h)
 
--- tests one after the other
-four : (a b c d r q p : Bool) → p ≡ c && d → q ≡ b && p → r ≡ a && q → r ≡ every (a ∷ b ∷ c ∷ d ∷ [])
-unfolding every
-four a b c d r q p e f g =
-    g ∙ ap (λ (x : Bool). a && x) (f ∙ ap (λ (x : Bool). b && x) (e ∙ ap (λ (x : Bool). c && x) (sym (and-right d))))
+-- ---- the tests, as the code makes them
 
-three : (a b c a′ b′ c′ r p : Bool) → a ≡ a′ → b ≡ b′ → c ≡ c′ → p ≡ b && c → r ≡ a && p → r ≡ every (a′ ∷ b′ ∷ c′ ∷ [])
-unfolding every
-three a b c a′ b′ c′ r p x y z e f = f ∙ ap₂ _&&_ x (e ∙ ap₂ _&&_ y (z ∙ sym (and-right c′)))
-
-two : (a b r : Bool) → r ≡ a && b → r ≡ every (a ∷ b ∷ [])
-unfolding every
-two a b r e = e ∙ ap (λ (x : Bool). a && x) (sym (and-right b))
-
-pub lent-tests : (s : Sizes) (l : Lent) (v k n : ℕ) (r q p : Bool) → v ≡ columns s → k ≡ width s → n ≡ leaves s
+pub lent-tests : (s : Sizes) (l : Lent) (v j k n : ℕ) (r q p : Bool) → v ≡ columns s → j ≡ rows s → k ≡ width s → n ≡ leaves s
     → p ≡ eqb (length (l .masks)) (s .η * k) && eqb (length (l .nonces)) (32 * n)
-    → q ≡ eqb (length (l .tails)) (s .μ * s .ℓ) && p
+    → q ≡ eqb (length (l .tails)) (j * s .ℓ) && p
     → r ≡ eqb (length (l .coefficients)) (s .μ * v) && q
     → r ≡ lentOk s l
 unfolding lentOk
-lent-tests s l v k n r q p hv hk hn e f h =
+lent-tests s l v j k n r q p hv hj hk hn e f h =
     let a : s .μ * v ≡ s .w * (s .μ * s .ν) = ap (λ (x : ℕ). s .μ * x) hv ∙ omega arith in
-    four _ _ _ _ r q p e f h
-    ∙ ap₂ (λ (x y : ℕ). every (eqb (length (l .coefficients)) x ∷ eqb (length (l .tails)) (s .μ * s .ℓ) ∷ eqb (length (l .masks)) (s .η * y) ∷ eqb (length (l .nonces)) (32 * n) ∷ [])) a hk
-    ∙ ap (λ (x : ℕ). every (eqb (length (l .coefficients)) (s .w * (s .μ * s .ν)) ∷ eqb (length (l .tails)) (s .μ * s .ℓ) ∷ eqb (length (l .masks)) (s .η * width s) ∷ eqb (length (l .nonces)) (32 * x) ∷ [])) hn
+    let c : Bool = eqb (length (l .coefficients)) (s .μ * v) in
+    every-before c r q (eqb (length (l .tails)) (j * s .ℓ) ∷ eqb (length (l .masks)) (s .η * k) ∷ eqb (length (l .nonces)) (32 * n) ∷ []) (every-three _ _ _ q p e f) h
+    ∙ ap₂ (λ (x y : ℕ). every (eqb (length (l .coefficients)) x ∷ eqb (length (l .tails)) (y * s .ℓ) ∷ eqb (length (l .masks)) (s .η * k) ∷ eqb (length (l .nonces)) (32 * n) ∷ [])) a hj
+    ∙ ap₂ (λ (x y : ℕ). every (eqb (length (l .coefficients)) (s .w * (s .μ * s .ν)) ∷ eqb (length (l .tails)) (rows s * s .ℓ) ∷ eqb (length (l .masks)) (s .η * x) ∷ eqb (length (l .nonces)) (32 * y) ∷ [])) hk hn
 
-pub filled-tests : (s : Sizes) (table tree : List ℕ) (n : ℕ) (r : Bool) → n ≡ leaves s
-    → r ≡ eqb (length table) (n * (s .μ + s .η)) && eqb (length tree) (32 * (2 * n - 1)) → r ≡ filledOk s table tree
+pub filled-tests : (s : Sizes) (table tree : List ℕ) (n k : ℕ) (r : Bool) → n ≡ leaves s → k ≡ recordValues s
+    → r ≡ eqb (length table) (n * k) && eqb (length tree) (32 * (2 * n - 1)) → r ≡ filledOk s table tree
 unfolding filledOk
-filled-tests s table tree n r hn e =
-    two _ _ r e ∙ ap (λ (x : ℕ). every (eqb (length table) (x * (s .μ + s .η)) ∷ eqb (length tree) (32 * (2 * x - 1)) ∷ [])) hn
+filled-tests s table tree n k r hn hk e =
+    every-two _ _ r e ∙ ap₂ (λ (x y : ℕ). every (eqb (length table) (x * y) ∷ eqb (length tree) (32 * (2 * x - 1)) ∷ [])) hn hk
 
 pub element-tests : (coefficients tails masks : List ℕ) (a b c r p : Bool) → a ≡ elements coefficients → b ≡ elements tails → c ≡ elements masks
     → p ≡ b && c → r ≡ a && p → r ≡ every (elements coefficients ∷ elements tails ∷ elements masks ∷ [])
-element-tests coefficients tails masks a b c r p x y z e f = three a b c (elements coefficients) (elements tails) (elements masks) r p x y z e f
+element-tests coefficients tails masks a b c r p x y z e f = every-three _ _ _ r p (e ∙ ap₂ _&&_ y z) (f ∙ ap (λ (t : Bool). t && p) x)

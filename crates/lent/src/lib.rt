@@ -1,22 +1,23 @@
 // What a committer or an opener is lent: the tests of its lengths and elements.
 ghost use mathlib.Core.Path.{_≡_};
-ghost use mathlib.Core.Bool.{true};
 ghost use mathlib.Core.List.{[]};
 ghost use Rattle.lists.specs.Tests.{every};
-ghost use Rattle.scheme.specs.Sizes.{sizesOk};
+ghost use Rattle.scheme.specs.Sizes.{SizesInOrder};
 ghost use Rattle.scheme.specs.Layers.{lentOf};
 ghost use Rattle.scheme.specs.Commit.{lentOk, filledOk, lentElements};
 ghost use Rattle.commitment.specs.Shape.{sizesIn};
 use commitment::Shape;
-use commitment::both;
+use codec::both;
 use commitment::column_count;
-use commitment::elements_ok;
+use codec::elements_ok;
 use commitment::leaf_count;
+use commitment::record_values;
+use commitment::row_count;
 use commitment::row_width;
 
 // Is each slice that is lent to be read of its length?
 pub fn lent_ok(s: Shape, coefficients: &[u32], tails: &[u32], masks: &[u32], nonces: &[u8]) -> bool
-    requires { ⌜ sizesOk (sizesIn s) ≡ true ⌝ }
+    requires { ⌜ SizesInOrder (sizesIn s) ⌝ }
     ensures { λ r. ⌜ r ≡ lentOk (sizesIn s) (lentOf (now (coefficients .entry)) (now (tails .entry)) (now (masks .entry)) (now (nonces .entry))) ⌝ }
 {
     let mu = s.mu as usize;
@@ -24,7 +25,7 @@ pub fn lent_ok(s: Shape, coefficients: &[u32], tails: &[u32], masks: &[u32], non
     let width = row_width(s);
     let n = leaf_count(s.h);
     let c = coefficients.len() == mu * columns;
-    let t = tails.len() == mu * s.l as usize;
+    let t = tails.len() == row_count(s) * s.l as usize;
     let m = masks.len() == s.eta as usize * width;
     let o = nonces.len() == 32 * n;
     both(c, both(t, both(m, o)))
@@ -32,12 +33,11 @@ pub fn lent_ok(s: Shape, coefficients: &[u32], tails: &[u32], masks: &[u32], non
 
 // Are the table and the tree of their lengths?
 pub fn filled_ok(s: Shape, table: &[u32], tree: &[u8]) -> bool
-    requires { ⌜ sizesOk (sizesIn s) ≡ true ⌝ }
+    requires { ⌜ SizesInOrder (sizesIn s) ⌝ }
     ensures { λ r. ⌜ r ≡ filledOk (sizesIn s) (now (table .entry)) (now (tree .entry)) ⌝ }
 {
     let n = leaf_count(s.h);
-    let values = s.mu as usize + s.eta as usize;
-    both(table.len() == n * values, tree.len() == 32 * (2 * n - 1))
+    both(table.len() == n * record_values(s), tree.len() == 32 * (2 * n - 1))
 }
 
 // Is each word that is lent to be read below q?

@@ -34,7 +34,7 @@ pub fn read_record(at: usize, size: usize, a: usize, reply: &[u8], values: &mut 
 {
     let from = at + size * a;
     let to = from + size;
-    commitment::read_words(&reply[from..to], 0, values.len(), values);
+    codec::read_words(&reply[from..to], 0, values.len(), values);
 }
 
 // The first n powers of each element, one row each.

@@ -23,10 +23,10 @@ use Rattle.scheme.specs.Open.{lengthsOk, openVerdict}
 use Rattle.scheme.proofs.Accepted.{sizes-in-order, well-formed}
 use Rattle.scheme.proofs.Opening.{lent-passed}
 use Rattle.commitment.specs.Shape.{sizesIn}
-use Rattle.commitment.specs.Questioned.{questioned}
+use Rattle.question.specs.Questioned.{questioned}
 use Rattle.commitment.specs.declared.Shape.{Shape}
-use Rattle.commitment.specs.declared.Questioned.the-variants.{WellFormed}
-use Rattle.commitment.proofs.Answer.{well-asked, taken, asked-indices}
+use Rattle.question.specs.declared.Questioned.the-variants.{WellFormed}
+use Rattle.question.proofs.Answer.{well-asked, taken, asked-indices}
 use Rattle.commitment.proofs.Places.{nodes-high, missing-high}
 use Rattle.opener.specs.Ready.{Ready}
 

@@ -16,10 +16,10 @@ use Rattle.scheme.specs.Commit.{lentOk, filledOk, lastDigest}
 use Rattle.scheme.specs.Open.{lengthsOk, wordsOk, rootOk, openVerdict}
 use Rattle.scheme.proofs.Opening.{verdict-0, verdict-2, verdict-3, verdict-8}
 use Rattle.commitment.specs.Shape.{sizesIn}
-use Rattle.commitment.specs.Questioned.{questioned}
+use Rattle.question.specs.Questioned.{questioned}
 use Rattle.commitment.specs.declared.Shape.{Shape}
-use Rattle.commitment.specs.declared.Questioned.the-variants.{WellFormed}
-use Rattle.commitment.proofs.Answer.{taken}
+use Rattle.question.specs.declared.Questioned.the-variants.{WellFormed}
+use Rattle.question.proofs.Answer.{taken}
 use Rattle.opener.proofs.Given.{asked, question-is}
 
 pub three : (a b c r p : Bool) → p ≡ b && c → r ≡ a && p → r ≡ every (a ∷ b ∷ c ∷ [])

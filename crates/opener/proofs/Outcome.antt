@@ -11,10 +11,10 @@ use Rattle.scheme.specs.Question.{Question, questionAt}
 use Rattle.scheme.specs.Reply.{replyLength}
 use Rattle.scheme.specs.Open.{replyOf, openVerdict, opening}
 use Rattle.commitment.specs.Shape.{sizesIn}
-use Rattle.commitment.specs.Questioned.{questioned}
+use Rattle.question.specs.Questioned.{questioned}
 use Rattle.commitment.specs.declared.Shape.{Shape}
-use Rattle.commitment.specs.declared.Questioned.the-variants.{WellFormed, Refused}
-use Rattle.commitment.proofs.Answer.{refused}
+use Rattle.question.specs.declared.Questioned.the-variants.{WellFormed, Refused}
+use Rattle.question.proofs.Answer.{refused}
 use Rattle.opener.specs.Ready.{Ready}
 use Rattle.scheme.proofs.Opening.{asked-verdict, opening-refused, opening-done}
 use Rattle.opener.proofs.Given.{question-is, exact, ready}

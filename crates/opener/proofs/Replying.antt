@@ -28,7 +28,7 @@ module _ (question : Bytes) (t : Sizes) (m : ℕ) (l : Lent) (table : List ℕ) 
   u = questionAt t m question
 
   g : SizesInOrder t
-  g = sizes-in-order t (ready .sizes)
+  g = ready .sizes
 
   r : LentFacts t l
   r = lent-facts t l (record { sizes = ready .sizes; lengths = ready .lengths; elements = ready .elements })

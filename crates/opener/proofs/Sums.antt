@@ -41,7 +41,7 @@ module _ (t : Sizes) (m : ℕ) (question : Bytes) (coefficients tails masks : Li
   es = extendedRows t (lentOf coefficients tails [] [])
 
   g : SizesInOrder t
-  g = sizes-in-order t (can .combine .extend .sizes)
+  g = can .combine .extend .sizes
 
   pub batchings-ask : (n first : ℕ) → n ≡ width t → first ≡ leaves t
       → CanCombine t coefficients tails × (n ≡ width t) × (first + n ≤ pointsEnd) × (length masks ≡ t .η * n) × (challengesAt + 4 * t .η ≤ length question) × (0 + 4 * n * t .η ≤ length o)

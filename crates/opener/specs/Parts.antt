@@ -1,6 +1,5 @@
 -- The parts of a reply, over the extended rows.
 use mathlib.Core.Path.{_≡_}
-use mathlib.Core.Bool.{true}
 use mathlib.Core.List.{List, _++_, map, flatten}
 use Prim.Native.Nat.{ℕ, _+_, _*_, _≤_}
 use lib.ListN.{length}
@@ -9,7 +8,7 @@ use Rattle.lists.specs.Bytes.{Bytes, bytesOf}
 use Rattle.lists.specs.Range.{upFrom}
 use Rattle.tree.specs.Sets.{missing, treeSize}
 use Rattle.tree.specs.Clauses.{IndexSet}
-use Rattle.scheme.specs.Sizes.{Sizes, leaves, width, recordValues, sizesOk}
+use Rattle.scheme.specs.Sizes.{Sizes, SizesInOrder, leaves, width, recordValues}
 use Rattle.scheme.specs.Question.{Question, questionLength}
 use Rattle.scheme.specs.Reply.{recordsAt, nodesAt}
 use Rattle.answers.specs.Answers.{CanCombine, batchingAt, answerAt}
@@ -22,7 +21,7 @@ pub record CanRecord (s : Sizes) (table : List ℕ) (nonces : Bytes) (indices : 
 
 -- the records and the missing nodes can be written: the indices are a set of ℓ leaves, with a record each, of a tree, and the reply has room
 pub record CanList (s : Sizes) (m : ℕ) (table : List ℕ) (nonces : Bytes) (indices : List ℕ) (nodes reply : Bytes) : Type 0 where
-  pub sizes : sizesOk s ≡ true
+  pub sizes : SizesInOrder s
   pub points : m ≤ 8
   pub recorded : CanRecord s table nonces indices
   pub count : length indices ≡ s .ℓ

@@ -13,10 +13,10 @@ use Rattle.scheme.specs.Sizing.{sizing}
 use Rattle.scheme.proofs.Accepted.{sizes-in-order}
 use Rattle.scheme.proofs.Opening.{sizing-is, sizing-refused}
 use Rattle.commitment.specs.Shape.{sizesIn}
-use Rattle.commitment.specs.Questioned.{questioned}
+use Rattle.question.specs.Questioned.{questioned}
 use Rattle.commitment.specs.declared.Shape.{Shape}
-use Rattle.commitment.specs.declared.Questioned.the-variants.{WellFormed, Refused}
-use Rattle.commitment.proofs.Answer.{well-asked, taken, refused, asked-indices}
+use Rattle.question.specs.declared.Questioned.the-variants.{WellFormed, Refused}
+use Rattle.question.proofs.Answer.{well-asked, taken, refused, asked-indices}
 
 module _ (b : Bytes) (s : Shape) (m : ℕ) (asked : questioned b ≡ WellFormed s m) where
   -- the indices x are the question's

@@ -9,15 +9,15 @@ ghost use Rattle.scheme.specs.Question.{readQuestion};
 ghost use Rattle.scheme.specs.Reply.{nodesAt, replyLength};
 ghost use Rattle.scheme.specs.Sizing.{sizing};
 ghost use Rattle.commitment.specs.Shape.{sizesIn};
-ghost use Rattle.commitment.specs.Questioned.{questioned};
-ghost use Rattle.commitment.specs.declared.Questioned.the-variants.{WellFormed};
+ghost use Rattle.question.specs.Questioned.{questioned};
+ghost use Rattle.question.specs.declared.Questioned.the-variants.{WellFormed};
 ghost use Rattle.planner.specs.Planned.{numberOf, lengthOf};
-use commitment::Questioned;
+use question::Questioned;
 use commitment::Shape;
-use commitment::ask;
-use commitment::blank_indices;
+use question::ask;
+use question::blank_indices;
 use commitment::nodes_at;
-use commitment::question_indices;
+use question::question_indices;
 use tree::count_missing;
 
 // The length of a reply that opens these leaves.

@@ -147,10 +147,9 @@ asked-indices b s m e =
     )
 
 -- read from their place into a room
-pub indices-read : (b : Bytes) (s : Shape) (m : ℕ) (room x : List ℕ) → questioned b ≡ WellFormed s m
-    → x ≡ halves (s .l) (drop (challengesAt + 4 * (s .eta + m)) b) ++ drop (s .l) room → take (s .l) x ≡ readQuestion b .indices
-indices-read b s m room x e f =
-    let t = taken b s m e in
-    let place : challengesAt + 4 * (s .eta + m) ≡ indicesAt (sizesIn s) m = omega arith in
-    let front : x ≡ readQuestion b .indices ++ drop (s .l) room = f ∙ ap (λ (n : ℕ). halves (s .l) (drop n b) ++ drop (s .l) room) place ∙ ap (λ (y : List ℕ). y ++ drop (s .l) room) (sym (t .indices)) in
+pub indices-read : (b : Bytes) (s : Shape) (m : ℕ) (room x : List ℕ) (at : ℕ) → questioned b ≡ WellFormed s m → at ≡ indicesAt (sizesIn s) m
+    → x ≡ halves (s .l) (drop at b) ++ drop (s .l) room → take (s .l) x ≡ readQuestion b .indices
+indices-read b s m room x at e k f =
+    let front : x ≡ readQuestion b .indices ++ drop (s .l) room =
+    f ∙ ap (λ (n : ℕ). halves (s .l) (drop n b) ++ drop (s .l) room) k ∙ ap (λ (y : List ℕ). y ++ drop (s .l) room) (sym (taken b s m e .indices)) in
     ap (take (s .l)) front ∙ take-at (readQuestion b .indices) (drop (s .l) room) (s .l) (asked-indices b s m e .0)

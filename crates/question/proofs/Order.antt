@@ -10,6 +10,7 @@ use Rattle.lists.specs.Bytes.{Bytes}
 use Rattle.lists.specs.Tests.{Test, verdictOf, verdict-go, verdict-stop}
 use Rattle.scheme.specs.Sizes.{elements}
 use Rattle.scheme.specs.Question.{readQuestion, headerTests, headerSizes, headerPoints, questionTests, questionVerdict, challengesAt, indicesAt, questionLength}
+use Rattle.commitment.specs.Shape.{sizesIn}
 use Rattle.question.specs.Questioned.{headerShape, headed, questioned, answered}
 use Rattle.commitment.specs.declared.Shape.{Shape}
 use Rattle.question.specs.declared.Questioned.the-variants.{WellFormed, Refused}
@@ -17,16 +18,12 @@ use Rattle.lists.specs.Numbers.{numbers, numbers-more}
 use Rattle.lists.specs.Scan.{placed}
 use Rattle.question.proofs.Answer.{header-numbers, well-headed, header-refused}
 
--- where the indices begin
-abbrev pub indicesFrom : Shape → ℕ → ℕ
-indicesFrom s m = challengesAt + 4 * (s .eta + m)
-
 -- the tests after the header's: all words of the question are tested in one walk
 abbrev pub bodyTests : Shape → ℕ → Bytes → List Test
 bodyTests s m b =
-    (6, not (eqb (length b) (indicesFrom s m + 2 * s .l)))
+    (6, not (eqb (length b) (questionLength (sizesIn s) m)))
     ∷ (3, not (elements (numbers 4 (s .eta + m) challengesAt b)))
-    ∷ (4, not (placed (2 ^ s .h) (numbers 2 (s .l) (indicesFrom s m) b)))
+    ∷ (4, not (placed (2 ^ s .h) (numbers 2 (s .l) (indicesAt (sizesIn s) m) b)))
     ∷ []
 
 body-tests : (b : Bytes) → questionTests b ≡ headerTests b ++ bodyTests (headerShape b) (headerPoints b) b
@@ -34,12 +31,8 @@ unfolding questionTests readQuestion
 body-tests b =
     let s : Shape = headerShape b in
     let m : ℕ = headerPoints b in
-    let long : questionLength (headerSizes b) m ≡ indicesFrom s m + 2 * s .l = omega arith in
-    let from : indicesAt (headerSizes b) m ≡ indicesFrom s m = omega arith in
-    ap (λ (ts : List Test). headerTests b ++ ts)
-    (ap₂ (λ (n : ℕ) (ts : List Test). (6, not (eqb (length b) n)) ∷ ts) long
-    (ap₂ (λ (xs : List ℕ) (ts : List Test). (3, not (elements xs)) ∷ ts) (sym (numbers-more 4 (s .eta) m challengesAt b))
-    (ap (λ (at : ℕ). (4, not (placed (2 ^ s .h) (numbers 2 (s .l) at b))) ∷ []) from)))
+    ap (λ (xs : List ℕ). headerTests b ++ ((6, not (eqb (length b) (questionLength (sizesIn s) m))) ∷ (3, not (elements xs)) ∷ (4, not (placed (2 ^ s .h) (numbers 2 (s .l) (indicesAt (sizesIn s) m) b))) ∷ []))
+    (sym (numbers-more 4 (s .eta) m challengesAt b))
 
 -- after a header that is taken, the body's tests decide
 pub body-decides : (b : Bytes) (s : Shape) (m : ℕ) → headed b ≡ WellFormed s m → questionVerdict b ≡ verdictOf (bodyTests s m b)

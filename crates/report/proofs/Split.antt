@@ -22,10 +22,10 @@ use Rattle.scheme.specs.Program.{inputLimit, headerVerdict, questionPart, reply
 use Rattle.scheme.proofs.Accepted.{sizes-in-order}
 use Rattle.scheme.proofs.Replies.{header-sizes}
 use Rattle.commitment.specs.Shape.{sizesIn}
-use Rattle.commitment.specs.Questioned.{headed}
+use Rattle.question.specs.Questioned.{headed}
 use Rattle.commitment.specs.declared.Shape.{Shape}
-use Rattle.commitment.specs.declared.Questioned.the-variants.{WellFormed, Refused}
-use Rattle.commitment.proofs.Answer.{well-headed, header-refused}
+use Rattle.question.specs.declared.Questioned.the-variants.{WellFormed, Refused}
+use Rattle.question.proofs.Answer.{well-headed, header-refused}
 use Rattle.report.specs.Written.{written, checkedText}
 use Rattle.report.proofs.Text.{text-refused}
 use Rattle.commitment.proofs.Places.{buffer-high}

@@ -6,14 +6,14 @@ ghost use lib.ListN.{length};
 ghost use Rattle.scheme.specs.Question.{questionLength};
 ghost use Rattle.scheme.specs.Program.{inputLimit, decimal, valueLine, valueLines, text, printed};
 ghost use Rattle.commitment.specs.Shape.{sizesIn};
-ghost use Rattle.commitment.specs.Questioned.{headed};
-ghost use Rattle.commitment.specs.declared.Questioned.the-variants.{WellFormed};
+ghost use Rattle.question.specs.Questioned.{headed};
+ghost use Rattle.question.specs.declared.Questioned.the-variants.{WellFormed};
 ghost use Rattle.report.specs.Written.{written, overwritten, pointLines, checkedText};
 use checker::check;
-use commitment::Questioned;
+use question::Questioned;
 use commitment::Shape;
-use commitment::header;
-use commitment::put_bytes;
+use question::header;
+use codec::put_bytes;
 
 // Each of these writes some bytes from place `at` on, and returns the place after them.
 fn put_byte(out: &mut [u8], at: usize, x: u8) -> usize

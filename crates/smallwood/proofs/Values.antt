@@ -19,10 +19,10 @@ use Rattle.scheme.specs.Check.{checkVerdict, checkValues, replyTests, checking,
 use Rattle.scheme.proofs.Accepted.{well-formed, question-numbers}
 use Rattle.commitment.specs.Shape.{sizesIn}
 use Rattle.commitment.proofs.Places.{buffer-high}
-use Rattle.commitment.specs.Questioned.{questioned}
+use Rattle.question.specs.Questioned.{questioned}
 use Rattle.commitment.specs.declared.Shape.{Shape}
-use Rattle.commitment.specs.declared.Questioned.the-variants.{WellFormed, Refused}
-use Rattle.commitment.proofs.Answer.{well-asked, refused}
+use Rattle.question.specs.declared.Questioned.the-variants.{WellFormed, Refused}
+use Rattle.question.proofs.Answer.{well-asked, refused}
 use Rattle.smallwood.specs.InBytes.{inBytes}
 
 -- ---- words written as bytes

@@ -9,9 +9,9 @@ ghost use Rattle.scheme.specs.Sizing.{sizingC};
 ghost use Rattle.scheme.specs.Open.{openingC};
 ghost use Rattle.scheme.specs.Check.{checking, checkingC};
 ghost use Rattle.smallwood.specs.InBytes.{inBytes};
-use commitment::Questioned;
-use commitment::ask;
-use commitment::put_words;
+use question::Questioned;
+use question::ask;
+use codec::put_words;
 use opener::Opened;
 use planner::Planned;
 

@@ -14,7 +14,7 @@ cast-mu : tie.Need-cast-mu
 cast-mu c = search needs
 
 column-count-requires : tie.Need-column-count-requires
-column-count-requires c κs = sizes-in-order _ (c .before .before .before .before .pre .0 .extend .sizes)
+column-count-requires c κs = c .before .before .before .before .pre .0 .extend .sizes
 
 blank-weights-requires : tie.Need-blank-weights-requires
 blank-weights-requires c κs = search needs

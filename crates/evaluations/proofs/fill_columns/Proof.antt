@@ -20,7 +20,7 @@ fill-rows-requires c κs =
 fill-masks-requires : tie.Need-fill-masks-requires
 fill-masks-requires c κs =
     let a = c .before .before .before .before .before .before .before .before .before .before .before .before .before .before .before .before .before .before .before .before .before .args in let pre = c .before .before .before .before .before .before .before .before .before .before .before .before .before .before .before .before .before .before .before .before .before .pre in (
-      sizes-in-order (sizesIn (a .s)) (pre .0 .extend .sizes),
+      pre .0 .extend .sizes,
       pre .0 .masks-length,
       pre .1,
       record { points = omega (arith, pre .2 .points, c .before .before .before .before .before .before .before .before .before .before .fill-rows .kept .1 .1 .1 .0); orders = omega (arith, pre .2 .orders, c .before .before .before .before .before .before .before .before .before .before .fill-rows .kept .1 .1 .1 .1 .0); small = c .before .before .before .before .before .before .before .before .before .before .fill-rows .ensures .0 },
@@ -43,7 +43,7 @@ returns : tie.Need-returns
 returns c =
     let a = c .before .before .before .before .before .before .before .before .before .before .before .before .before .before .before .before .before .before .before .before .before .before .before .before .before .before .before .before .before .before .args in let pre = c .before .before .before .before .before .before .before .before .before .before .before .before .before .before .before .before .before .before .before .before .before .before .before .before .before .before .before .before .before .before .pre in
     let S : Sizes = sizesIn (a .s) in
-    let g : SizesInOrder S = sizes-in-order S (pre .0 .extend .sizes) in
+    let g : SizesInOrder S = pre .0 .extend .sizes in
     let t₁ : List ℕ = c .before .before .before .before .before .before .before .before .before .before .before .before .before .before .before .before .before .before .before .fill-rows .last .1 .1 .1 .1 .1 .0 in
     let t₂ : List ℕ = c .before .before .before .before .before .before .before .before .fill-masks .last .1 .1 .1 .1 .1 .0 in
     table-filled S (lentOf (a .coefficients .now) (a .tails .now) (a .masks .now) []) t₁ t₂ (g .η-low) (columns-lent S (a .coefficients .now) (a .tails .now) (a .masks .now) t₁ (c .before .before .before .before .before .before .before .before .before .before .before .before .before .before .before .before .before .before .before .fill-rows .ensures .1)) (c .before .before .before .before .before .before .before .before .fill-masks .ensures .0) (c .before .before .before .before .before .before .before .before .fill-masks .ensures .1) (c .before .before .before .before .before .before .before .before .fill-masks .kept .1 .1 .1 .1 .1 .0 ∙ c .before .before .before .before .before .before .before .before .before .before .before .before .before .before .before .before .before .before .before .fill-rows .kept .1 .1 .1 .1 .1 .0 ∙ pre .0 .table-length)

@@ -24,13 +24,13 @@ abbrev μ-loop : tie.MeasureT-loop
 μ-loop s coefficients tails values₀ lines₀ table₀ n width stride mu lo₀ values lines table lo = mu - lo
 
 leaf-count-requires : tie.Need-leaf-count-requires Inv-loop μ-loop
-leaf-count-requires c κs = sizes-in-order (sizesIn (c .before .before .before .before .before .args .s)) (c .before .before .before .before .before .pre .0 .sizes) .h-high
+leaf-count-requires c κs = c .before .before .before .before .before .pre .0 .sizes .h-high
 
 row-width-requires : tie.Need-row-width-requires Inv-loop μ-loop
-row-width-requires c κs = sizes-in-order (sizesIn (c .before .before .before .before .before .before .args .s)) (c .before .before .before .before .before .before .pre .0 .sizes)
+row-width-requires c κs = c .before .before .before .before .before .before .pre .0 .sizes
 
 record-values-requires : tie.Need-record-values-requires Inv-loop μ-loop
-record-values-requires c κs = sizes-in-order (sizesIn (c .before .before .before .before .before .before .before .args .s)) (c .before .before .before .before .before .before .before .pre .0 .sizes)
+record-values-requires c κs = c .before .before .before .before .before .before .before .pre .0 .sizes
 
 cast-mu : tie.Need-cast-mu Inv-loop μ-loop
 cast-mu c = search needs
@@ -54,7 +54,7 @@ gather-rows-requires c κs =
 extrapolate-requires : tie.Need-extrapolate-requires Inv-loop μ-loop
 extrapolate-requires c κs =
     let a = c .before .before .before .before .before .before .before .before .before .before .before .before .before .before .before .before .before .before .before .args in let loop = c .before .before .before .before .before .before .before .before .before .loop in let pre = c .before .before .before .before .before .before .before .before .before .before .before .before .before .before .before .before .before .before .before .pre in
-    let g = sizes-in-order (sizesIn (a .s)) (pre .0 .sizes) in
+    let g = pre .0 .sizes in
     extrapolation-asked (sizesIn (a .s)) g (c .before .before .before .before .before .before .before .before .before .before .before .before .before .leaf-count .result) (c .before .before .before .before .before .before .before .before .before .before .before .before .row-width .result) (c .before .before .before .before .before .before .before .before .before .before .before .record-values .result) (c .before .before .before .before .before .before .before .before .before .before .before .before .before .leaf-count .ensures) (c .before .before .before .before .before .before .before .before .before .before .before .before .row-width .ensures) (c .before .before .before .before .before .before .before .before .before .before .before .record-values .ensures) (loop .lo) (c .before .before .before .before .before .before .before .least .result) (c .before .before .before .before .before .gather-rows .last .1 .1 .1 .1 .1 .0) (loop .lines) (loop .table) (c .before .before .before .before .before .before .before .least .ensures .0) (omega (arith, loop .inv .0, loop .inv .1, c .before .before .before .before .before .before .before .least .ensures .1, c .before .before .before .before .before .before .before .before .loop-test .taken)) (omega (arith, pre .1 .points, loop .inv .2, c .before .before .before .before .before .gather-rows .kept .1 .1 .1 .1 .1 .0)) (omega (arith, pre .1 .orders, loop .inv .3)) (loop .inv .5) (loop .inv .4 ∙ pre .2)
 
 add-lo : tie.Need-add-lo Inv-loop μ-loop
@@ -75,7 +75,7 @@ loop-again c =
     let a = c .before .before .before .before .before .before .before .before .before .before .before .before .before .before .before .before .before .before .before .before .before .before .before .before .before .before .args in let loop = c .before .before .before .before .before .before .before .before .before .before .before .before .before .before .before .before .loop in let pre = c .before .before .before .before .before .before .before .before .before .before .before .before .before .before .before .before .before .before .before .before .before .before .before .before .before .before .pre in
     let S : Sizes = sizesIn (a .s) in
     let L : Lent = lentOf (a .coefficients .now) (a .tails .now) [] [] in
-    let g = sizes-in-order S (pre .0 .sizes) in
+    let g = pre .0 .sizes in
     let e : loop .lo + c .before .before .before .before .before .before .before .before .before .before .before .before .before .before .least .result ≤ a .s .mu = omega (arith, loop .inv .0, loop .inv .1, c .before .before .before .before .before .before .before .before .before .before .before .before .before .before .least .ensures .1, c .before .before .before .before .before .before .before .before .before .before .before .before .before .before .before .loop-test .taken) in
     let v : List ℕ = c .before .before .before .before .before .before .before .before .before .before .before .before .gather-rows .last .1 .1 .1 .1 .1 .0 in
     let t : List ℕ = c .before .before .before .before .before .before .extrapolate .last .1 .1 .1 .1 .1 .1 .1 .0 in (
@@ -103,7 +103,7 @@ returns c =
     let S : Sizes = sizesIn (a .s) in
     let L : Lent = lentOf (a .coefficients .now) (a .tails .now) [] [] in
     let e : loop .lo ≡ a .s .mu = omega (arith, loop .inv .0, c .loop-test .left) in
-    (loop .inv .5, row-columns S (sizes-in-order S (pre .0 .sizes)) (c .before .before .before .before .before .leaf-count .result) (c .before .before .before .before .row-width .result) (c .before .before .before .record-values .result) (c .before .before .before .before .before .leaf-count .ensures) (c .before .before .before .before .row-width .ensures) (c .before .before .before .record-values .ensures) L (rows S) (loop .table) (subst (λ (k : ℕ). Columns (rowPolynomial S L) k (c .before .before .before .before .before .leaf-count .result) 0 (c .before .before .before .record-values .result) (loop .table)) e (loop .inv .6)))
+    (loop .inv .5, row-columns S (pre .0 .sizes) (c .before .before .before .before .before .leaf-count .result) (c .before .before .before .before .row-width .result) (c .before .before .before .record-values .result) (c .before .before .before .before .before .leaf-count .ensures) (c .before .before .before .before .row-width .ensures) (c .before .before .before .record-values .ensures) L (rows S) (loop .table) (subst (λ (k : ℕ). Columns (rowPolynomial S L) k (c .before .before .before .before .before .leaf-count .result) 0 (c .before .before .before .record-values .result) (loop .table)) e (loop .inv .6)))
 
 pub fill-rows-spec : {M : Type 1} → statement M
 fill-rows-spec =

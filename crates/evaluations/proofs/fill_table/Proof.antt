@@ -11,7 +11,7 @@ use Rattle.evaluations.proofs.fill_table.Statement.{statement}
 use Rattle.evaluations.proofs.fill_table.Tie as tie
 
 row-width-requires : tie.Need-row-width-requires
-row-width-requires c κs = sizes-in-order (sizesIn (c .before .before .before .before .args .s)) (c .before .before .before .before .pre .extend .sizes)
+row-width-requires c κs = c .before .before .before .before .pre .extend .sizes
 
 blank-few-weights-requires : tie.Need-blank-few-weights-requires
 blank-few-weights-requires c κs = search needs
@@ -61,7 +61,7 @@ slice-aggregate-fill-columns-6 c = search needs
 fill-columns-requires-2 : tie.Need-fill-columns-requires-2
 fill-columns-requires-2 c κs =
     let a = c .before .before .before .before .before .before .before .before .before .before .before .before .before .args in
-    let g = sizes-in-order (sizesIn (a .s)) (c .before .before .before .before .before .before .before .before .before .before .before .before .before .pre .extend .sizes) in
+    let g = c .before .before .before .before .before .before .before .before .before .before .before .before .before .pre .extend .sizes in
     let w : width (sizesIn (a .s)) ≤ 320 = omega (arith, g .columns-high, g .ℓ-high) in
     let l : length (c .before .before .before .before .before .before .blank-weights .result) ≡ 320 = search needs in
     let m : length (c .before .before .before .before .before .blank-values .result) ≡ 1280 = search needs in

@@ -13,7 +13,7 @@ use Rattle.evaluations.proofs.gather_row.Statement.{statement}
 use Rattle.evaluations.proofs.gather_row.Tie as tie
 
 column-count-requires : tie.Need-column-count-requires
-column-count-requires c κs = sizes-in-order (sizesIn (c .before .before .before .args .s)) (c .before .before .before .pre .0 .sizes)
+column-count-requires c κs = c .before .before .before .pre .0 .sizes
 
 cast-l : tie.Need-cast-l
 cast-l c = search needs

@@ -5,7 +5,7 @@ use Rattle.lists.specs.Tests.{every-true}
 use Rattle.tree.specs.Clauses.{IndexSet}
 use Rattle.scheme.specs.Layers.{lentOf}
 use Rattle.commitment.specs.Shape.{sizesIn}
-use Rattle.commitment.proofs.Answer.{asked-indices}
+use Rattle.question.proofs.Answer.{asked-indices}
 use Rattle.opener.proofs.Given.{sizes-ok, points-few, long, root-room}
 use Rattle.opener.proofs.Order.{says-0, says-2, says-3, says-8}
 use borrow.Author.Needs.{needs}

@@ -5,7 +5,7 @@ use lib.ListN.{length}
 use Rattle.scheme.specs.Layers.{lentOf}
 use Rattle.scheme.specs.Question.{Question}
 use Rattle.scheme.proofs.Accepted.{sizes-in-order}
-use Rattle.commitment.proofs.Answer.{taken, asked-indices}
+use Rattle.question.proofs.Answer.{taken, asked-indices}
 use Rattle.opener.proofs.Given.{question-is}
 use Rattle.opener.proofs.Outcome.{question-refused, lent-refused, is-ready, replied}
 use borrow.Author.Needs.{needs}

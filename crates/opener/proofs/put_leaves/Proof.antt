@@ -11,7 +11,7 @@ use Rattle.scheme.proofs.Accepted.{sizes-in-order}
 use Rattle.opener.proofs.put_leaves.Tie as tie
 
 records-at-requires : tie.Need-records-at-requires
-records-at-requires c κs = (sizes-in-order _ (c .before .before .before .before .before .pre .sizes), c .before .before .before .before .before .pre .points)
+records-at-requires c κs = ((c .before .before .before .before .before .pre .sizes), c .before .before .before .before .before .pre .points)
 
 put-records-requires : tie.Need-put-records-requires
 put-records-requires c κs =
@@ -19,7 +19,7 @@ put-records-requires c κs =
     records-ask (sizesIn (s .s)) (s .m) (s .table .now) (s .nonces .now) (s .indices .now) (s .tree .now) (s .reply .now) (c .before .before .before .before .before .before .before .pre) (c .before .records-at .result) (c .before .records-at .ensures)
 
 nodes-at-requires : tie.Need-nodes-at-requires
-nodes-at-requires c κs = (sizes-in-order _ (c .before .before .before .before .before .before .before .before .before .before .pre .sizes), c .before .before .before .before .before .before .before .before .before .before .pre .points)
+nodes-at-requires c κs = ((c .before .before .before .before .before .before .before .before .before .before .pre .sizes), c .before .before .before .before .before .before .before .before .before .before .pre .points)
 
 cast-list-missing : tie.Need-cast-list-missing
 cast-list-missing c = search needs

@@ -8,18 +8,18 @@ use Rattle.opener.proofs.put_sums.Statement.{statement}
 use Rattle.opener.proofs.put_sums.Tie as tie
 
 row-width-requires : tie.Need-row-width-requires
-row-width-requires c κs = sizes-in-order _ (c .before .before .before .before .before .pre .combine .extend .sizes)
+row-width-requires c κs = c .before .before .before .before .before .pre .combine .extend .sizes
 
 cast-eta : tie.Need-cast-eta
 cast-eta c = search needs
 
 leaf-count-requires : tie.Need-leaf-count-requires
 leaf-count-requires c κs =
-    sizes-in-order (sizesIn (c .before .before .before .before .before .before .before .args .s)) (c .before .before .before .before .before .before .before .pre .combine .extend .sizes) .h-high
+    c .before .before .before .before .before .before .before .pre .combine .extend .sizes .h-high
 
 cast-t14 : tie.Need-cast-t14
 cast-t14 c =
-    let h = leaves-high (sizesIn (c .before .before .before .before .before .before .before .before .args .s)) (sizes-in-order _ (c .before .before .before .before .before .before .before .before .pre .combine .extend .sizes)) in search needs
+    let h = leaves-high (sizesIn (c .before .before .before .before .before .before .before .before .args .s)) (c .before .before .before .before .before .before .before .before .pre .combine .extend .sizes) in search needs
 
 put-batchings-requires : tie.Need-put-batchings-requires
 put-batchings-requires c κs =
@@ -35,12 +35,12 @@ add-points c = search needs
 mul-answers : tie.Need-mul-answers
 mul-answers c =
     let s = c .before .before .before .before .before .before .before .before .before .before .before .before .args in
-    let h = answers-fit (sizesIn (s .s)) (sizes-in-order _ (c .before .before .before .before .before .before .before .before .before .before .before .before .pre .combine .extend .sizes)) (s .m) (c .before .before .before .before .before .before .before .before .before .before .before .before .pre .points) (c .before .before .before .before .before .before .row-width .result) (c .before .before .before .before .before .before .row-width .ensures) .0 in search needs
+    let h = answers-fit (sizesIn (s .s)) (c .before .before .before .before .before .before .before .before .before .before .before .before .pre .combine .extend .sizes) (s .m) (c .before .before .before .before .before .before .before .before .before .before .before .before .pre .points) (c .before .before .before .before .before .before .row-width .result) (c .before .before .before .before .before .before .row-width .ensures) .0 in search needs
 
 mul-answers-2 : tie.Need-mul-answers-2
 mul-answers-2 c =
     let s = c .before .before .before .before .before .before .before .before .before .before .before .before .args in
-    let h = answers-fit (sizesIn (s .s)) (sizes-in-order _ (c .before .before .before .before .before .before .before .before .before .before .before .before .pre .combine .extend .sizes)) (s .m) (c .before .before .before .before .before .before .before .before .before .before .before .before .pre .points) (c .before .before .before .before .before .before .row-width .result) (c .before .before .before .before .before .before .row-width .ensures) .1 in search needs
+    let h = answers-fit (sizesIn (s .s)) (c .before .before .before .before .before .before .before .before .before .before .before .before .pre .combine .extend .sizes) (s .m) (c .before .before .before .before .before .before .before .before .before .before .before .before .pre .points) (c .before .before .before .before .before .before .row-width .result) (c .before .before .before .before .before .before .row-width .ensures) .1 in search needs
 
 put-answers-requires : tie.Need-put-answers-requires
 put-answers-requires c κs =

@@ -4,7 +4,7 @@ use native.Mathlib.Omega.{arith}
 use lib.ListN.{length, take}
 use Rattle.scheme.proofs.Accepted.{sizes-in-order}
 use Rattle.commitment.specs.Shape.{sizesIn}
-use Rattle.commitment.proofs.Answer.{taken, asked-indices}
+use Rattle.question.proofs.Answer.{taken, asked-indices}
 use Rattle.planner.proofs.Sized.{can-size, length-is}
 use borrow.Author.Needs.{needs}
 use Rattle.planner.proofs.asked_length.Statement.{statement}
