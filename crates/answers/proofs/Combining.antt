@@ -19,6 +19,7 @@ use Rattle.algebra.specs.Pairs.{pointsEnd}
 use Rattle.algebra.specs.Sums.{sumsOf, sums-powersN}
 use Rattle.algebra.specs.Dot.{accumulateN, accumulateN-at, length-accumulateN}
 use Rattle.algebra.specs.Numbers.{evalN, valuesAtN, interpN, interpN-below, interpN-length, interpN-values, Elements, Polys}
+use Rattle.algebra.specs.Values.{interp-polys}
 use Rattle.algebra.specs.Batch.{columnN, honestN}
 use Rattle.scheme.specs.Layers.{combination}
 use Rattle.scheme.proofs.HonestAnswers.{combination-length, combination-at, combination-below, combination-batch}
