@@ -3,7 +3,7 @@ use mathlib.Core.Bool.{Bool, true, false, not}
 use mathlib.Core.List.{List, [], _∷_}
 use mathlib.Core.Logic.{⊎-elim}
 use mathlib.Core.Path.{_≡_, refl, sym, ap, _∙_}
-use Prim.Native.Nat.{ℕ, zero, suc, _+_, _-_, _*_, _/_, _^_, _<_, _≤_}
+use Prim.Native.Nat.{ℕ, zero, suc, _+_, _*_, _/_, _^_, _<_}
 use native.Mathlib.Nat.{one-mul, pow-zero, pow-suc, div-div-eq-div-mul, not-suc-le-zero}
 use native.Mathlib.Numerals.{add-one}
 use native.Mathlib.Omega.{arith}
@@ -12,7 +12,7 @@ use lib.ListN.{length, getD}
 use borrow.Author.Tests.{eqb-true, eq-eqb}
 use Rattle.lists.specs.Choice.{pick, tested}
 use Rattle.lists.specs.Rising.{Rising}
-use Rattle.lists.specs.Tests.{tally, tally-front, tally-few}
+use Rattle.lists.specs.Tests.{tally, tally-front}
 use Rattle.tree.specs.Ancestors.{ancestors, changes}
 use Rattle.tree.specs.Sets.{parents, push}
 use Rattle.tree.proofs.Counts.{parents-rising}
@@ -120,7 +120,3 @@ pub ancestors-rising : (b k : ℕ) (s : List ℕ) → zero < b → Rising s → 
 unfolding ancestors
 ancestors-rising b zero s h r = r
 ancestors-rising b (suc k) s h r = parents-rising b (ancestors b k s) h (ancestors-rising b k s h r)
-
-pub changes-few : (d : ℕ) (s : List ℕ) → changes d s ≤ length s
-unfolding changes
-changes-few d s = omega (arith, tally-few (length s - 1) (λ a. not (eqb (getD s a 0 / d) (getD s (suc a) 0 / d))))

@@ -1,6 +1,6 @@
 -- Binding: two openings that give one root agree on every leaf that both open, unless two different strings that they hash share a digest.
 use mathlib.Core.List.{List, _++_, map, map-map, List·Memᴰ as Mem, Memᴰ·append-left as in-left, Memᴰ·append-right as in-right, List·Memᴰ·append-cases as in-cases}
-use mathlib.Core.Logic.{_⊎_, ⊎-elim}
+use mathlib.Core.Logic.{⊎-elim}
 use mathlib.Core.Path.{_≡_, sym, ap, _∙_, subst}
 use Prim.Native.Nat.{ℕ, zero, suc, _/_, _^_, _≤_, _<_}
 use native.Mathlib.Nat.{pow-suc, pow-zero, le-of-eq}

@@ -1,7 +1,7 @@
 -- One child of a node: is it the set's next one, or the next of the others?
 use mathlib.Core.Bool.{true, false, false≢true}
 use mathlib.Core.List.{List, _∷_, _++_, flatten, append-assoc, tail}
-use mathlib.Core.Logic.{_⊎_, ⊎-elim}
+use mathlib.Core.Logic.{⊎-elim}
 use mathlib.Core.Path.{_≡_, sym, ap, _∙_}
 use Prim.Native.Nat.{ℕ, zero, suc, _+_, _≤_, _<_, _-_, suc-le-suc, zero-le}
 use native.Mathlib.Nat.{not-suc-le-zero, le-step, lt-of-not-le}

@@ -34,11 +34,11 @@ opened-level b h level t s e l =
     (map-cong (siblings b s) (λ c m. List·getD-append level t [] c (subst (λ (n : ℕ). c < n) (sym e) (below-mem (b ^ suc h) (siblings b s) l c m))))
     (drop-at level t (b ^ suc h) e)
 
-module _ (digest : Bytes → Bytes) (b : ℕ) (pre : Bytes) (pos : zero < b) where
-  pub length-above : (w : ℕ) (level : List Bytes) → length (above digest b pre w level) ≡ w
-  unfolding above
-  length-above w level = length-map (upFrom 0 w) _ ∙ length-upFrom 0 w
+pub length-above : (digest : Bytes → Bytes) (b : ℕ) (pre : Bytes) (w : ℕ) (level : List Bytes) → length (above digest b pre w level) ≡ w
+unfolding above
+length-above digest b pre w level = length-map (upFrom 0 w) _ ∙ length-upFrom 0 w
 
+module _ (digest : Bytes → Bytes) (b : ℕ) (pre : Bytes) (pos : zero < b) where
   -- where all digests are those that v gives, so are the strings of the parents
   strings-known : (v : ℕ → Bytes) (s : List ℕ) (rest : List Bytes)
       → strings digest b pre s (map v s) (map v (siblings b s) ++ rest) ≡ map (nodeString b pre v) (parents b s)
@@ -72,4 +72,4 @@ module _ (digest : Bytes → Bytes) (b : ℕ) (pre : Bytes) (pos : zero < b) whe
         digests-known (b ^ h) level (parents b s) ps,
         drop-at (map (at level) (siblings b s)) (opened b h t (parents b s) ++ rest) (length (siblings b s)) (length-map (siblings b s) (at level)),
       )
-      (complete h up (parents b s) rest (length-above (b ^ h) level) ps (i / b) (parents-in b m))
+      (complete h up (parents b s) rest (length-above digest b pre (b ^ h) level) ps (i / b) (parents-in b m))

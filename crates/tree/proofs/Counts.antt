@@ -115,6 +115,10 @@ parents-count b [] = zero-le
 parents-count b (i ∷ s) = omega (arith, push-count (i / b) (parents b s), parents-count b s)
 
 -- level by level
+pub missing-none : (b : ℕ) (s : List ℕ) → length (missing b 0 s) ≡ 0
+unfolding missing
+missing-none b s = refl
+
 pub missing-count : (b h : ℕ) (s : List ℕ) → length (missing b (suc h) s) ≡ length (siblings b s) + length (missing b h (parents b s))
 unfolding missing
 missing-count b h s = simp (length-append, length-map)

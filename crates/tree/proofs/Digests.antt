@@ -6,8 +6,9 @@ use native.Mathlib.Nat.{add-zero, not-suc-le-zero, le-of-suc-le-suc, le-of-eq}
 use native.Mathlib.Numerals.{add-one}
 use native.Mathlib.Omega.{arith}
 use lib.ListN.{length, take, drop, length-append, length-take, length-drop, drop-of-length-le, set}
-use lib.Seq.{take-at, drop-at, getD-drop, drop-drop, length-take-le, paste, take-paste, take-add, take-all}
+use lib.Seq.{take-at, drop-at, getD-drop, drop-drop, length-take-le, paste, take-paste, take-add}
 use Rattle.lists.specs.Bytes.{Bytes}
+use Rattle.lists.specs.Parts.{mid-tail}
 use Rattle.lists.specs.Pieces.{pieces, pieces-at, drop-pieces, pieces-front, flatten-pieces, pieces-snoc, pieces-take}
 use Rattle.lists.specs.Range.{upFrom}
 use Rattle.tree.specs.Tree.{at, parts}
@@ -93,19 +94,12 @@ parts-set (suc m) (suc w) x d h hd l =
     (take-at (take 32 x) _ 32 (length-take-le 32 x (omega arith)))
     (ap (parts m) (drop-at (take 32 x) _ 32 (length-take-le 32 x (omega arith))) ∙ parts-set m w (drop 32 x) d (le-of-suc-le-suc h) hd (omega (arith, length-drop 32 x)))
 
--- the place of a digest in a row, lent as a part
-pub part-length : (x : Bytes) (w : ℕ) → 32 * w + 32 ≤ length x → length (take (32 * w + 32 - 32 * w) (drop (32 * w) x)) ≡ 32
-part-length x w h = omega (arith, length-take (32 * w + 32 - 32 * w) (drop (32 * w) x), length-drop (32 * w) x)
-
+-- a digest written to its place in a row, lent as a part
 pub row-put : (x y d : Bytes) (w : ℕ) → y ≡ d
     → take (32 * w) x ++ (y ++ drop (32 * w + 32 - 32 * w) (drop (32 * w) x)) ≡ take (32 * w) x ++ (d ++ drop (32 * w + 32) x)
 row-put x y d w e =
     let q : 32 * w + (32 * w + 32 - 32 * w) ≡ 32 * w + 32 = omega arith in
     ap₂ (λ (u v : Bytes). take (32 * w) x ++ (u ++ v)) e (drop-drop (32 * w + 32 - 32 * w) (32 * w) x ∙ ap (λ (k : ℕ). drop k x) q)
-
--- the part of a row from a place on, as it is lent
-pub part-is : (x : Bytes) (start : ℕ) → take (length x - start) (drop start x) ≡ drop start x
-part-is x start = take-all (length x - start) (drop start x) (le-of-eq (length-drop start x))
 
 -- a digest written to place p of the part that begins after n digests
 pub part-put : (x y d : Bytes) (a n p : ℕ) → a ≡ 32 * n
@@ -114,7 +108,7 @@ pub part-put : (x y d : Bytes) (a n p : ℕ) → a ≡ 32 * n
 part-put x y d a n p q e =
     let i : a + 32 * p ≡ 32 * (n + p) = omega arith in
     let j : a + (32 * p + 32) ≡ 32 * (n + p) + 32 = omega arith in
-    ap₂ (λ (u v : Bytes). take a x ++ (u ++ v)) (e ∙ ap (λ (l : Bytes). take (32 * p) l ++ (d ++ drop (32 * p + 32) l)) (part-is x a))
+    ap₂ (λ (u v : Bytes). take a x ++ (u ++ v)) (e ∙ ap (λ (l : Bytes). take (32 * p) l ++ (d ++ drop (32 * p + 32) l)) (mid-tail a x))
     (drop-of-length-le (drop a x) (le-of-eq (length-drop a x)))
     ∙ ap (λ (u : Bytes). take a x ++ u) (append-nil (take (32 * p) (drop a x) ++ (d ++ drop (32 * p + 32) (drop a x))))
     ∙ sym (append-assoc (take a x) (take (32 * p) (drop a x)) (d ++ drop (32 * p + 32) (drop a x)))

@@ -1,7 +1,7 @@
 -- The tree as a row of digests: how many it has, and that the root stands last.
 use mathlib.Core.List.{List, [], _++_}
 use mathlib.Core.Path.{_≡_, refl, sym, ap, ap₂, _∙_}
-use Prim.Native.Nat.{ℕ, zero, suc, _+_, _*_, _^_, _<_, _-_}
+use Prim.Native.Nat.{ℕ, zero, suc, _+_, _*_, _^_, _<_}
 use native.Mathlib.Nat.{pow-suc, pow-zero}
 use native.Mathlib.Omega.{arith}
 use lib.ListN.{length, length-append}
@@ -30,7 +30,7 @@ module _ (digest : Bytes → Bytes) (b : ℕ) (pre : Bytes) (pos : zero < b) whe
   tree-length zero level e = e ∙ pow-zero b
   tree-length (suc h) level e =
       length-append level (tree digest b pre h (above digest b pre (b ^ h) level))
-      ∙ ap₂ (λ (x y : ℕ). x + y) e (tree-length h (above digest b pre (b ^ h) level) (length-above digest b pre pos (b ^ h) level))
+      ∙ ap₂ (λ (x y : ℕ). x + y) e (tree-length h (above digest b pre (b ^ h) level) (length-above digest b pre (b ^ h) level))
 
   -- the root stands last
   pub tree-root : (h : ℕ) (level : List Bytes) → length level ≡ b ^ h → at (tree digest b pre h level) (start b h h) ≡ root digest b pre h level
@@ -40,7 +40,7 @@ module _ (digest : Bytes → Bytes) (b : ℕ) (pre : Bytes) (pos : zero < b) whe
       let up : List Bytes = above digest b pre (b ^ h) level in
       ap (λ (k : ℕ). at (level ++ tree digest b pre h up) (k + start b h h)) (sym e)
       ∙ getD-append-add level (tree digest b pre h up) (start b h h) []
-      ∙ tree-root h up (length-above digest b pre pos (b ^ h) level)
+      ∙ tree-root h up (length-above digest b pre (b ^ h) level)
 
   pub tree-sized : (h : ℕ) (level : List Bytes) → ((x : Bytes) → length (digest x) ≡ 32) → Sized 32 level → Sized 32 (tree digest b pre h level)
   unfolding tree above
@@ -49,7 +49,3 @@ module _ (digest : Bytes → Bytes) (b : ℕ) (pre : Bytes) (pos : zero < b) whe
       all-append (λ (d : Bytes). length d ≡ 32) level (tree digest b pre h (above digest b pre (b ^ h) level)) hl
       (tree-sized h (above digest b pre (b ^ h) level) hd
       (all-each (λ (d : Bytes). length d ≡ 32) (λ p. digest (nodeString b pre (at level) p)) (upFrom 0 (b ^ h)) (λ p. hd (nodeString b pre (at level) p))))
-
--- the tree over n = 2 ^ h leaves has 32 (2 n - 1) bytes
-pub tree-bytes : (h n : ℕ) → n ≡ 2 ^ h → 32 * (2 * n - 1) ≡ 32 * treeSize 2 h
-tree-bytes h n e = omega (arith, tree-size 1 h, pow-suc 2 h)

@@ -1,21 +1,15 @@
 -- One turn over a set: the first parent of what is left of it.
-use mathlib.Core.List.{List, [], _∷_, _++_, flatten, List·Memᴰ as Mem}
-use mathlib.Core.Path.{_≡_, refl, sym, ap, _∙_, subst}
+use mathlib.Core.List.{List, [], _∷_, _++_, flatten}
+use mathlib.Core.Path.{_≡_, refl, sym, ap, _∙_}
 use Prim.Native.Nat.{ℕ, zero, _+_, _*_, _/_, _≤_, _<_, _-_}
-use native.Mathlib.Nat.{mul-div-le, add-zero, not-suc-le-zero}
-use native.Mathlib.Omega.{arith}
-use lib.ListN.{length, getD, take, drop, length-append, length-drop}
-use lib.Seq.{getD-drop, length-take-le, getD-take}
-use Rattle.lists.specs.All.{below-mem}
+use native.Mathlib.Nat.{not-suc-le-zero}
+use lib.ListN.{length, getD, drop, length-append}
 use Rattle.lists.specs.Bytes.{Bytes}
 use Rattle.lists.specs.Rising.{Rising}
-use Rattle.tree.specs.Clauses.{NodeSet}
 use Rattle.tree.specs.Sets.{children, parents, siblings, below, without}
 use Rattle.tree.specs.Tree.{strings}
 use Rattle.tree.specs.Walk.{used, skipped, fill}
-use Rattle.tree.proofs.Lists.{rising-drop}
 use Rattle.tree.proofs.Walk as Walk
-use Rattle.lists.specs.Maps.{getD-in}
 
 -- p is the first node above the set, and u of the set's nodes are under it
 pub record Turn (b : ℕ) (s : List ℕ) (p u : ℕ) : Type 0 where
@@ -27,7 +21,7 @@ pub record Turn (b : ℕ) (s : List ℕ) (p u : ℕ) : Type 0 where
   pub some : zero < u
   pub within : u ≤ length s
 
-turn : (b : ℕ) → zero < b → (s : List ℕ) → Rising s → zero < length s → Turn b s (getD s 0 0 / b) (used (b * (getD s 0 0 / b)) b s)
+pub turn : (b : ℕ) → zero < b → (s : List ℕ) → Rising s → zero < length s → Turn b s (getD s 0 0 / b) (used (b * (getD s 0 0 / b)) b s)
 unfolding children
 turn b pos [] r h = absurd (not-suc-le-zero h)
 turn b pos (i ∷ s) r h = record {
@@ -42,28 +36,6 @@ turn b pos (i ∷ s) r h = record {
   some = Walk.cut-pos b pos i s r;
   within = Walk.used-le (b * (i / b)) b (i ∷ s);
 }
-
--- the turn at place a of the first n of idx
-module _ {b : ℕ} {idx : List ℕ} {n : ℕ} (can : NodeSet b idx n) where
-  pub set-length : length (take n idx) ≡ n
-  set-length = length-take-le n idx (can .indices)
-
-  module _ {a : ℕ} (more : a < n) where
-    next-index : getD (drop a (take n idx)) 0 0 ≡ getD idx a 0
-    next-index = getD-drop a (take n idx) 0 0 ∙ ap (λ (k : ℕ). getD (take n idx) k 0) (add-zero a) ∙ getD-take n idx a 0 more
-
-    pub turn-at : Turn b (drop a (take n idx)) (getD idx a 0 / b) (used (b * (getD idx a 0 / b)) b (drop a (take n idx)))
-    turn-at =
-        subst (λ (i : ℕ). Turn b (drop a (take n idx)) (i / b) (used (b * (i / b)) b (drop a (take n idx)))) next-index
-        (turn b (can .arity) (drop a (take n idx)) (rising-drop a (take n idx) (can .rising)) (omega (arith, length-drop a (take n idx), set-length)))
-
-    pub index-in : Mem (getD idx a 0) (take n idx)
-    index-in =
-        subst (λ (x : ℕ). Mem x (take n idx)) (getD-take n idx a 0 more) (getD-in (take n idx) a (subst (λ (k : ℕ). a < k) (sym set-length) more))
-
-    -- the numbers of its children fit
-    pub children-fit : b * (getD idx a 0 / b) + b ≤ 4294967296
-    children-fit = omega (arith, mul-div-le (getD idx a 0) b, below-mem 2147483648 (take n idx) (can .small) (getD idx a 0) index-in, can .few)
 
 -- nothing is above an empty set
 pub no-parents : (b : ℕ) → parents b [] ≡ []

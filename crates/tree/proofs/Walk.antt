@@ -1,7 +1,7 @@
 -- Going over a set parent by parent, and over the children of each, gives the strings, the parents and the missing nodes of the definitions.
 use mathlib.Core.Bool.{true, false, false≢true}
 use mathlib.Core.List.{List, [], _∷_, _++_, map, flatten, append-assoc, List·Memᴰ as Mem, List·Memᴰ·head as here, List·Memᴰ·tail as there, List·Memᴰ·cases-cons as cases-cons, List·Memᴰ·not-nil as not-nil, Memᴰ·append-left as in-left, Memᴰ·append-right as in-right, List·Memᴰ·append-cases as in-cases, tail}
-use mathlib.Core.Logic.{_⊎_, ⊎-elim}
+use mathlib.Core.Logic.{⊎-elim}
 use mathlib.Core.Path.{_≡_, refl, sym, ap, ap₂, _∙_, subst}
 use Prim.Native.Nat.{ℕ, zero, suc, _+_, _*_, _/_, _≤_, _<_, _-_, suc-le-suc, zero-le}
 use native.Mathlib.Nat.{mul-div-le, mul-comm, not-suc-le-zero, zero-lt-suc, suc-inj, suc-ne-zero, le-div-iff-mul-le}

@@ -1,4 +1,4 @@
--- The definitions: strings, sets of nodes, the tree; then what the contracts of the functions cite.
+-- The definitions: strings, sets of nodes, the tree; then what contracts of functions cite.
 pub mod Leaf
 pub mod Sets
 pub mod Ancestors

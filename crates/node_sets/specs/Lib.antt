@@ -1,0 +1,2 @@
+-- What a function asks of a set of nodes.
+pub mod Clauses

@@ -1,0 +1,2 @@
+-- What a turn of each loop does.
+pub mod Filling
