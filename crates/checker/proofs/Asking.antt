@@ -15,8 +15,8 @@ use Rattle.lists.specs.Choice.{pick}
 use Rattle.lists.specs.Pieces.{pieces, length-pieces}
 use Rattle.lists.specs.Tests.{verdictOf, passed, verdict-hit, verdict-miss, verdict-go, verdict-stop}
 use Rattle.scheme.specs.Sizes.{Sizes, leaves}
-use Rattle.scheme.specs.Question.{Question, readQuestion, challengesAt, pointsAt, indicesAt, questionTests, questionAt}
-use Rattle.scheme.specs.Reply.{readReply, replyLength}
+use Rattle.scheme.specs.Question.{Question, readQuestion, headerLength, challengesAt, pointsAt, questionTests}
+use Rattle.scheme.specs.Reply.{readReply, replyLength, recordsAt}
 use Rattle.scheme.specs.Commit.{after}
 use Rattle.scheme.specs.Check.{replyTests, checkValues, checkVerdict, checking}
 use Rattle.scheme.proofs.Accepted.{sizes-in-order, question-numbers}
@@ -24,34 +24,39 @@ use Rattle.commitment.specs.Shape.{sizesIn}
 use Rattle.question.specs.Questioned.{questioned}
 use Rattle.commitment.specs.declared.Shape.{Shape}
 use Rattle.question.specs.declared.Questioned.the-variants.{WellFormed, Refused}
-use Rattle.question.proofs.Answer.{well-asked, refused, Taken, taken}
-use Rattle.checker.specs.Posed.{posed, Posed, Formed, checkingReply}
+use Rattle.question.proofs.Answer.{well-asked, refused, Taken, taken, asked-indices}
+use Rattle.reply_tests.specs.Posed.{posed, Posed}
+use Rattle.checker.specs.Answered.{checkingReply}
 
--- ---- the lists
+-- ---- the question as the code holds it
 
-pub length-halves : (n : ℕ) (x : Bytes) → length (halves n x) ≡ n
-length-halves n x = length-map (pieces 2 n x) _ ∙ length-pieces 2 n x
+-- the lists that were read, each the front of its room
+pub was-posed : (b : Bytes) (s : Shape) (m : ℕ) (challenges points indices : List ℕ) → questioned b ≡ WellFormed s m
+    → challenges ≡ readQuestion b .challenges → points ≡ readQuestion b .evaluationPoints → indices ≡ readQuestion b .indices
+    → Posed (sizesIn s) challenges points indices
+was-posed b s m challenges points indices e ec ep ei =
+    let t : Taken b s m = taken b s m e in
+    let k = asked-indices b s m e in
+    record {
+      in-order = sizes-in-order (sizesIn s) (t .sizes-ok);
+      repetitions = ap length (ec ∙ t .challenges) ∙ length-words (s .eta) (drop challengesAt b);
+      few-points = subst (λ (n : ℕ). n ≤ 8) (sym (ap length (ep ∙ t .points) ∙ length-words m (drop (pointsAt (sizesIn s)) b))) (t .m-high);
+      opened = ap length ei ∙ k .0;
+      rising = subst Rising (sym ei) (k .1 .rising);
+      below = subst (Below (leaves (sizesIn s))) (sym ei) (k .1 .leaves);
+    }
 
-pub was-posed : (s : Sizes) (m : ℕ) (b : Bytes) (challenges points indices : List ℕ) → Formed s m b
-    → challenges ≡ questionAt s m b .challenges → points ≡ questionAt s m b .evaluationPoints → indices ≡ questionAt s m b .indices
-    → Posed s challenges points indices
-was-posed s m b challenges points indices f ec ep ei = record {
-  in-order = f .in-order;
-  repetitions = ap length ec ∙ length-words (s .η) (drop challengesAt b);
-  few-points = subst (λ (n : ℕ). n ≤ 8) (sym (ap length ep ∙ length-words m (drop (pointsAt s) b))) (f .few-points);
-  opened = ap length ei ∙ length-halves (s .ℓ) (drop (indicesAt s m) b);
-  rising = subst Rising (sym ei) (f .rising);
-  below = subst (Below (leaves s)) (sym ei) (f .below);
-}
-
-pub posed-is : (s : Sizes) (m : ℕ) (b : Bytes) (challenges points indices : List ℕ)
-    → challenges ≡ questionAt s m b .challenges → points ≡ questionAt s m b .evaluationPoints → indices ≡ questionAt s m b .indices
-    → posed s (take 32 (drop 14 b)) challenges points indices ≡ questionAt s m b
-posed-is s m b challenges points indices ec ep ei =
+pub posed-is : (b : Bytes) (s : Shape) (m : ℕ) (root challenges points indices : List ℕ) → questioned b ≡ WellFormed s m → root ≡ take 32 (drop headerLength b)
+    → challenges ≡ readQuestion b .challenges → points ≡ readQuestion b .evaluationPoints → indices ≡ readQuestion b .indices
+    → posed (sizesIn s) root challenges points indices ≡ readQuestion b
+posed-is b s m root challenges points indices e er ec ep ei =
+    let t : Taken b s m = taken b s m e in
+    let a = well-asked b s m e in
+    let n : length points ≡ readQuestion b .m = ap length (ep ∙ t .points) ∙ length-words m (drop (pointsAt (sizesIn s)) b) ∙ a .2 in
     λ i. record {
-      sizes = s;
-      m = (ap length ep ∙ length-words m (drop (pointsAt s) b)) i;
-      root = take 32 (drop 14 b);
+      sizes = (a .1) i;
+      m = n i;
+      root = (er ∙ sym (t .root)) i;
       challenges = ec i;
       evaluationPoints = ep i;
       indices = ei i;
@@ -88,36 +93,29 @@ module _ (u : Question) (reply : Bytes) (buffer : List ℕ) where
       → out ≡ checkValues u (readReply u reply) → (v, out) ≡ checkingReply u reply buffer
   answer-0 v out l e f g = answer-as v out (fitting l ∙ sym e) (ap (λ (n : ℕ). after n (checkValues u (readReply u reply)) buffer) f ∙ sym g)
 
-pub accepted-length : (u : Question) (reply : Bytes) (v : ℕ) → v ≡ verdictOf (replyTests u reply) → v ≡ 0 → length reply ≡ replyLength u
+accepted-length : (u : Question) (reply : Bytes) (v : ℕ) → v ≡ verdictOf (replyTests u reply) → v ≡ 0 → length reply ≡ replyLength u
 unfolding replyTests
 accepted-length u reply v e f = eqb-true _ _ (not-false _ (passed (replyTests u reply) (omega arith) (sym e ∙ f) .0))
 
--- ---- the question's bytes
+-- in the sizes that the code holds
+pub values-count : (b : Bytes) (s : Shape) (m : ℕ) → questioned b ≡ WellFormed s m → s .w * m ≡ readQuestion b .sizes .w * readQuestion b .m
+values-count b s m e = let a = well-asked b s m e in ap₂ (λ (z : Sizes) (n : ℕ). z .w * n) (a .1) (a .2)
 
-pub formed : (b : Bytes) (s : Shape) (m : ℕ) → questioned b ≡ WellFormed s m → Formed (sizesIn s) m b
-formed b s m e =
-    let t : Taken b s m = taken b s m e in
+pub accepted-room : (b reply : Bytes) (s : Shape) (m v : ℕ) → questioned b ≡ WellFormed s m → v ≡ verdictOf (replyTests (readQuestion b) reply) → v ≡ 0 → recordsAt (sizesIn s) m ≤ length reply
+accepted-room b reply s m v e f z =
     let a = well-asked b s m e in
-    record {
-      in-order = sizes-in-order (sizesIn s) (t .sizes-ok);
-      few-points = t .m-high;
-      long = t .long;
-      rising = subst Rising (t .indices) (t .asks .indices-rising);
-      below = subst (λ (z : Sizes). Below (leaves z) (questionAt (sizesIn s) m b .indices)) (sym (a .1)) (subst (Below (leaves (readQuestion b .sizes))) (t .indices) (t .asks .indices-below));
-    }
+    let l : recordsAt (readQuestion b .sizes) (readQuestion b .m) ≤ length reply = omega (arith, accepted-length (readQuestion b) reply v f z) in
+    subst (λ (n : ℕ). n ≤ length reply) (sym (ap₂ recordsAt (a .1) (a .2))) l
 
-question-is : (b : Bytes) (s : Shape) (m : ℕ) → questioned b ≡ WellFormed s m → questionAt (sizesIn s) m b ≡ readQuestion b
-unfolding readQuestion
-question-is b s m e = let a = well-asked b s m e in ap₂ (λ (t : Sizes) (k : ℕ). questionAt t k b) (a .1) (a .2)
+-- ---- the whole check
 
 -- a well-formed question: what is left is the buffer and the reply
 pub checked : (b reply : Bytes) (buffer : List ℕ) (s : Shape) (m : ℕ) → questioned b ≡ WellFormed s m
-    → checkingReply (questionAt (sizesIn s) m b) reply buffer ≡ checking b reply buffer
+    → checkingReply (readQuestion b) reply buffer ≡ checking b reply buffer
 unfolding checkingReply checking checkVerdict
 checked b reply buffer s m e =
     let u : Question = readQuestion b in
-    ap (λ (t : Question). checkingReply t reply buffer) (question-is b s m e)
-    ∙ ap (λ (v : ℕ). (v, after v (checkValues u (readReply u reply)) buffer))
+    ap (λ (v : ℕ). (v, after v (checkValues u (readReply u reply)) buffer))
     (sym (verdict-go (questionTests b) ((2, not (eqb (length buffer) (1 * (u .sizes .w * u .m)))) ∷ replyTests u reply) (question-numbers b) (well-asked b s m e .0)))
 
 -- any other: its verdict, and the buffer as it was

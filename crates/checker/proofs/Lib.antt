@@ -1,6 +1,1 @@
-pub mod Values
-pub mod Flat
-pub mod Roots
-pub mod ReplyTests
-pub mod Verdicts
 pub mod Asking

@@ -21,9 +21,9 @@ use evaluations::fill_table;
 use lent::filled_ok;
 use lent::lent_elements;
 use lent::lent_ok;
-use tree::LeafIndex;
-use tree::fill_tree;
-use tree::leaf_digest;
+use node_sets::LeafIndex;
+use tree_fill::fill_tree;
+use digests::leaf_digest;
 
 // ---- the tree
 

@@ -43,7 +43,7 @@ numbers-next k i at b =
     ∙ ap (λ (y : Bytes). snoc (numbers k i at b) (fromBytes (take k y))) (drop-drop (k * i) at b))
 
 -- a store after the front of a list
-front-next : (p d : List ℕ) (i v : ℕ) → length p ≡ i → i < length d → set (p ++ drop i d) i v ≡ snoc p v ++ drop (i + 1) d
+pub front-next : (p d : List ℕ) (i v : ℕ) → length p ≡ i → i < length d → set (p ++ drop i d) i v ≡ snoc p v ++ drop (i + 1) d
 front-next p d i v e h =
     ap (λ (r : List ℕ). set (p ++ r) i v) (drop-cons d i 0 h)
     ∙ set-at p (getD d i 0) (drop (suc i) d) v i e

@@ -23,6 +23,10 @@ index-nodes {h} {s} i long copied = record {
   small = subst (Below 2147483648) (sym copied) (all-imp (λ (k : ℕ) (l : k < 2 ^ h). omega (arith, pow-mono (i .depth))) s (i .leaves));
 }
 
+-- leaf indices fit in two bytes
+pub indices-small : {h : ℕ} {s : List ℕ} → IndexSet h s → Below 65536 s
+indices-small {h} {s} i = all-imp (λ (k : ℕ) (l : k < 2 ^ h). omega (arith, pow-mono (i .depth))) s (i .leaves)
+
 -- the parents
 pub set-kept : {b : ℕ} {idx idx′ : List ℕ} {n w : ℕ} → NodeSet b idx n → w ≡ length (parents b (take n idx)) → take w idx′ ≡ parents b (take n idx)
     → length idx′ ≡ length idx → NodeSet b idx′ w

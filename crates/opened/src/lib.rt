@@ -9,7 +9,8 @@ ghost use Rattle.opened.specs.Records.{recordWordsAt};
 ghost use Rattle.lists.specs.Rows.{rowsOf};
 ghost use Rattle.opened.specs.Powers.{powersAt};
 use field::Element;
-use tree::LeafIndex;
+use node_sets::LeafIndex;
+use node_sets::opened_index;
 
 // The point of a leaf.
 fn leaf_point(i: LeafIndex) -> Element
@@ -23,8 +24,7 @@ pub fn opened_point(indices: &[usize], a: usize) -> Element
     requires { ⌜ (a < length (now indices)) × Below 65536 (now indices) ⌝ }
     ensures { λ r. ⌜ r .0 ≡ leafPoint (getD (now (indices .entry)) a 0) ⌝ }
 {
-    let i = indices[a];
-    leaf_point(LeafIndex(i as u32))
+    leaf_point(opened_index(indices, a))
 }
 
 // The first values of opened leaf a, as many as there is room for: its record is handed on as the part of the reply that holds it.

@@ -43,7 +43,7 @@ use lent::filled_ok;
 use lent::lent_elements;
 use lent::lent_ok;
 use planner::length_for;
-use tree::list_missing;
+use missing_nodes::list_missing;
 
 // Where the root and the challenges begin in a question.
 const ROOT: usize = 14;

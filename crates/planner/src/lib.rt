@@ -18,7 +18,7 @@ use question::ask;
 use question::blank_indices;
 use commitment::nodes_at;
 use question::question_indices;
-use tree::count_missing;
+use missing_nodes::count_missing;
 
 // The length of a reply that opens these leaves.
 pub fn length_for(s: Shape, m: usize, indices: &[usize]) -> usize

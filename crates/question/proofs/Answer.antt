@@ -10,7 +10,7 @@ use lib.ListN.{length, take, drop}
 use lib.Seq.{take-at}
 use borrow.Author.Tests.{eqb-true, eqb-false, ltb-false, not-false}
 use Rattle.lists.specs.All.{Below}
-use Rattle.lists.specs.Bytes.{Bytes, words, halves}
+use Rattle.lists.specs.Bytes.{Bytes, words, halves, length-words}
 use Rattle.lists.specs.Choice.{pick, and-true}
 use Rattle.lists.specs.Tests.{verdictOf, passed, Numbered}
 use Rattle.tree.specs.Clauses.{IndexSet}
@@ -146,6 +146,13 @@ asked-indices b s m e =
       },
     )
 
+-- its challenges and points: η and m of them
+pub challenges-count : (b : Bytes) (s : Shape) (m : ℕ) → questioned b ≡ WellFormed s m → length (readQuestion b .challenges) ≡ s .eta
+challenges-count b s m e = ap length (taken b s m e .challenges) ∙ length-words (s .eta) (drop challengesAt b)
+
+pub points-count : (b : Bytes) (s : Shape) (m : ℕ) → questioned b ≡ WellFormed s m → length (readQuestion b .evaluationPoints) ≡ m
+points-count b s m e = ap length (taken b s m e .points) ∙ length-words m (drop (pointsAt (sizesIn s)) b)
+
 -- read from their place into a room
 pub indices-read : (b : Bytes) (s : Shape) (m : ℕ) (room x : List ℕ) (at : ℕ) → questioned b ≡ WellFormed s m → at ≡ indicesAt (sizesIn s) m
     → x ≡ halves (s .l) (drop at b) ++ drop (s .l) room → take (s .l) x ≡ readQuestion b .indices
@@ -153,3 +160,7 @@ indices-read b s m room x at e k f =
     let front : x ≡ readQuestion b .indices ++ drop (s .l) room =
     f ∙ ap (λ (n : ℕ). halves (s .l) (drop n b) ++ drop (s .l) room) k ∙ ap (λ (y : List ℕ). y ++ drop (s .l) room) (sym (taken b s m e .indices)) in
     ap (take (s .l)) front ∙ take-at (readQuestion b .indices) (drop (s .l) room) (s .l) (asked-indices b s m e .0)
+
+pub words-read : (n at k : ℕ) (b : Bytes) (room x xs : List ℕ) → at ≡ k → xs ≡ words n (drop k b) → x ≡ words n (drop at b) ++ drop n room → take n x ≡ xs
+words-read n at k b room x xs e w f =
+    ap (take n) f ∙ take-at (words n (drop at b)) (drop n room) n (length-words n (drop at b)) ∙ ap (λ (i : ℕ). words n (drop i b)) e ∙ sym w

@@ -1,4 +1,4 @@
-// A question: its tests, which every entry makes first, and its indices.
+// A question: its tests, which every entry makes first, and what it holds.
 ghost use mathlib.Core.Path.{_≡_};
 ghost use mathlib.Core.Bool.{_&&_};
 ghost use Prim.Native.Nat.{_+_, _*_, _≤_};
@@ -15,12 +15,14 @@ use codec::elements_in;
 use codec::half;
 use codec::in_range;
 use codec::read_halves;
+use codec::read_words;
 use codec::same_bytes;
 use codec::wide;
 use commitment::Shape;
 use commitment::challenges_at;
 use commitment::indices_at;
 use commitment::leaf_count;
+use commitment::points_at;
 use commitment::question_length;
 use commitment::root_at;
 use commitment::sizes_ok;
@@ -129,16 +131,41 @@ pub fn ask(question: &[u8]) -> Questioned
     }
 }
 
-// Room for as many indices as a question can have.
+// ---- what a well-formed question holds, to the front of `out`
+
+// Room for as many challenges, points and indices as a question can have.
+pub fn blank_challenges() -> [u32; 4] {
+    [0u32; 4]
+}
+
+pub fn blank_points() -> [u32; 8] {
+    [0u32; 8]
+}
+
 pub fn blank_indices() -> [usize; 64] {
     [0usize; 64]
 }
 
-// The indices of a well-formed question, to the front of `out`.
+// The challenges.
+pub fn question_challenges(question: &[u8], s: Shape, m: u32, out: &mut [u32])
+    requires { ⌜ (questioned (now question) ≡ WellFormed s m) × (4 ≤ length (now out)) ⌝ }
+    ensures { λ _. ⌜ take (s .eta) (now (out .exit)) ≡ readQuestion (now (question .entry)) .challenges ⌝ }
+{
+    read_words(question, challenges_at(), s.eta as usize, out);
+}
+
+// The evaluation points.
+pub fn question_points(question: &[u8], s: Shape, m: u32, out: &mut [u32])
+    requires { ⌜ (questioned (now question) ≡ WellFormed s m) × (8 ≤ length (now out)) ⌝ }
+    ensures { λ _. ⌜ take m (now (out .exit)) ≡ readQuestion (now (question .entry)) .evaluationPoints ⌝ }
+{
+    read_words(question, points_at(s), m as usize, out);
+}
+
+// The indices.
 pub fn question_indices(question: &[u8], s: Shape, m: u32, out: &mut [usize])
     requires { ⌜ (questioned (now question) ≡ WellFormed s m) × (64 ≤ length (now out)) ⌝ }
     ensures { λ _. ⌜ take (s .l) (now (out .exit)) ≡ readQuestion (now (question .entry)) .indices ⌝ }
 {
-    let at = indices_at(s, m as usize);
-    read_halves(question, at, s.l as usize, out);
+    read_halves(question, indices_at(s, m as usize), s.l as usize, out);
 }

@@ -1,11 +1,12 @@
--- For programs: what a test is worth as a walk goes over its elements, and where each record of a question and a reply begins.
+-- Where the parts of a reply stand: each batching answer, evaluation answer and record, as bytes and as words.
 use mathlib.Core.Path.{_≡_, sym, ap, _∙_, subst}
 use mathlib.Core.List.{[]}
 use Prim.Native.Nat.{ℕ, _+_, _*_, _<_}
 use lib.ListN.{take, drop}
 use lib.Seq.{drop-drop}
 use Rattle.lists.specs.Bytes.{words-of-piece, Bytes, words}
-use Rattle.lists.specs.Pieces.{pieces, length-pieces, pieces-at}
+use Rattle.lists.specs.Pieces.{piece, pieces, length-pieces, pieces-at}
+use Rattle.lists.specs.Numbers.{words-piece}
 use Rattle.lists.specs.Tests.{each}
 use Rattle.scheme.specs.Sizes.{elements}
 use Rattle.scheme.specs.Sizes.{width}
@@ -13,8 +14,6 @@ use Rattle.scheme.specs.Question.{Question}
 use Rattle.scheme.specs.Reply.{readReply, answersAt, recordsAt, recordLength}
 use Rattle.scheme.specs.Check.{batchingOf, answerOf, recordAt}
 use Rattle.lists.specs.Maps.{getD-map-in}
-
--- ---- where each record of a reply begins
 
 module _ (u : Question) (reply : Bytes) where
   pub batching-at : (k : ℕ) → k < u .sizes .η → batchingOf (readReply u reply) k ≡ words (width (u .sizes)) (drop (4 * width (u .sizes) * k) reply)
@@ -37,3 +36,13 @@ module _ (u : Question) (reply : Bytes) where
   record-at a l =
       pieces-at (recordLength (u .sizes)) (u .sizes .ℓ) a (drop (recordsAt (u .sizes) (u .m)) reply) l
       ∙ ap (take (recordLength (u .sizes))) (drop-drop (recordLength (u .sizes) * a) (recordsAt (u .sizes) (u .m)) reply)
+
+  -- all batching answers read as words one after the other, and all evaluation answers
+  pub batching-words : (k : ℕ) → k < u .sizes .η → batchingOf (readReply u reply) k ≡ piece (width (u .sizes)) k (words (width (u .sizes) * u .sizes .η) reply)
+  batching-words k l = batching-at k l ∙ sym (words-piece (width (u .sizes)) (u .sizes .η) k reply l)
+
+  pub answer-words : (p : ℕ) → p < u .m → answerOf (readReply u reply) p ≡ piece (width (u .sizes)) p (words (width (u .sizes) * u .m) (drop (answersAt (u .sizes)) reply))
+  answer-words p l =
+      answer-at p l
+      ∙ ap (words (width (u .sizes))) (sym (drop-drop (4 * width (u .sizes) * p) (answersAt (u .sizes)) reply))
+      ∙ sym (words-piece (width (u .sizes)) (u .m) p (drop (answersAt (u .sizes)) reply) l)

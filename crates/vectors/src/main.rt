@@ -6,7 +6,7 @@ ghost use Prim.Native.Nat.{_+_, _*_, _%_, _≤_};
 ghost use lib.ListN.{length};
 ghost use Rattle.lists.specs.Tabulate.{tabulate};
 use libc::STDOUT_FILENO;
-use tree::LeafIndex;
+use node_sets::LeafIndex;
 
 fn wide(b: u8) -> u64 {
     b as u64
@@ -45,7 +45,7 @@ fn print_leaf(m: &[u8], values: usize)
 {
     let size = 4 * values + 32;
     let mut d = [0u8; 32];
-    tree::leaf_digest(LeafIndex(4095), &m[0..size], &mut d);
+    digests::leaf_digest(LeafIndex(4095), &m[0..size], &mut d);
     print_digest(d);
 }
 

@@ -1,15 +1,17 @@
 -- `checker::asked_verdict` meets its contract.
-use mathlib.Core.Path.{_∙_, ap}
-use Prim.Native.Nat.{_+_, _-_, _*_}
-use lib.ListN.{take, drop}
-use Rattle.lists.specs.Bytes.{words, halves, length-words}
+use mathlib.Core.Path.{_≡_, sym, ap, ap₂, _∙_}
+use mathlib.Core.List.{List}
+use Prim.Native.Nat.{ℕ, _-_}
+use lib.ListN.{length, take, drop}
 use Rattle.lists.specs.Tests.{verdictOf}
 use Rattle.scheme.specs.Question.{Question}
 use Rattle.scheme.specs.Check.{replyTests}
+use Rattle.scheme.proofs.Accepted.{sizes-in-order}
 use Rattle.commitment.specs.Shape.{sizesIn}
-use Rattle.lists.specs.Parts.{read-front}
-use Rattle.checker.proofs.Asking.{length-halves, was-posed, posed-is}
+use Rattle.question.proofs.Answer.{taken, asked-indices, challenges-count, points-count}
+use Rattle.checker.proofs.Asking.{was-posed, posed-is}
 use borrow.Author.Needs.{needs}
+use native.Mathlib.Omega.{arith}
 use Rattle.checker.proofs.asked_verdict.Statement.{statement}
 use Rattle.checker.proofs.asked_verdict.Tie as tie
 
@@ -19,98 +21,104 @@ cast-eta c = search needs
 cast-l : tie.Need-cast-l
 cast-l c = search needs
 
-mul-points-at : tie.Need-mul-points-at
-mul-points-at c = search needs
-
-add-points-at : tie.Need-add-points-at
-add-points-at c = search needs
-
 blank-challenges-requires : tie.Need-blank-challenges-requires
 blank-challenges-requires c κs = search needs
 
-slice-aggregate-read-words : tie.Need-slice-aggregate-read-words
-slice-aggregate-read-words c = search needs
+slice-aggregate-question-challenges : tie.Need-slice-aggregate-question-challenges
+slice-aggregate-question-challenges c = search needs
 
-read-words-requires : tie.Need-read-words-requires
-read-words-requires c κs = search needs
+question-challenges-requires : tie.Need-question-challenges-requires
+question-challenges-requires c κs =
+    let b : length (c .before .blank-challenges .result) ≡ 4 = search needs in
+    (c .before .before .before .before .before .before .pre, omega arith)
 
 blank-points-requires : tie.Need-blank-points-requires
 blank-points-requires c κs = search needs
 
-slice-aggregate-read-words-2 : tie.Need-slice-aggregate-read-words-2
-slice-aggregate-read-words-2 c = search needs
+slice-aggregate-question-points : tie.Need-slice-aggregate-question-points
+slice-aggregate-question-points c = search needs
 
-read-words-requires-2 : tie.Need-read-words-requires-2
-read-words-requires-2 c κs = search needs
+question-points-requires : tie.Need-question-points-requires
+question-points-requires c κs =
+    let b : length (c .before .blank-points .result) ≡ 8 = search needs in
+    (c .before .before .before .before .before .before .before .before .before .before .pre, omega arith)
 
 blank-indices-requires : tie.Need-blank-indices-requires
 blank-indices-requires c κs = search needs
 
-mul-read-indices : tie.Need-mul-read-indices
-mul-read-indices c = search needs
+slice-aggregate-question-indices : tie.Need-slice-aggregate-question-indices
+slice-aggregate-question-indices c = search needs
 
-add-read-indices : tie.Need-add-read-indices
-add-read-indices c = search needs
+question-indices-requires : tie.Need-question-indices-requires
+question-indices-requires c κs =
+    let b : length (c .before .blank-indices .result) ≡ 64 = search needs in
+    (c .before .before .before .before .before .before .before .before .before .before .before .before .before .before .pre, omega arith)
 
-slice-aggregate-read-indices : tie.Need-slice-aggregate-read-indices
-slice-aggregate-read-indices c = search needs
+root-at-requires : tie.Need-root-at-requires
+root-at-requires c κs = search needs
 
-read-indices-requires : tie.Need-read-indices-requires
-read-indices-requires c κs = search needs
+challenges-at-requires : tie.Need-challenges-at-requires
+challenges-at-requires c κs = search needs
+
+array-share-prefix-challenges : tie.Need-array-share-prefix-challenges
+array-share-prefix-challenges c =
+    let s = c .before .before .before .before .before .before .before .before .before .before .before .before .before .before .before .before .before .before .args in
+    let b : length (c .before .before .before .before .before .before .before .before .before .before .before .before .before .blank-challenges .result) ≡ 4 = search needs in
+    omega (arith, sizes-in-order (sizesIn (s .s)) (taken (s .question .now) (s .s) (s .m) (c .before .before .before .before .before .before .before .before .before .before .before .before .before .before .before .before .before .before .pre) .sizes-ok) .η-high, c .before .before .before .before .before .before .before .before .before .before .before .question-challenges .kept .1 .1 .1 .0)
+
+slice-aggregate-reply-verdict : tie.Need-slice-aggregate-reply-verdict
+slice-aggregate-reply-verdict c =
+    let s = c .before .before .before .before .before .before .before .before .before .before .before .before .before .before .before .before .before .before .before .args in
+    sym (ap length (c .before .before .before .before .before .before .before .before .before .before .before .before .question-challenges .ensures) ∙ challenges-count (s .question .now) (s .s) (s .m) (c .before .before .before .before .before .before .before .before .before .before .before .before .before .before .before .before .before .before .before .pre))
+
+array-share-prefix-points : tie.Need-array-share-prefix-points
+array-share-prefix-points c =
+    let s = c .before .before .before .before .before .before .before .before .before .before .before .before .before .before .before .before .before .before .before .args in
+    let b : length (c .before .before .before .before .before .before .before .before .before .before .blank-points .result) ≡ 8 = search needs in
+    omega (arith, taken (s .question .now) (s .s) (s .m) (c .before .before .before .before .before .before .before .before .before .before .before .before .before .before .before .before .before .before .before .pre) .m-high, c .before .before .before .before .before .before .before .before .question-points .kept .1 .1 .1 .0)
+
+slice-aggregate-reply-verdict-2 : tie.Need-slice-aggregate-reply-verdict-2
+slice-aggregate-reply-verdict-2 c =
+    let s = c .before .before .before .before .before .before .before .before .before .before .before .before .before .before .before .before .before .before .before .before .args in
+    sym (ap length (c .before .before .before .before .before .before .before .before .before .question-points .ensures) ∙ points-count (s .question .now) (s .s) (s .m) (c .before .before .before .before .before .before .before .before .before .before .before .before .before .before .before .before .before .before .before .before .pre))
+
+array-share-prefix-indices : tie.Need-array-share-prefix-indices
+array-share-prefix-indices c =
+    let s = c .before .before .before .before .before .before .before .before .before .before .before .before .before .before .before .before .before .before .before .before .args in
+    let b : length (c .before .before .before .before .before .before .before .blank-indices .result) ≡ 64 = search needs in
+    omega (arith, sizes-in-order (sizesIn (s .s)) (taken (s .question .now) (s .s) (s .m) (c .before .before .before .before .before .before .before .before .before .before .before .before .before .before .before .before .before .before .before .before .pre) .sizes-ok) .ℓ-high, c .before .before .before .before .before .question-indices .kept .1 .1 .1 .0)
+
+slice-aggregate-reply-verdict-3 : tie.Need-slice-aggregate-reply-verdict-3
+slice-aggregate-reply-verdict-3 c =
+    let s = c .before .before .before .before .before .before .before .before .before .before .before .before .before .before .before .before .before .before .before .before .before .args in
+    sym (ap length (c .before .before .before .before .before .before .question-indices .ensures) ∙ asked-indices (s .question .now) (s .s) (s .m) (c .before .before .before .before .before .before .before .before .before .before .before .before .before .before .before .before .before .before .before .before .before .pre) .0)
 
 sub-reply-verdict : tie.Need-sub-reply-verdict
-sub-reply-verdict c = search needs
+sub-reply-verdict c = omega (arith, c .before .before .before .before .root-at .ensures, c .before .before .before .challenges-at .ensures)
 
 part-reply-verdict-start : tie.Need-part-reply-verdict-start
-part-reply-verdict-start c = search needs
+part-reply-verdict-start c = omega (arith, c .before .before .before .before .root-at .ensures, c .before .before .before .challenges-at .ensures)
 
 part-reply-verdict-end : tie.Need-part-reply-verdict-end
-part-reply-verdict-end c = search needs
-
-sub-reply-verdict-2 : tie.Need-sub-reply-verdict-2
-sub-reply-verdict-2 c = search needs
-
-part-reply-verdict-start-2 : tie.Need-part-reply-verdict-start-2
-part-reply-verdict-start-2 c = search needs
-
-part-reply-verdict-end-2 : tie.Need-part-reply-verdict-end-2
-part-reply-verdict-end-2 c = search needs
-
-sub-reply-verdict-3 : tie.Need-sub-reply-verdict-3
-sub-reply-verdict-3 c = search needs
-
-part-reply-verdict-start-3 : tie.Need-part-reply-verdict-start-3
-part-reply-verdict-start-3 c = search needs
-
-part-reply-verdict-end-3 : tie.Need-part-reply-verdict-end-3
-part-reply-verdict-end-3 c = search needs
-
-sub-reply-verdict-4 : tie.Need-sub-reply-verdict-4
-sub-reply-verdict-4 c = search needs
-
-part-reply-verdict-start-4 : tie.Need-part-reply-verdict-start-4
-part-reply-verdict-start-4 c = search needs
-
-part-reply-verdict-end-4 : tie.Need-part-reply-verdict-end-4
-part-reply-verdict-end-4 c = search needs
+part-reply-verdict-end c =
+    let s = c .before .before .before .before .before .before .before .before .before .before .before .before .before .before .before .before .before .before .before .before .before .args in
+    omega (arith, c .before .before .before .challenges-at .ensures, taken (s .question .now) (s .s) (s .m) (c .before .before .before .before .before .before .before .before .before .before .before .before .before .before .before .before .before .before .before .before .before .pre) .long)
 
 reply-verdict-requires : tie.Need-reply-verdict-requires
 reply-verdict-requires c κs =
-    let s = c .before .before .before .before .before .before .before .before .before .before .before .before .before .before .before .before .before .before .before .before .before .before .before .args in
-    was-posed (sizesIn (s .s)) (s .m) (s .question .now) (take (s .s .eta - 0) (drop 0 (c .before .before .before .before .before .before .before .before .before .before .before .before .before .before .before .before .read-words .last .1 .1 .1 .0))) (take (s .m - 0) (drop 0 (c .before .before .before .before .before .before .before .before .before .before .before .before .read-words2 .last .1 .1 .1 .0))) (take (s .s .l - 0) (drop 0 (c .before .before .before .before .before .before .before .before .read-indices .last .1 .1 .1 .0))) (c .before .before .before .before .before .before .before .before .before .before .before .before .before .before .before .before .before .before .before .before .before .before .before .pre)
-    (read-front (s .s .eta) (words (s .s .eta) (drop (46) (s .question .now))) (c .before .before .before .before .before .before .before .before .before .before .before .before .before .before .before .before .before .before .blank-challenges .result) (c .before .before .before .before .before .before .before .before .before .before .before .before .before .before .before .before .read-words .last .1 .1 .1 .0) (length-words (s .s .eta) _) (c .before .before .before .before .before .before .before .before .before .before .before .before .before .before .before .before .read-words .ensures))
-    (read-front (s .m) (words (s .m) (drop (46 + 4 * s .s .eta) (s .question .now))) (c .before .before .before .before .before .before .before .before .before .before .before .before .before .before .blank-points .result) (c .before .before .before .before .before .before .before .before .before .before .before .before .read-words2 .last .1 .1 .1 .0) (length-words (s .m) _) (c .before .before .before .before .before .before .before .before .before .before .before .before .read-words2 .ensures))
-    (read-front (s .s .l) (halves (s .s .l) (drop (46 + 4 * s .s .eta + 4 * s .m) (s .question .now))) (c .before .before .before .before .before .before .before .before .before .before .blank-indices .result) (c .before .before .before .before .before .before .before .before .read-indices .last .1 .1 .1 .0) (length-halves (s .s .l) _) (c .before .before .before .before .before .before .before .before .read-indices .ensures))
+    let s = c .before .before .before .before .before .before .before .before .before .before .before .before .before .before .before .before .before .before .before .before .before .before .args in
+    was-posed (s .question .now) (s .s) (s .m) (take (s .s .eta) (c .before .before .before .before .before .before .before .before .before .before .before .before .before .before .before .question-challenges .last .1 .1 .1 .0)) (take (s .m) (c .before .before .before .before .before .before .before .before .before .before .before .question-points .last .1 .1 .1 .0)) (take (s .s .l) (c .before .before .before .before .before .before .before .question-indices .last .1 .1 .1 .0)) (c .before .before .before .before .before .before .before .before .before .before .before .before .before .before .before .before .before .before .before .before .before .before .pre)
+    (c .before .before .before .before .before .before .before .before .before .before .before .before .before .before .before .question-challenges .ensures) (c .before .before .before .before .before .before .before .before .before .before .before .question-points .ensures) (c .before .before .before .before .before .before .before .question-indices .ensures)
 
 returns : tie.Need-returns
 returns c =
-    let s = c .before .before .before .before .before .before .before .before .before .before .before .before .before .before .before .before .before .before .before .before .before .before .before .before .args in
+    let s = c .before .before .before .before .before .before .before .before .before .before .before .before .before .before .before .before .before .before .before .before .before .before .before .args in
+    let root : List ℕ = take (c .before .before .before .before .before .challenges-at .result - c .before .before .before .before .before .before .root-at .result) (drop (c .before .before .before .before .before .before .root-at .result) (s .question .now)) in
     c .reply-verdict .ensures
     ∙ ap (λ (u : Question). verdictOf (replyTests u (s .reply .now)))
-    (posed-is (sizesIn (s .s)) (s .m) (s .question .now) (take (s .s .eta - 0) (drop 0 (c .before .before .before .before .before .before .before .before .before .before .before .before .before .before .before .before .before .read-words .last .1 .1 .1 .0))) (take (s .m - 0) (drop 0 (c .before .before .before .before .before .before .before .before .before .before .before .before .before .read-words2 .last .1 .1 .1 .0))) (take (s .s .l - 0) (drop 0 (c .before .before .before .before .before .before .before .before .before .read-indices .last .1 .1 .1 .0)))
-    (read-front (s .s .eta) (words (s .s .eta) (drop (46) (s .question .now))) (c .before .before .before .before .before .before .before .before .before .before .before .before .before .before .before .before .before .before .before .blank-challenges .result) (c .before .before .before .before .before .before .before .before .before .before .before .before .before .before .before .before .before .read-words .last .1 .1 .1 .0) (length-words (s .s .eta) _) (c .before .before .before .before .before .before .before .before .before .before .before .before .before .before .before .before .before .read-words .ensures))
-    (read-front (s .m) (words (s .m) (drop (46 + 4 * s .s .eta) (s .question .now))) (c .before .before .before .before .before .before .before .before .before .before .before .before .before .before .before .blank-points .result) (c .before .before .before .before .before .before .before .before .before .before .before .before .before .read-words2 .last .1 .1 .1 .0) (length-words (s .m) _) (c .before .before .before .before .before .before .before .before .before .before .before .before .before .read-words2 .ensures))
-    (read-front (s .s .l) (halves (s .s .l) (drop (46 + 4 * s .s .eta + 4 * s .m) (s .question .now))) (c .before .before .before .before .before .before .before .before .before .before .before .blank-indices .result) (c .before .before .before .before .before .before .before .before .before .read-indices .last .1 .1 .1 .0) (length-halves (s .s .l) _) (c .before .before .before .before .before .before .before .before .before .read-indices .ensures)))
+    (posed-is (s .question .now) (s .s) (s .m) root (take (s .s .eta) (c .before .before .before .before .before .before .before .before .before .before .before .before .before .before .before .before .question-challenges .last .1 .1 .1 .0)) (take (s .m) (c .before .before .before .before .before .before .before .before .before .before .before .before .question-points .last .1 .1 .1 .0)) (take (s .s .l) (c .before .before .before .before .before .before .before .before .question-indices .last .1 .1 .1 .0)) (c .before .before .before .before .before .before .before .before .before .before .before .before .before .before .before .before .before .before .before .before .before .before .before .pre)
+    (ap₂ (λ (to from : ℕ). take (to - from) (drop from (s .question .now))) (c .before .before .before .before .before .challenges-at .ensures) (c .before .before .before .before .before .before .root-at .ensures))
+    (c .before .before .before .before .before .before .before .before .before .before .before .before .before .before .before .before .question-challenges .ensures) (c .before .before .before .before .before .before .before .before .before .before .before .before .question-points .ensures) (c .before .before .before .before .before .before .before .before .question-indices .ensures))
 
 pub asked-verdict-spec : {M : Type 1} → statement M
 asked-verdict-spec =
@@ -118,30 +126,25 @@ asked-verdict-spec =
     (tie.spec
     cast-eta
     cast-l
-    mul-points-at
-    add-points-at
     blank-challenges-requires
-    slice-aggregate-read-words
-    read-words-requires
+    slice-aggregate-question-challenges
+    question-challenges-requires
     blank-points-requires
-    slice-aggregate-read-words-2
-    read-words-requires-2
+    slice-aggregate-question-points
+    question-points-requires
     blank-indices-requires
-    mul-read-indices
-    add-read-indices
-    slice-aggregate-read-indices
-    read-indices-requires
+    slice-aggregate-question-indices
+    question-indices-requires
+    root-at-requires
+    challenges-at-requires
+    array-share-prefix-challenges
+    slice-aggregate-reply-verdict
+    array-share-prefix-points
+    slice-aggregate-reply-verdict-2
+    array-share-prefix-indices
+    slice-aggregate-reply-verdict-3
     sub-reply-verdict
     part-reply-verdict-start
     part-reply-verdict-end
-    sub-reply-verdict-2
-    part-reply-verdict-start-2
-    part-reply-verdict-end-2
-    sub-reply-verdict-3
-    part-reply-verdict-start-3
-    part-reply-verdict-end-3
-    sub-reply-verdict-4
-    part-reply-verdict-start-4
-    part-reply-verdict-end-4
     reply-verdict-requires
     returns)

@@ -1,10 +1,17 @@
 -- `checker::check_reply` meets its contract.
-use Rattle.scheme.specs.Question.{questionAt}
+use mathlib.Core.Path.{_≡_, sym, ap₂, _∙_, subst}
+use mathlib.Core.Bool.{Bool}
+use Prim.Native.Nat.{ℕ, _*_, _≤_}
+use lib.ListN.{length}
+use Rattle.scheme.specs.Question.{Question, readQuestion}
+use Rattle.scheme.specs.Reply.{recordsAt}
+use Rattle.scheme.specs.Sizes.{Sizes}
+use Rattle.scheme.proofs.Accepted.{sizes-in-order}
 use Rattle.commitment.specs.Shape.{sizesIn}
 use Rattle.commitment.proofs.Places.{buffer-high}
-use Rattle.checker.proofs.Asking.{answer-2, answer-refused, answer-0, accepted-length}
+use Rattle.question.proofs.Answer.{taken, well-asked}
+use Rattle.checker.proofs.Asking.{answer-2, answer-refused, answer-0, values-count, accepted-room}
 use borrow.Author.Needs.{needs}
-use native.Mathlib.Omega.{arith}
 use Rattle.checker.proofs.check_reply.Statement.{statement}
 use Rattle.checker.proofs.check_reply.Tie as tie
 
@@ -13,12 +20,14 @@ cast-if1 c = search needs
 
 mul-if1 : tie.Need-mul-if1
 mul-if1 c =
-    let h = buffer-high (sizesIn (c .before .before .before .before .args .s)) (c .before .before .before .before .pre .in-order) (c .before .before .before .before .args .m) (c .before .before .before .before .pre .few-points) in search needs
+    let s = c .before .before .before .before .args in
+    let t = taken (s .question .now) (s .s) (s .m) (c .before .before .before .before .pre) in
+    let h = buffer-high (sizesIn (s .s)) (sizes-in-order (sizesIn (s .s)) (t .sizes-ok)) (s .m) (t .m-high) in search needs
 
 returns : tie.Need-returns
 returns c =
     let s = c .before .before .before .before .before .args in
-    answer-2 (questionAt (sizesIn (s .s)) (s .m) (s .question .now)) (s .reply .now) (s .values .now) (c .if1 .taken)
+    answer-2 (readQuestion (s .question .now)) (s .reply .now) (s .values .now) (λ e. c .if1 .taken (e ∙ sym (values-count (s .question .now) (s .s) (s .m) (c .before .before .before .before .before .pre))))
 
 asked-verdict-requires : tie.Need-asked-verdict-requires
 asked-verdict-requires c κs = search needs
@@ -26,13 +35,12 @@ asked-verdict-requires c κs = search needs
 returns-2 : tie.Need-returns-2
 returns-2 c =
     let s = c .before .before .before .before .before .before .before .args in
-    answer-refused (questionAt (sizesIn (s .s)) (s .m) (s .question .now)) (s .reply .now) (s .values .now) (c .before .asked-verdict .result) (c .before .before .if1 .left) (c .before .asked-verdict .ensures) (c .if2 .taken)
+    answer-refused (readQuestion (s .question .now)) (s .reply .now) (s .values .now) (c .before .asked-verdict .result) (c .before .before .if1 .left ∙ values-count (s .question .now) (s .s) (s .m) (c .before .before .before .before .before .before .before .pre)) (c .before .asked-verdict .ensures) (c .if2 .taken)
 
 fill-values-requires : tie.Need-fill-values-requires
 fill-values-requires c κs =
     let s = c .before .before .before .before .before .before .before .before .args in
-    let e = accepted-length (questionAt (sizesIn (s .s)) (s .m) (s .question .now)) (s .reply .now) (c .before .before .asked-verdict .result) (c .before .before .asked-verdict .ensures) (c .before .if2 .left) in
-    (c .before .before .before .before .before .before .before .before .pre .in-order, c .before .before .before .before .before .before .before .before .pre .few-points, c .before .before .before .before .before .before .before .before .pre .long, omega (arith, e), c .before .before .before .if1 .left)
+    (c .before .before .before .before .before .before .before .before .pre, accepted-room (s .question .now) (s .reply .now) (s .s) (s .m) (c .before .before .asked-verdict .result) (c .before .before .before .before .before .before .before .before .pre) (c .before .before .asked-verdict .ensures) (c .before .if2 .left), c .before .before .before .if1 .left)
 
 same-length : tie.Need-same-length
 same-length c = search needs
@@ -40,7 +48,7 @@ same-length c = search needs
 returns-3 : tie.Need-returns-3
 returns-3 c =
     let s = c .before .before .before .before .before .before .before .before .before .before .before .args in
-    answer-0 (questionAt (sizesIn (s .s)) (s .m) (s .question .now)) (s .reply .now) (s .values .now) (c .before .before .before .before .before .asked-verdict .result) (c .before .before .fill-values .last .1 .1 .1 .1 .0) (c .before .before .before .before .before .before .if1 .left) (c .before .before .before .before .before .asked-verdict .ensures) (c .before .before .before .before .if2 .left) (c .before .before .fill-values .ensures)
+    answer-0 (readQuestion (s .question .now)) (s .reply .now) (s .values .now) (c .before .before .before .before .before .asked-verdict .result) (c .before .before .fill-values .last .1 .1 .1 .1 .0) (c .before .before .before .before .before .before .if1 .left ∙ values-count (s .question .now) (s .s) (s .m) (c .before .before .before .before .before .before .before .before .before .before .before .pre)) (c .before .before .before .before .before .asked-verdict .ensures) (c .before .before .before .before .if2 .left) (c .before .before .fill-values .ensures)
 
 pub check-reply-spec : {M : Type 1} → statement M
 check-reply-spec =

@@ -1,0 +1,43 @@
+// The root that a reply gives: the digests of its opened leaves, and the missing nodes after them.
+ghost use mathlib.Core.Path.{_≡_};
+ghost use mathlib.Core.List.{_++_};
+ghost use Prim.Native.Nat.{_+_, _*_, _≤_};
+ghost use lib.ListN.{length, drop};
+ghost use Rattle.lists.specs.All.{Below};
+ghost use Rattle.lists.specs.Rows.{rowsOf};
+ghost use Rattle.tree.specs.Sets.{missing};
+ghost use Rattle.tree.specs.Clauses.{IndexSet};
+ghost use Rattle.reply_root.specs.Root.{leafDigestAt, rootAt};
+use digests::leaf_digest;
+use node_sets::opened_index;
+use tree_root::root_of;
+
+// The digest of each opened leaf: its record is handed on as the part of the reply that holds it.
+fn leaf_digests(at: usize, size: usize, indices: &[usize], reply: &[u8], out: &mut [u8])
+    requires { ⌜ Below 65536 (now indices) × (size ≤ 304) × (at + size * length (now indices) ≤ length (now reply)) × (32 * length (now indices) ≤ length (now out)) ⌝ }
+    ensures { λ _. ⌜ now (out .exit) ≡ rowsOf (leafDigestAt at size (now (indices .entry)) (now (reply .entry))) (length (now (indices .entry))) ++ drop (32 * length (now (indices .entry))) (now (out .entry)) ⌝ }
+{
+    for a in 0..indices.len() {
+        let from = at + size * a;
+        let to = from + size;
+        let first = 32 * a;
+        let last = first + 32;
+        leaf_digest(opened_index(indices, a), &reply[from..to], &mut out[first..last]);
+    }
+}
+
+// Room for the digests of 64 leaves.
+fn blank_digests() -> [u8; 2048] {
+    [0u8; 2048]
+}
+
+// The root that the opened leaves, whose records begin at `at`, and the missing nodes after them give.
+pub fn reply_root(h: usize, at: usize, size: usize, indices: &[usize], reply: &[u8]) -> [u8; 32]
+    requires { ⌜ IndexSet h (now indices) × (size ≤ 304) × (at + size * length (now indices) + 32 * length (missing 2 h (now indices)) ≤ length (now reply)) ⌝ }
+    ensures { λ r. ⌜ r ≡ rootAt h at size (now (indices .entry)) (now (reply .entry)) ⌝ }
+{
+    let mut digests = blank_digests();
+    leaf_digests(at, size, indices, reply, &mut digests);
+    let nodes = at + size * indices.len();
+    root_of(h, indices, &digests, &reply[nodes..])
+}
