@@ -85,14 +85,16 @@ module _ (b : Bytes) (l : Lent) (table : List ℕ) (nodes reply : Bytes) (s : Sh
 
   pub ready : Ready b (sizesIn s) m l table nodes reply
   ready = record {
-    sizes = sizes-ok b s m e;
+    lent = record {
+      sizes = sizes-ok b s m e;
+      lengths = lengths .0;
+      elements = true-every (lentElements l) (every-true _ (lent-passed b l table nodes reply z .1) .1);
+    };
     points = points-few b s m e;
     long = long b s m e;
     rising = rising b s m e;
     leaf = leaf b s m e;
-    lengths = lengths .0;
     filled = lengths .1 .0;
-    elements = true-every (lentElements l) (every-true _ (lent-passed b l table nodes reply z .1) .1);
     room = le-of-eq (sym exact);
     small = subst (λ (n : ℕ). n ≤ 65536) (sym exact) (reply-small b s m e);
   }

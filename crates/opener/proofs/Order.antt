@@ -22,14 +22,6 @@ use Rattle.question.specs.declared.Questioned.the-variants.{WellFormed}
 use Rattle.question.proofs.Answer.{taken}
 use Rattle.opener.proofs.Given.{asked, question-is}
 
-pub three : (a b c r p : Bool) → p ≡ b && c → r ≡ a && p → r ≡ every (a ∷ b ∷ c ∷ [])
-unfolding every
-three a b c r p e f = f ∙ ap (λ (x : Bool). a && x) (e ∙ ap (λ (x : Bool). b && x) (sym (and-right c)))
-
-pub before : (a r p : Bool) (bs : List Bool) → p ≡ every bs → r ≡ a && p → r ≡ every (a ∷ bs)
-unfolding every
-before a r p bs e f = f ∙ ap (λ (x : Bool). a && x) e
-
 module _ (b : Bytes) (l : Lent) (table : List ℕ) (nodes reply : Bytes) (s : Shape) (m : ℕ) (indices : List ℕ)
     (given : (questioned b ≡ WellFormed s m) × (indices ≡ readQuestion b .indices)) where
   abbrev measured : Bool

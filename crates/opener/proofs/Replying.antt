@@ -27,11 +27,11 @@ module _ (question : Bytes) (t : Sizes) (m : ℕ) (l : Lent) (table : List ℕ) 
   abbrev u : Question
   u = questionAt t m question
 
-  g : SizesInOrder t
-  g = ready .sizes
-
   r : LentFacts t l
-  r = lent-facts t l (record { sizes = ready .sizes; lengths = ready .lengths; elements = ready .elements })
+  r = lent-facts t l (ready .lent)
+
+  g : SizesInOrder t
+  g = r .sizes
 
   -- ---- the answers
 
@@ -43,7 +43,7 @@ module _ (question : Bytes) (t : Sizes) (m : ℕ) (l : Lent) (table : List ℕ) 
     points = ready .points;
     long = ready .long;
     combine = record {
-      extend = record { sizes = ready .sizes; coefficients-length = r .c-length; tails-length = r .t-length };
+      extend = record { sizes = g; coefficients-length = r .c-length; tails-length = r .t-length };
       coefficients-below = r .c-below;
       tails-below = r .t-below;
     };
@@ -63,9 +63,9 @@ module _ (question : Bytes) (t : Sizes) (m : ℕ) (l : Lent) (table : List ℕ) 
 
   can-list : (o : Bytes) → length o ≡ length reply → CanList t m table (l .nonces) (u .indices) nodes o
   can-list o e = record {
-    sizes = ready .sizes;
+    sizes = g;
     points = ready .points;
-    recorded = record { values = filled-lengths t table nodes (ready .filled) .0; nonce = r .n-length; leaf = ready .leaf };
+    recorded = record { sizes = g; values = filled-lengths t table nodes (ready .filled) .0; nonce = r .n-length; leaf = ready .leaf };
     count = count;
     set = record {
       depth = g .h-high;

@@ -13,7 +13,7 @@ use Rattle.algebra.specs.Pairs.{pointsEnd}
 use Rattle.scheme.specs.Sizes.{Sizes, SizesInOrder, leaves, width}
 use Rattle.scheme.specs.Layers.{Lent, lentOf, extendedRows}
 use Rattle.scheme.specs.Question.{Question, challengesAt, pointsAt, questionAt}
-use Rattle.scheme.specs.Reply.{recordsAt}
+use Rattle.scheme.specs.Reply.{recordsAt, answersAt}
 use Rattle.scheme.specs.Open.{openedBatching, openedAnswers}
 use Rattle.scheme.proofs.Accepted.{sizes-in-order, leaves-high}
 use Rattle.scheme.proofs.HonestAnswers.{combination-length}
@@ -43,40 +43,54 @@ module _ (t : Sizes) (m : ℕ) (question : Bytes) (coefficients tails masks : Li
   g : SizesInOrder t
   g = can .combine .extend .sizes
 
-  pub batchings-ask : (n first : ℕ) → n ≡ width t → first ≡ leaves t
-      → CanCombine t coefficients tails × (n ≡ width t) × (first + n ≤ pointsEnd) × (length masks ≡ t .η * n) × (challengesAt + 4 * t .η ≤ length question) × (0 + 4 * n * t .η ≤ length o)
-  batchings-ask n first e f =
-      subst (λ (k : ℕ). CanCombine t coefficients tails × (k ≡ width t) × (first + k ≤ pointsEnd) × (length masks ≡ t .η * k) × (challengesAt + 4 * t .η ≤ length question) × (0 + 4 * k * t .η ≤ length o)) (sym e)
-      (can .combine, refl, omega (arith, f, leaves-high t g, width-high t g), can .masks-length, omega (arith, can .long), omega (arith, can .room))
+  pub batchings-ask : (n first from : ℕ) → n ≡ width t → first ≡ leaves t → from ≡ challengesAt
+      → CanCombine t coefficients tails × (n ≡ width t) × (first + n ≤ pointsEnd) × (length masks ≡ t .η * n) × (from + 4 * t .η ≤ length question) × (0 + 4 * n * t .η ≤ length o)
+  batchings-ask n first from e f h = (
+    can .combine,
+    e,
+    omega (arith, e, f, leaves-high t g, width-high t g),
+    can .masks-length ∙ ap (λ (k : ℕ). t .η * k) (sym e),
+    omega (arith, h, can .long),
+    subst (λ (k : ℕ). 0 + 4 * k * t .η ≤ length o) (sym e) (omega (arith, can .room)),
+  )
 
-  pub answers-ask : (n : ℕ) (o₁ : Bytes) → n ≡ width t → length o₁ ≡ length o
-      → CanCombine t coefficients tails × (n ≡ width t) × (46 + 4 * t .η + 4 * m ≤ length question) × (4 * n * t .η + 4 * n * m ≤ length o₁)
-  answers-ask n o₁ e k =
-      subst (λ (j : ℕ). CanCombine t coefficients tails × (j ≡ width t) × (46 + 4 * t .η + 4 * m ≤ length question) × (4 * j * t .η + 4 * j * m ≤ length o₁)) (sym e)
-      (can .combine, refl, omega (arith, can .long), subst (λ (j : ℕ). recordsAt t m ≤ j) (sym k) (can .room))
+  pub answers-ask : (n from at : ℕ) (o₁ : Bytes) → n ≡ width t → from ≡ pointsAt t → at ≡ answersAt t → length o₁ ≡ length o
+      → CanCombine t coefficients tails × (n ≡ width t) × (from + 4 * m ≤ length question) × (at + 4 * n * m ≤ length o₁)
+  answers-ask n from at o₁ e f h k = (
+    can .combine,
+    e,
+    omega (arith, f, can .long),
+    subst (λ (j : ℕ). at + 4 * j * m ≤ length o₁) (sym e) (omega (arith, h, k, can .room)),
+  )
 
   -- what the two loops leave
-  abbrev Left : ℕ → ℕ → Bytes → Bytes → Type 0
-  Left n first o₁ o₂ =
-      (o₁ ≡ spliced 0 (4 * n * t .η) (bytesOf (flatten (map (batchingAt first n es masks (words (t .η) (drop 46 question))) (upFrom 0 (t .η))))) o)
-      → (o₂ ≡ spliced (4 * n * t .η) (4 * n * m) (bytesOf (flatten (map (answerAt n es) (words m (drop (46 + 4 * t .η) question))))) o₁)
+  abbrev Left : ℕ → ℕ → ℕ → ℕ → ℕ → Bytes → Bytes → Type 0
+  Left n first challenges points at o₁ o₂ =
+      (o₁ ≡ spliced 0 (4 * n * t .η) (bytesOf (flatten (map (batchingAt first n es masks (words (t .η) (drop challenges question))) (upFrom 0 (t .η))))) o)
+      → (o₂ ≡ spliced at (4 * n * m) (bytesOf (flatten (map (answerAt n es) (words m (drop points question))))) o₁)
       → o₂ ≡ sums (questionAt t m question) es masks ++ drop (recordsAt t m) o
 
-  left : (o₁ o₂ : Bytes) → Left (width t) (leaves t) o₁ o₂
+  left : (o₁ o₂ : Bytes) → Left (width t) (leaves t) challengesAt (pointsAt t) (answersAt t) o₁ o₂
   unfolding sums
   left o₁ o₂ h₁ h₂ =
-      let f : ℕ → List ℕ = batchingAt (leaves t) (width t) es masks (words (t .η) (drop 46 question)) in
+      let f : ℕ → List ℕ = batchingAt (leaves t) (width t) es masks (words (t .η) (drop challengesAt question)) in
       two-parts (4 * width t * t .η) (4 * width t * m) (bytesOf (flatten (map f (upFrom 0 (t .η))))) _ o o₁ o₂
       (answers-length f (upFrom 0 (t .η)) (width t) (λ k. combination-length (width t) _ _) ∙ ap (λ (k : ℕ). 4 * width t * k) (length-upFrom 0 (t .η)))
       (can .room) h₁ h₂
 
-  pub sums-are : (n first : ℕ) (o₁ o₂ : Bytes) → n ≡ width t → first ≡ leaves t → Left n first o₁ o₂
-  sums-are n first o₁ o₂ e f = subst (λ (k : ℕ). Left k first o₁ o₂) (sym e) (subst (λ (k : ℕ). Left (width t) k o₁ o₂) (sym f) (left o₁ o₂))
+  pub sums-are : (n first challenges points at : ℕ) (o₁ o₂ : Bytes) → n ≡ width t → first ≡ leaves t → challenges ≡ challengesAt → points ≡ pointsAt t → at ≡ answersAt t
+      → Left n first challenges points at o₁ o₂
+  sums-are n first challenges points at o₁ o₂ en ef ec ep ea =
+      subst (λ (k : ℕ). Left n first challenges points k o₁ o₂) (sym ea)
+      (subst (λ (k : ℕ). Left n first challenges k (answersAt t) o₁ o₂) (sym ep)
+      (subst (λ (k : ℕ). Left n first k (pointsAt t) (answersAt t) o₁ o₂) (sym ec)
+      (subst (λ (k : ℕ). Left n k challengesAt (pointsAt t) (answersAt t) o₁ o₂) (sym ef)
+      (subst (λ (k : ℕ). Left k (leaves t) challengesAt (pointsAt t) (answersAt t) o₁ o₂) (sym en) (left o₁ o₂)))))
 
 pub sums-length : (t : Sizes) (m : ℕ) (question : Bytes) (es : List (List ℕ)) (masks : List ℕ) → length (sums (questionAt t m question) es masks) ≡ recordsAt t m
 unfolding sums
 sums-length t m question es masks =
-    let f : ℕ → List ℕ = batchingAt (leaves t) (width t) es masks (words (t .η) (drop 46 question)) in
+    let f : ℕ → List ℕ = batchingAt (leaves t) (width t) es masks (words (t .η) (drop challengesAt question)) in
     let g : ℕ → List ℕ = answerAt (width t) es in
     let zs : List ℕ = words m (drop (pointsAt t) question) in
     length-append (bytesOf (flatten (map f (upFrom 0 (t .η))))) (bytesOf (flatten (map g zs)))

@@ -1,7 +1,7 @@
 -- The parts of a reply, over the extended rows.
 use mathlib.Core.Path.{_≡_}
 use mathlib.Core.List.{List, _++_, map, flatten}
-use Prim.Native.Nat.{ℕ, _+_, _*_, _≤_}
+use Prim.Native.Nat.{ℕ, _+_, _*_, _≤_, _<_}
 use lib.ListN.{length}
 use Rattle.lists.specs.All.{Below}
 use Rattle.lists.specs.Bytes.{Bytes, bytesOf}
@@ -13,8 +13,16 @@ use Rattle.scheme.specs.Question.{Question, questionLength}
 use Rattle.scheme.specs.Reply.{recordsAt, nodesAt}
 use Rattle.answers.specs.Answers.{CanCombine, batchingAt, answerAt}
 
--- the table and the nonces have a record for each index
+-- the table and the nonces have the record of leaf i
+pub record CanCopy (s : Sizes) (table : List ℕ) (nonces : Bytes) (i : ℕ) : Type 0 where
+  pub sizes : SizesInOrder s
+  pub values : recordValues s * i + recordValues s ≤ length table
+  pub nonce : 32 * i + 32 ≤ length nonces
+  pub index : i < 65536
+
+-- and one for each index
 pub record CanRecord (s : Sizes) (table : List ℕ) (nonces : Bytes) (indices : List ℕ) : Type 0 where
+  pub sizes : SizesInOrder s
   pub values : length table ≡ leaves s * recordValues s
   pub nonce : length nonces ≡ 32 * leaves s
   pub leaf : Below (leaves s) indices

@@ -8,8 +8,8 @@ ghost use lib.ListN.{length, take, drop};
 ghost use Rattle.lists.specs.Tests.{every, same};
 ghost use Rattle.scheme.specs.Layers.{lentOf, extendedRows};
 ghost use Rattle.scheme.specs.Commit.{lentOk, filledOk, lentElements, lastDigest, leafRecord};
-ghost use Rattle.scheme.specs.Sizes.{sizesOk, elements, recordValues};
-ghost use Rattle.scheme.specs.Question.{headerLength, readQuestion, questionAt};
+ghost use Rattle.scheme.specs.Sizes.{SizesInOrder, elements};
+ghost use Rattle.scheme.specs.Question.{headerLength, challengesAt, readQuestion, questionAt};
 ghost use Rattle.scheme.specs.Reply.{recordLength, recordsAt, nodesAt, replyLength};
 ghost use Rattle.scheme.specs.Open.{replyOf, openVerdict, opening};
 ghost use Rattle.tree.specs.Sets.{missing};
@@ -19,23 +19,29 @@ ghost use Rattle.commitment.specs.Shape.{sizesIn};
 ghost use Rattle.question.specs.Questioned.{questioned};
 ghost use Rattle.question.specs.declared.Questioned.the-variants.{WellFormed};
 ghost use Rattle.lists.specs.Spliced.{spliced};
-ghost use Rattle.opener.specs.Parts.{CanRecord, CanList, CanSum, sums};
+ghost use Rattle.opener.specs.Parts.{CanCopy, CanRecord, CanList, CanSum, sums};
 ghost use Rattle.opener.specs.Opened.{numberOf, lengthOf};
 ghost use Rattle.opener.specs.Ready.{Ready};
 use answers::put_answers;
 use answers::put_batchings;
 use question::Questioned;
 use commitment::Shape;
+use commitment::answers_at;
+use commitment::challenges_at;
 use question::ask;
 use question::blank_indices;
 use codec::both;
 use codec::elements_ok;
 use commitment::leaf_count;
 use commitment::nodes_at;
+use commitment::points_at;
+use commitment::record_length;
+use commitment::record_values;
 use codec::put_bytes;
 use codec::put_words;
 use question::question_indices;
 use commitment::records_at;
+use commitment::root_at;
 use commitment::row_width;
 use codec::same_bytes;
 use field::Element;
@@ -44,20 +50,18 @@ use lent::lent_elements;
 use lent::lent_ok;
 use planner::length_for;
 use missing_nodes::list_missing;
-
-// Where the root and the challenges begin in a question.
-const ROOT: usize = 14;
-
-const CHALLENGES: usize = 46;
+use node_sets::LeafIndex;
+use node_sets::opened_index;
 
 // ---- the records one after the other
 
-// The values of leaf i from the table, and its nonce.
-fn put_record(s: Shape, table: &[u32], nonces: &[u8], i: usize, out: &mut [u8], at: usize)
-    requires { ⌜ (recordValues (sizesIn s) * i + recordValues (sizesIn s) ≤ length (now table)) × (32 * i + 32 ≤ length (now nonces)) × (at + recordLength (sizesIn s) ≤ length (now out)) ⌝ }
-    ensures { λ _. ⌜ now (out .exit) ≡ spliced at (recordLength (sizesIn s)) (leafRecord (sizesIn s) (now (table .entry)) (now (nonces .entry)) i) (now (out .entry)) ⌝ }
+// The values of a leaf from the table, and its nonce.
+fn put_record(s: Shape, table: &[u32], nonces: &[u8], leaf: LeafIndex, out: &mut [u8], at: usize)
+    requires { ⌜ CanCopy (sizesIn s) (now table) (now nonces) (leaf .0) × (at + recordLength (sizesIn s) ≤ length (now out)) ⌝ }
+    ensures { λ _. ⌜ now (out .exit) ≡ spliced at (recordLength (sizesIn s)) (leafRecord (sizesIn s) (now (table .entry)) (now (nonces .entry)) (leaf .0)) (now (out .entry)) ⌝ }
 {
-    let n = s.mu as usize + s.eta as usize;
+    let i = leaf.0 as usize;
+    let n = record_values(s);
     let from = n * i;
     let to = from + n;
     put_words(out, at, &table[from..to]);
@@ -71,9 +75,10 @@ fn put_records(s: Shape, table: &[u32], nonces: &[u8], indices: &[usize], out: &
     requires { ⌜ CanRecord (sizesIn s) (now table) (now nonces) (now indices) × (at + recordLength (sizesIn s) * length (now indices) ≤ length (now out)) ⌝ }
     ensures { λ _. ⌜ now (out .exit) ≡ spliced at (recordLength (sizesIn s) * length (now (indices .entry))) (flatten (map (leafRecord (sizesIn s) (now (table .entry)) (now (nonces .entry))) (now (indices .entry)))) (now (out .entry)) ⌝ }
 {
-    let size = 4 * (s.mu as usize + s.eta as usize) + 32;
+    let size = record_length(s);
     for a in 0..indices.len() {
-        put_record(s, table, nonces, indices[a], out, at + size * a);
+        let leaf = opened_index(indices, a);
+        put_record(s, table, nonces, leaf, out, at + size * a);
     }
 }
 
@@ -92,7 +97,7 @@ fn lengths_ok(
     tree: &[u8],
     reply: &[u8],
 ) -> bool
-    requires { ⌜ (sizesOk (sizesIn s) ≡ true) × (m ≤ 8) × IndexSet (s .h) (now indices) ⌝ }
+    requires { ⌜ SizesInOrder (sizesIn s) × (m ≤ 8) × IndexSet (s .h) (now indices) ⌝ }
     ensures { λ r. ⌜ r ≡ every (lentOk (sizesIn s) (lentOf (now (coefficients .entry)) (now (tails .entry)) (now (masks .entry)) (now (nonces .entry))) ∷ filledOk (sizesIn s) (now (table .entry)) (now (tree .entry)) ∷ eqb (length (now (reply .entry))) (nodesAt (sizesIn s) m + 32 * length (missing 2 (s .h) (now (indices .entry)))) ∷ []) ⌝ }
 {
     let lent = lent_ok(s, coefficients, tails, masks, nonces);
@@ -113,11 +118,13 @@ fn words_ok(coefficients: &[u32], tails: &[u32], masks: &[u32], table: &[u32]) -
 
 // Does the lent tree end with the question's root?
 fn root_ok(question: &[u8], tree: &[u8]) -> bool
-    requires { ⌜ (46 ≤ length (now question)) × (32 ≤ length (now tree)) ⌝ }
+    requires { ⌜ (challengesAt ≤ length (now question)) × (32 ≤ length (now tree)) ⌝ }
     ensures { λ r. ⌜ r ≡ same (lastDigest (now (tree .entry))) (take 32 (drop headerLength (now (question .entry)))) ⌝ }
 {
-    let from = tree.len() - 32;
-    same_bytes(&tree[from..], &question[ROOT..CHALLENGES])
+    let last = tree.len() - 32;
+    let from = root_at();
+    let to = challenges_at();
+    same_bytes(&tree[last..], &question[from..to])
 }
 
 // The tests after those of the question.
@@ -137,7 +144,7 @@ fn lent_verdict(
     requires { ⌜ (questioned (now question) ≡ WellFormed s m) × (now indices ≡ readQuestion (now question) .indices) ⌝ }
     ensures { λ r. ⌜ r ≡ openVerdict (now (question .entry)) (lentOf (now (coefficients .entry)) (now (tails .entry)) (now (masks .entry)) (now (nonces .entry))) (now (table .entry)) (now (tree .entry)) (now (reply .entry)) ⌝ }
 {
-    if lengths_ok(
+    if !lengths_ok(
         s,
         m,
         indices,
@@ -149,15 +156,15 @@ fn lent_verdict(
         tree,
         reply,
     ) {
-        if words_ok(coefficients, tails, masks, table) {
-            if root_ok(question, tree) {
-                return 0;
-            }
-            return 8;
-        }
+        return 2;
+    }
+    if !words_ok(coefficients, tails, masks, table) {
         return 3;
     }
-    2
+    if !root_ok(question, tree) {
+        return 8;
+    }
+    0
 }
 
 // ---- the parts of the reply
@@ -176,12 +183,11 @@ fn put_sums(
     ensures { λ _. ⌜ now (reply .exit) ≡ sums (questionAt (sizesIn s) m (now (question .entry))) (extendedRows (sizesIn s) (lentOf (now (coefficients .entry)) (now (tails .entry)) [] [])) (now (masks .entry)) ++ drop (recordsAt (sizesIn s) m) (now (reply .entry)) ⌝ }
 {
     let n = row_width(s);
-    let eta = s.eta as usize;
     let first = Element(leaf_count(s.h) as u32);
     put_batchings(
         s,
         question,
-        CHALLENGES,
+        challenges_at(),
         first,
         coefficients,
         tails,
@@ -190,18 +196,16 @@ fn put_sums(
         reply,
         0,
     );
-    let points = CHALLENGES + 4 * eta;
-    let answers = 4 * n * eta;
     put_answers(
         s,
         question,
-        points,
+        points_at(s),
         m as usize,
         coefficients,
         tails,
         n,
         reply,
-        answers,
+        answers_at(s),
     );
 }
 

@@ -4,8 +4,7 @@ use mathlib.Core.Bool.{Bool, _&&_}
 use Prim.Native.Nat.{ℕ}
 use lib.Dec.{eqb}
 use lib.ListN.{length}
-use Rattle.scheme.proofs.Accepted.{sizes-in-order}
-use Rattle.opener.proofs.Order.{three}
+use Rattle.lists.specs.Tests.{every-three}
 use borrow.Author.Needs.{needs}
 use Rattle.opener.proofs.lengths_ok.Statement.{statement}
 use Rattle.opener.proofs.lengths_ok.Tie as tie
@@ -17,8 +16,7 @@ filled-ok-requires : tie.Need-filled-ok-requires
 filled-ok-requires c κs = search needs
 
 length-for-requires : tie.Need-length-for-requires
-length-for-requires c κs =
-    (sizes-in-order _ (c .before .before .before .before .before .before .before .before .before .before .pre .0), c .before .before .before .before .before .before .before .before .before .before .pre .1, c .before .before .before .before .before .before .before .before .before .before .pre .2)
+length-for-requires c κs = c .before .before .before .before .before .before .before .before .before .before .pre
 
 both-requires : tie.Need-both-requires
 both-requires c κs = search needs
@@ -29,7 +27,7 @@ both-requires-2 c κs = search needs
 returns : tie.Need-returns
 returns c =
     let n : ℕ = length (c .before .before .before .before .before .before .before .before .before .before .before .before .before .args .reply .now) in
-    three _ _ _ (c .both2 .result) (c .before .both .result) (c .before .both .ensures ∙ ap₂ _&&_ (c .before .before .before .filled-ok .ensures) (ap (eqb n) (c .before .before .length-for .ensures))) (c .both2 .ensures ∙ ap (λ (x : Bool). x && c .before .both .result) (c .before .before .before .before .lent-ok .ensures))
+    every-three _ _ _ (c .both2 .result) (c .before .both .result) (c .before .both .ensures ∙ ap₂ _&&_ (c .before .before .before .filled-ok .ensures) (ap (eqb n) (c .before .before .length-for .ensures))) (c .both2 .ensures ∙ ap (λ (x : Bool). x && c .before .both .result) (c .before .before .before .before .lent-ok .ensures))
 
 pub lengths-ok-spec : {M : Type 1} → statement M
 lengths-ok-spec =

@@ -1,6 +1,5 @@
 -- `opener::open` meets its contract.
 use mathlib.Core.Path.{_≡_, sym, ap, _∙_}
-use native.Mathlib.Omega.{arith}
 use lib.ListN.{length}
 use Rattle.scheme.specs.Layers.{lentOf}
 use Rattle.scheme.specs.Question.{Question}
@@ -9,6 +8,7 @@ use Rattle.question.proofs.Answer.{taken, asked-indices}
 use Rattle.opener.proofs.Given.{question-is}
 use Rattle.opener.proofs.Outcome.{question-refused, lent-refused, is-ready, replied}
 use borrow.Author.Needs.{needs}
+use native.Mathlib.Omega.{arith}
 use Rattle.opener.proofs.open.Statement.{statement}
 use Rattle.opener.proofs.open.Tie as tie
 

@@ -1,7 +1,6 @@
 -- `opener::put_sums` meets its contract: the two parts one after the other.
-use Rattle.scheme.proofs.Accepted.{sizes-in-order, leaves-high}
+use Rattle.scheme.proofs.Accepted.{leaves-high}
 use Rattle.commitment.specs.Shape.{sizesIn}
-use Rattle.opener.proofs.Places.{answers-fit}
 use Rattle.opener.proofs.Sums.{batchings-ask, answers-ask, sums-are}
 use borrow.Author.Needs.{needs}
 use Rattle.opener.proofs.put_sums.Statement.{statement}
@@ -10,65 +9,52 @@ use Rattle.opener.proofs.put_sums.Tie as tie
 row-width-requires : tie.Need-row-width-requires
 row-width-requires c κs = c .before .before .before .before .before .pre .combine .extend .sizes
 
-cast-eta : tie.Need-cast-eta
-cast-eta c = search needs
-
 leaf-count-requires : tie.Need-leaf-count-requires
-leaf-count-requires c κs =
-    c .before .before .before .before .before .before .before .pre .combine .extend .sizes .h-high
+leaf-count-requires c κs = c .before .before .before .before .before .before .pre .combine .extend .sizes .h-high
 
-cast-t14 : tie.Need-cast-t14
-cast-t14 c =
-    let h = leaves-high (sizesIn (c .before .before .before .before .before .before .before .before .args .s)) (c .before .before .before .before .before .before .before .before .pre .combine .extend .sizes) in search needs
+cast-t11 : tie.Need-cast-t11
+cast-t11 c =
+    let h = leaves-high (sizesIn (c .before .before .before .before .before .before .before .args .s)) (c .before .before .before .before .before .before .before .pre .combine .extend .sizes) in search needs
+
+challenges-at-requires : tie.Need-challenges-at-requires
+challenges-at-requires c κs = search needs
 
 put-batchings-requires : tie.Need-put-batchings-requires
 put-batchings-requires c κs =
     let s = c .before .before .before .before .before .before .before .before .before .args in
-    batchings-ask (sizesIn (s .s)) (s .m) (s .question .now) (s .coefficients .now) (s .tails .now) (s .masks .now) (s .reply .now) (c .before .before .before .before .before .before .before .before .before .pre) (c .before .before .before .row-width .result) (c .before .leaf-count .result) (c .before .before .before .row-width .ensures) (c .before .leaf-count .ensures)
+    batchings-ask (sizesIn (s .s)) (s .m) (s .question .now) (s .coefficients .now) (s .tails .now) (s .masks .now) (s .reply .now) (c .before .before .before .before .before .before .before .before .before .pre) (c .before .before .before .row-width .result) (c .before .before .leaf-count .result) (c .before .challenges-at .result) (c .before .before .before .row-width .ensures) (c .before .before .leaf-count .ensures) (c .before .challenges-at .ensures)
 
-mul-points : tie.Need-mul-points
-mul-points c = search needs
+points-at-requires : tie.Need-points-at-requires
+points-at-requires c κs = search needs
 
-add-points : tie.Need-add-points
-add-points c = search needs
-
-mul-answers : tie.Need-mul-answers
-mul-answers c =
-    let s = c .before .before .before .before .before .before .before .before .before .before .before .before .args in
-    let h = answers-fit (sizesIn (s .s)) (c .before .before .before .before .before .before .before .before .before .before .before .before .pre .combine .extend .sizes) (s .m) (c .before .before .before .before .before .before .before .before .before .before .before .before .pre .points) (c .before .before .before .before .before .before .row-width .result) (c .before .before .before .before .before .before .row-width .ensures) .0 in search needs
-
-mul-answers-2 : tie.Need-mul-answers-2
-mul-answers-2 c =
-    let s = c .before .before .before .before .before .before .before .before .before .before .before .before .args in
-    let h = answers-fit (sizesIn (s .s)) (c .before .before .before .before .before .before .before .before .before .before .before .before .pre .combine .extend .sizes) (s .m) (c .before .before .before .before .before .before .before .before .before .before .before .before .pre .points) (c .before .before .before .before .before .before .row-width .result) (c .before .before .before .before .before .before .row-width .ensures) .1 in search needs
+answers-at-requires : tie.Need-answers-at-requires
+answers-at-requires c κs = c .before .before .before .before .before .before .before .before .before .before .before .before .before .before .pre .combine .extend .sizes
 
 put-answers-requires : tie.Need-put-answers-requires
 put-answers-requires c κs =
-    let s = c .before .before .before .before .before .before .before .before .before .before .before .before .before .args in
-    answers-ask (sizesIn (s .s)) (s .m) (s .question .now) (s .coefficients .now) (s .tails .now) (s .masks .now) (s .reply .now) (c .before .before .before .before .before .before .before .before .before .before .before .before .before .pre) (c .before .before .before .before .before .before .before .row-width .result) (c .before .before .before .put-batchings .last .1 .1 .1 .1 .1 .1 .1 .1 .0) (c .before .before .before .before .before .before .before .row-width .ensures) (c .before .before .before .put-batchings .kept .1 .1 .1 .1 .1 .1 .1 .1 .0)
+    let s = c .before .before .before .before .before .before .before .before .before .before .before .before .before .before .before .args in
+    answers-ask (sizesIn (s .s)) (s .m) (s .question .now) (s .coefficients .now) (s .tails .now) (s .masks .now) (s .reply .now) (c .before .before .before .before .before .before .before .before .before .before .before .before .before .before .before .pre) (c .before .before .before .before .before .before .before .before .before .row-width .result) (c .before .before .points-at .result) (c .answers-at .result) (c .before .before .before .before .before .put-batchings .last .1 .1 .1 .1 .1 .1 .1 .1 .0) (c .before .before .before .before .before .before .before .before .before .row-width .ensures) (c .before .before .points-at .ensures) (c .answers-at .ensures) (c .before .before .before .before .before .put-batchings .kept .1 .1 .1 .1 .1 .1 .1 .1 .0)
 
 same-length : tie.Need-same-length
 same-length c = search needs
 
 returns : tie.Need-returns
 returns c =
-    let s = c .before .before .before .before .before .before .before .before .before .before .before .before .before .before .before .before .args in
-    sums-are (sizesIn (s .s)) (s .m) (s .question .now) (s .coefficients .now) (s .tails .now) (s .masks .now) (s .reply .now) (c .before .before .before .before .before .before .before .before .before .before .before .before .before .before .before .before .pre) (c .before .before .before .before .before .before .before .before .before .before .row-width .result) (c .before .before .before .before .before .before .before .before .leaf-count .result)
-    (c .before .before .before .before .before .before .put-batchings .last .1 .1 .1 .1 .1 .1 .1 .1 .0) (c .before .before .put-answers .last .1 .1 .1 .1 .1 .1 .1 .0) (c .before .before .before .before .before .before .before .before .before .before .row-width .ensures) (c .before .before .before .before .before .before .before .before .leaf-count .ensures) (c .before .before .before .before .before .before .put-batchings .ensures) (c .before .before .put-answers .ensures)
+    let s = c .before .before .before .before .before .before .before .before .before .before .before .before .before .before .before .before .before .before .args in
+    sums-are (sizesIn (s .s)) (s .m) (s .question .now) (s .coefficients .now) (s .tails .now) (s .masks .now) (s .reply .now) (c .before .before .before .before .before .before .before .before .before .before .before .before .before .before .before .before .before .before .pre) (c .before .before .before .before .before .before .before .before .before .before .before .before .row-width .result) (c .before .before .before .before .before .before .before .before .before .before .before .leaf-count .result) (c .before .before .before .before .before .before .before .before .before .before .challenges-at .result) (c .before .before .before .before .before .points-at .result) (c .before .before .before .answers-at .result)
+    (c .before .before .before .before .before .before .before .before .put-batchings .last .1 .1 .1 .1 .1 .1 .1 .1 .0) (c .before .before .put-answers .last .1 .1 .1 .1 .1 .1 .1 .0) (c .before .before .before .before .before .before .before .before .before .before .before .before .row-width .ensures) (c .before .before .before .before .before .before .before .before .before .before .before .leaf-count .ensures) (c .before .before .before .before .before .before .before .before .before .before .challenges-at .ensures) (c .before .before .before .before .before .points-at .ensures) (c .before .before .before .answers-at .ensures) (c .before .before .before .before .before .before .before .before .put-batchings .ensures) (c .before .before .put-answers .ensures)
 
 pub put-sums-spec : {M : Type 1} → statement M
 put-sums-spec =
     tie.close
     (tie.spec
     row-width-requires
-    cast-eta
     leaf-count-requires
-    cast-t14
+    cast-t11
+    challenges-at-requires
     put-batchings-requires
-    mul-points
-    add-points
-    mul-answers
-    mul-answers-2
+    points-at-requires
+    answers-at-requires
     put-answers-requires
     same-length
     returns)
