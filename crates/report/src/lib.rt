@@ -12,6 +12,7 @@ ghost use Rattle.report.specs.Written.{written, overwritten, pointLines,
 use checker::check;
 use question::Questioned;
 use commitment::Shape;
+use commitment::question_length;
 use question::header;
 use codec::put_bytes;
 
@@ -114,10 +115,11 @@ fn put_checked(
 }
 
 // How many bytes of the input are the question: as many as the header gives, or all.
-fn question_length(s: Shape, m: u32, all: usize) -> usize
+fn question_end(s: Shape, m: usize, all: usize) -> usize
+    requires { ⌜ m ≤ 8 ⌝ }
     ensures { λ r. ⌜ r ≡ min (questionLength (sizesIn s) m) all ⌝ }
 {
-    let n = 46 + 4 * (s.eta as usize) + 4 * (m as usize) + 2 * (s.l as usize);
+    let n = question_length(s, m);
     if n < all { n } else { all }
 }
 
@@ -131,8 +133,8 @@ fn put_split(out: &mut [u8], input: &[u8], s: Shape, m: u32) -> usize
     requires { ⌜ (headed (now input) ≡ WellFormed s m) × (length (now input) ≤ inputLimit) × (length (now out) ≡ inputLimit) ⌝ }
     ensures { λ r. ⌜ (r, now (out .exit)) ≡ written (now (out .entry)) 0 (printed (now (input .entry))) ⌝ }
 {
-    let k = question_length(s, m, input.len());
     let points = m as usize;
+    let k = question_end(s, points, input.len());
     let w = s.w as usize;
     let n = w * points;
     let mut values = blank();

@@ -1,21 +1,22 @@
 -- `report::put_split` meets its contract: the two parts are those of the definition, and the values fit into 2,048 words.
 use Prim.Native.Nat.{_*_, _-_}
-use native.Mathlib.Omega.{arith}
 use lib.ListN.{take}
 use Rattle.lists.specs.Parts.{front-length}
 use Rattle.report.proofs.Split.{few-values, printed-split}
 use borrow.Author.Needs.{needs}
+use native.Mathlib.Omega.{arith}
 use Rattle.report.proofs.put_split.Statement.{statement}
 use Rattle.report.proofs.put_split.Tie as tie
 
-question-length-requires : tie.Need-question-length-requires
-question-length-requires c κs = search needs
+question-end-requires : tie.Need-question-end-requires
+question-end-requires c κs = few-values (c .before .before .args .input .now) (c .before .before .args .s) (c .before .before .args .m) (c .before .before .pre .0) .0
 
 cast-w : tie.Need-cast-w
 cast-w c = search needs
 
 mul-n : tie.Need-mul-n
-mul-n c = let h = few-values (c .before .before .before .before .args .input .now) (c .before .before .before .before .args .s) (c .before .before .before .before .args .m) (c .before .before .before .before .pre .0) in omega arith
+mul-n c =
+    let h = few-values (c .before .before .before .before .args .input .now) (c .before .before .before .before .args .s) (c .before .before .before .before .args .m) (c .before .before .before .before .pre .0) in omega arith
 
 blank-requires : tie.Need-blank-requires
 blank-requires c κs = search needs
@@ -45,7 +46,8 @@ part-values-start : tie.Need-part-values-start
 part-values-start c = search needs
 
 part-values-end : tie.Need-part-values-end
-part-values-end c = let h = few-values (c .before .before .before .before .before .before .before .before .args .input .now) (c .before .before .before .before .before .before .before .before .args .s) (c .before .before .before .before .before .before .before .before .args .m) (c .before .before .before .before .before .before .before .before .pre .0) in omega arith
+part-values-end c =
+    let h = few-values (c .before .before .before .before .before .before .before .before .args .input .now) (c .before .before .before .before .before .before .before .before .args .s) (c .before .before .before .before .before .before .before .before .args .m) (c .before .before .before .before .before .before .before .before .pre .0) in omega arith
 
 put-checked-requires : tie.Need-put-checked-requires
 put-checked-requires c κs =
@@ -59,14 +61,14 @@ returns : tie.Need-returns
 returns c =
     let s = c .before .before .before .before .before .before .before .before .before .before .before .before .before .args in
     let h = few-values (c .before .before .before .before .before .before .before .before .before .before .before .before .before .args .input .now) (c .before .before .before .before .before .before .before .before .before .before .before .before .before .args .s) (c .before .before .before .before .before .before .before .before .before .before .before .before .before .args .m) (c .before .before .before .before .before .before .before .before .before .before .before .before .before .pre .0) in
-    printed-split (s .out .now) (s .input .now) (s .s) (s .m) (c .before .before .before .before .before .before .before .before .before .before .question-length .result) (take (s .s .w * s .m - 0) (c .before .before .before .before .before .before .before .before .blank .result)) _ (c .before .before .before .before .before .before .before .before .before .before .before .before .before .pre .1) (c .before .before .before .before .before .before .before .before .before .before .before .before .before .pre .0)
-    (c .before .before .before .before .before .before .before .before .before .before .question-length .ensures) (front-length (s .s .w * s .m) (c .before .before .before .before .before .before .before .before .blank .result) (omega arith)) (c .before .before .before .put-checked .ensures)
+    printed-split (s .out .now) (s .input .now) (s .s) (s .m) (c .before .before .before .before .before .before .before .before .before .before .question-end .result) (take (s .s .w * s .m - 0) (c .before .before .before .before .before .before .before .before .blank .result)) _ (c .before .before .before .before .before .before .before .before .before .before .before .before .before .pre .1) (c .before .before .before .before .before .before .before .before .before .before .before .before .before .pre .0)
+    (c .before .before .before .before .before .before .before .before .before .before .question-end .ensures) (front-length (s .s .w * s .m) (c .before .before .before .before .before .before .before .before .blank .result) (omega arith)) (c .before .before .before .put-checked .ensures)
 
 pub put-split-spec : {M : Type 1} → statement M
 put-split-spec =
     tie.close
     (tie.spec
-    question-length-requires
+    question-end-requires
     cast-w
     mul-n
     blank-requires
