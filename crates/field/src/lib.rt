@@ -1,6 +1,6 @@
 // The field of q = 4294967291 elements: single operations, powers, the table of inverse factorials.
 ghost use mathlib.Core.Path.{_≡_};
-ghost use Prim.Native.Nat.{_+_, _-_, _*_, _/_, _%_, _<_, _≤_};
+ghost use Prim.Native.Nat.{_+_, _-_, _*_, _%_, _<_, _≤_};
 ghost use lib.ListN.{length};
 ghost use Rattle.algebra.specs.Prime.{q};
 ghost use Rattle.algebra.specs.Numbers.{evalN};
@@ -30,6 +30,13 @@ pub fn multiply(a: Element, b: Element) -> Element
     ensures { λ r. ⌜ r .0 ≡ (a .0 * b .0) % q ⌝ }
 {
     Element(((a.0 as u64 * b.0 as u64) % Q) as u32)
+}
+
+// a b, not reduced.
+pub fn product(a: u32, b: u32) -> u64
+    ensures { λ r. ⌜ r ≡ a * b ⌝ }
+{
+    a as u64 * b as u64
 }
 
 // a + b c, reduced once.

@@ -57,11 +57,11 @@ fn absorb(s: &[u8]) -> [u64; 25]
     while RATE <= s.len() - at {
         let next = at + RATE;
         xor_words(&mut a, &s[at..next]);
-        keccak::keccak_f(&mut a);
+        permutation::keccak_f(&mut a);
         at = next;
     }
     xor_last_block(&mut a, &s[at..]);
-    keccak::keccak_f(&mut a);
+    permutation::keccak_f(&mut a);
     a
 }
 
