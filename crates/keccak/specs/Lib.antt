@@ -1,5 +1,6 @@
 pub mod Lane
 pub mod Keccak
+pub mod Strings
 pub mod Held
 pub mod Parities
 pub mod State

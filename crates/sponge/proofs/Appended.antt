@@ -8,7 +8,7 @@ use lib.ListN.{length, getD, take, drop, length-drop, drop-of-length-le}
 use lib.Pow.{pow-add}
 use lib.Seq.{drop-append-le, take-append-le, take-append-add, drop-append-add, take-all, getD-drop}
 use Rattle.lists.specs.Number.{number, number-append, number-lt}
-use Rattle.sponge.specs.Shake.{word}
+use Rattle.keccak.specs.Strings.{word}
 
 module _ (m p : List ℕ) (q : ℕ) where
   -- a word of the first string

@@ -4,7 +4,7 @@ ghost use mathlib.Core.Path.{_≡_};
 ghost use Prim.Native.Nat.{_+_, _*_, _^_, _<_, _≤_};
 ghost use lib.ListN.{length, take, drop};
 ghost use Rattle.lists.specs.Bytes.{fromBytes};
-ghost use Rattle.sponge.specs.Shake as S;
+ghost use Rattle.keccak.specs.Strings as S;
 
 // A byte as a number of 64 bits.
 fn wide(b: u8) -> u64

@@ -1,12 +1,12 @@
--- `sponge::words::under_two` meets its contract.
+-- `words::under_two` meets its contract.
 use mathlib.Core.Path.{sym, _∙_}
 use native.Mathlib.Omega.{arith}
 use borrow.Author.Needs.{needs}
 use lib.Dec.{lit<}
 use Rattle.lists.specs.Number.{number}
 use Rattle.lists.specs.Bytes.{one-byte, bytes-left}
-use Rattle.sponge.proofs.words.under_two.Statement.{statement}
-use Rattle.sponge.proofs.words.under_two.Tie as tie
+use Rattle.words.proofs.under_two.Statement.{statement}
+use Rattle.words.proofs.under_two.Tie as tie
 
 returns : tie.Need-returns
 unfolding number

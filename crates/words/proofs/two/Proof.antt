@@ -1,11 +1,11 @@
--- `sponge::words::two` meets its contract.
+-- `words::two` meets its contract.
 use mathlib.Core.Path.{sym, _∙_}
 use Prim.Native.Nat.{_+_}
 use native.Mathlib.Omega.{arith}
 use borrow.Author.Needs.{needs}
 use Rattle.lists.specs.Bytes.{one-byte, bytes-joined}
-use Rattle.sponge.proofs.words.two.Statement.{statement}
-use Rattle.sponge.proofs.words.two.Tie as tie
+use Rattle.words.proofs.two.Statement.{statement}
+use Rattle.words.proofs.two.Tie as tie
 
 returns : tie.Need-returns
 returns c =

@@ -1,4 +1,4 @@
--- `sponge::words::join` meets its contract.
+-- `words::join` meets its contract.
 use mathlib.Core.Path.{_≡_, ap, _∙_}
 use Prim.Native.Nat.{ℕ, _+_, _*_, _^_, _%_, _<_, _≤_}
 use native.Mathlib.Nat.{add-comm, mul-comm}
@@ -6,8 +6,8 @@ use native.Mathlib.Omega.{arith}
 use borrow.Author.Needs.{needs}
 use lib.Bits.{bitOr, or-shifted-r}
 use lib.Pow.{shl-exact}
-use Rattle.sponge.proofs.words.join.Statement.{statement}
-use Rattle.sponge.proofs.words.join.Tie as tie
+use Rattle.words.proofs.join.Statement.{statement}
+use Rattle.words.proofs.join.Tie as tie
 
 joined : (lo hi k : ℕ) → lo < 2 ^ k → hi < 2 ^ k → k ≤ 32 → bitOr lo (hi * 2 ^ k % 2 ^ 64) ≡ lo + 2 ^ k * hi
 joined lo hi k l h b =

@@ -1,9 +1,9 @@
--- `sponge::words::four` meets its contract.
+-- `words::four` meets its contract.
 use native.Mathlib.Omega.{arith}
 use borrow.Author.Needs.{needs}
 use Rattle.lists.specs.Bytes.{bytes-joined}
-use Rattle.sponge.proofs.words.four.Statement.{statement}
-use Rattle.sponge.proofs.words.four.Tie as tie
+use Rattle.words.proofs.four.Statement.{statement}
+use Rattle.words.proofs.four.Tie as tie
 
 returns : tie.Need-returns
 returns c =

@@ -1,10 +1,10 @@
--- `sponge::words::under_four` meets its contract.
+-- `words::under_four` meets its contract.
 use mathlib.Core.Path.{sym, _∙_}
 use native.Mathlib.Omega.{arith}
 use borrow.Author.Needs.{needs}
 use Rattle.lists.specs.Bytes.{bytes-joined, bytes-left}
-use Rattle.sponge.proofs.words.under_four.Statement.{statement}
-use Rattle.sponge.proofs.words.under_four.Tie as tie
+use Rattle.words.proofs.under_four.Statement.{statement}
+use Rattle.words.proofs.under_four.Tie as tie
 
 returns : tie.Need-returns
 returns c =

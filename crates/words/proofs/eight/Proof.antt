@@ -1,10 +1,10 @@
--- `sponge::words::eight` meets its contract.
+-- `words::eight` meets its contract.
 use native.Mathlib.Omega.{arith}
 use borrow.Author.Needs.{needs}
 use Rattle.lists.specs.Bytes.{bytes-joined}
-use Rattle.sponge.specs.Shake.{word}
-use Rattle.sponge.proofs.words.eight.Statement.{statement}
-use Rattle.sponge.proofs.words.eight.Tie as tie
+use Rattle.keccak.specs.Strings.{word}
+use Rattle.words.proofs.eight.Statement.{statement}
+use Rattle.words.proofs.eight.Tie as tie
 
 returns : tie.Need-returns
 unfolding word

@@ -1,11 +1,11 @@
--- `sponge::words::under_eight` meets its contract.
+-- `words::under_eight` meets its contract.
 use mathlib.Core.Path.{sym, _∙_}
 use native.Mathlib.Omega.{arith}
 use borrow.Author.Needs.{needs}
 use Rattle.lists.specs.Bytes.{bytes-joined, bytes-left}
-use Rattle.sponge.specs.Shake.{word}
-use Rattle.sponge.proofs.words.under_eight.Statement.{statement}
-use Rattle.sponge.proofs.words.under_eight.Tie as tie
+use Rattle.keccak.specs.Strings.{word}
+use Rattle.words.proofs.under_eight.Statement.{statement}
+use Rattle.words.proofs.under_eight.Tie as tie
 
 returns : tie.Need-returns
 unfolding word
