@@ -6,7 +6,7 @@ use native.Mathlib.Nat.{mod-lt, le-refl, suc-inj, suc-ne-zero, not-suc-le-zero, 
 use native.Mathlib.Numerals.{add-one}
 use native.Mathlib.Omega.{arith}
 use lib.Dec.{lit<}
-use lib.ListN.{length, getD, take, drop, set, length-set, length-map}
+use lib.ListN.{length, getD, take, drop, length-map}
 use lib.Seq.{take-length, ext-getD}
 use Rattle.algebra.specs.Prime.{q}
 use Rattle.algebra.specs.Field.{K, of, same-mod, of-add, of-mul, of-zero, of-one, _⊕_, _⊗_, 𝟏, dv, ring, dif-path, ⊗-zero, ⊗-one, ⊗-comm}
@@ -17,7 +17,7 @@ use Rattle.lists.specs.All.{Sized}
 use Rattle.lists.specs.Maps.{getD-map-in}
 use Rattle.lists.specs.Pieces.{piece, pieces, length-pieces, pieces-at, pieces-sized}
 use Rattle.lists.specs.Tabulate.{tabulate-is, tabulateFrom, tabulate, length-from}
-use Rattle.lists.specs.Fill.{Filled, entryOf, fill-next}
+use Rattle.lists.specs.Fill.{Filled, entryOf}
 use Rattle.algebra.specs.Divided.{of-mod}
 use Rattle.algebra.specs.Interp.{dot}
 
@@ -213,24 +213,6 @@ unfolding dotsOf
 dots-entry w n rows j l =
     getD-map-in (dotN w) (pieces (length w) n rows) j [] 0 (subst (λ (k : ℕ). j < k) (sym (length-pieces (length w) n rows)) l)
     ∙ ap (dotN w) (pieces-at (length w) n j rows l)
-
--- four entries more
-pub four-filled : (f : ℕ → ℕ) (s : List ℕ) (j a b c d : ℕ) → j + 4 ≤ length s → Filled f s 0 j → a ≡ f j → b ≡ f (j + 1) → c ≡ f (j + 2) → d ≡ f (j + 3)
-    → Filled f (set (set (set (set s j a) (j + 1) b) (j + 2) c) (j + 3) d) 0 (j + 4)
-four-filled f s j a b c d l h ea eb ec ed =
-    let s₁ : List ℕ = set s j a in
-    let s₂ : List ℕ = set s₁ (j + 1) b in
-    let s₃ : List ℕ = set s₂ (j + 2) c in
-    let l₁ : length s₁ ≡ length s = length-set s j a in
-    let l₂ : length s₂ ≡ length s = length-set s₁ (j + 1) b ∙ l₁ in
-    let l₃ : length s₃ ≡ length s = length-set s₂ (j + 2) c ∙ l₂ in
-    let m₂ : j + 1 + 1 ≡ j + 2 = omega arith in
-    let m₃ : j + 2 + 1 ≡ j + 3 = omega arith in
-    let m₄ : j + 3 + 1 ≡ j + 4 = omega arith in
-    let h₁ : Filled f s₁ 0 (j + 1) = fill-next f s 0 j a (omega arith) ea h in
-    let h₂ : Filled f s₂ 0 (j + 2) = subst (λ (k : ℕ). Filled f s₂ 0 k) m₂ (fill-next f s₁ 0 (j + 1) b (omega arith) eb h₁) in
-    let h₃ : Filled f s₃ 0 (j + 3) = subst (λ (k : ℕ). Filled f s₃ 0 k) m₃ (fill-next f s₂ 0 (j + 2) c (omega arith) ec h₂) in
-    subst (λ (k : ℕ). Filled f (set s₃ (j + 3) d) 0 k) m₄ (fill-next f s₃ 0 (j + 3) d (omega arith) ed h₃)
 
 -- with the powers they are the values of the rows as polynomials
 powers-dots : (k : ℕ) (ps : List (List ℕ)) (x : ℕ) → Sized k ps → map (dotN (tabulate k (powN x))) ps ≡ valuesAtN ps x

@@ -16,7 +16,9 @@ pub mod Wrapped
 pub mod Spans
 pub mod Sums
 pub mod Basis
+pub mod Places
 pub mod Barycentric
+pub mod BarycentricTurns
 pub mod Weights
 pub mod Differences
 pub mod Forward

@@ -3,9 +3,9 @@ use mathlib.Core.Path.{_≡_, refl, subst}
 use mathlib.Core.List.{List}
 use Prim.Native.Nat.{ℕ, _+_, _-_, _*_, _≤_}
 use lib.ListN.{length, length-set}
-use Rattle.lists.specs.Fill.{Filled, entryOf, filled-none, fill-next}
+use Rattle.lists.specs.Fill.{Filled, entryOf, filled-none, fill-next, four-filled}
 use Rattle.lists.specs.Parts.{row-fits, span-length}
-use Rattle.algebra.specs.Dot.{dotsOf, dots-at, dots-done, longest, four-filled}
+use Rattle.algebra.specs.Dot.{dotsOf, dots-at, dots-done, longest}
 use borrow.Author.Needs.{needs}
 use native.Mathlib.Omega.{arith}
 use Rattle.sums.proofs.dots.Statement.{statement}
