@@ -10,8 +10,9 @@ use lib.ListN.{length, set}
 use Rattle.algebra.specs.Field.{K, of, of-path, of-neg, of-zero, same-mod, _⊗_, ⊖, 𝟏, dv, ring, dif-path, ⊗-zero}
 use Rattle.algebra.specs.Lagrange.{sign}
 use Rattle.algebra.specs.Differences.{clip, clip-below, clip-above}
-use Rattle.extrapolation.specs.Lanes.{limit, entry, Small, KeptLanes, valueFrom, Signed}
-use Rattle.extrapolation.proofs.Kernel.{below, put-here, put-else, put-lane}
+use Rattle.stepping.specs.Lanes.{limit, entry, Small, KeptLanes}
+use Rattle.loading.specs.Signs.{valueFrom, Signed}
+use Rattle.stepping.proofs.Kernel.{below, put-here, put-else, put-lane}
 
 -- ---- signs
 

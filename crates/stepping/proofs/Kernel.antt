@@ -8,11 +8,11 @@ use native.Mathlib.Numerals.{add-one}
 use native.Mathlib.Decide.{ℕ-discrete}
 use native.Mathlib.Omega.{arith}
 use lib.Dec.{lit<}
-use lib.ListN.{length, getD, set, length-set}
+use lib.ListN.{length, set, length-set}
 use lib.Seq.{getD-set-same, getD-set-other}
 use Rattle.algebra.specs.Field.{K, of, of-path, of-add, same-mod, _⊕_}
 use Rattle.algebra.specs.Differences.{difference, difference-step}
-use Rattle.extrapolation.specs.Lanes.{run, limit, entry, Addable, Small, grown, Grown, turned, Five, Handed, LaneStep, KeptLines, KeptLanes}
+use Rattle.stepping.specs.Lanes.{run, limit, entry, Addable, Small, grown, Grown, turned, Five, Handed, LaneStep, KeptLines, KeptLanes}
 
 -- ---- folding
 
@@ -29,7 +29,7 @@ unfolding grown
 grown-more zero n = rw (add-zero n) (omega arith)
 grown-more (suc m) n = rw (add-suc n m) (omega (arith, grown-more m n))
 
-pub grown-high : (n : ℕ) → n ≤ run → grown n ≤ 576460752303423488
+grown-high : (n : ℕ) → n ≤ run → grown n ≤ 576460752303423488
 unfolding grown
 grown-high n l = subst (λ (m : ℕ). grown n ≤ grown m) e (grown-more (run - n) n)
   where

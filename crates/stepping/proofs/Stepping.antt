@@ -12,8 +12,8 @@ use borrow.Author.Tests.{ltb-true, ltb-false}
 use Rattle.lists.specs.Choice.{tested}
 use Rattle.algebra.specs.Field.{K, of, of-zero}
 use Rattle.algebra.specs.Differences.{difference}
-use Rattle.extrapolation.specs.Lanes.{run, entry, Small, grown, Grown, Five, Handed, LaneStep, KeptLines, KeptLanes, Lines, Fed, BlockStep, KeptBelow, KeptFrom, Ended, TableStep, Zeros}
-use Rattle.extrapolation.proofs.Kernel.{grown-pos}
+use Rattle.stepping.specs.Lanes.{run, entry, Small, grown, Grown, Five, Handed, LaneStep, KeptLines, KeptLanes, Lines, Fed, BlockStep, KeptBelow, KeptFrom, Ended, TableStep, Zeros}
+use Rattle.stepping.proofs.Kernel.{grown-pos}
 
 -- ---- five lines: the lanes below j are done
 

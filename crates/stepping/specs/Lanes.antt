@@ -2,12 +2,10 @@
 use mathlib.Core.Path.{_≡_}
 use mathlib.Core.Logic.{_≢_}
 use mathlib.Core.List.{List, [], _∷_}
-use Prim.Native.Nat.{ℕ, zero, suc, _+_, _-_, _*_, _%_, _≤_, _<_}
+use Prim.Native.Nat.{ℕ, zero, suc, _+_, _*_, _≤_, _<_}
 use lib.ListN.{getD}
-use Rattle.algebra.specs.Prime.{q}
-use Rattle.algebra.specs.Field.{K, of, _⊗_, 𝟎}
-use Rattle.algebra.specs.Lagrange.{sign}
-use Rattle.algebra.specs.Differences.{difference, clip}
+use Rattle.algebra.specs.Field.{K, of, 𝟎}
+use Rattle.algebra.specs.Differences.{difference}
 
 abbrev pub entry : List ℕ → ℕ → ℕ
 entry t m = getD t m 0
@@ -96,41 +94,3 @@ TableStep lines lanes t t' w =
 
 unfoldable pub Zeros : List ℕ → Type 0
 Zeros w = (m : ℕ) → entry w m ≡ 0
-
--- ---- what a walk writes: columns lo, .., lo + lanes - 1 of rows of so many entries, from the last row to the first
-
-unfoldable pub KeptColumns : ℕ → ℕ → ℕ → List ℕ → List ℕ → Type 0
-KeptColumns stride lo lanes out out' =
-    (x c : ℕ) → c < stride → (c < lo → entry out' (x * stride + c) ≡ entry out (x * stride + c)) × (lo + lanes ≤ c → entry out' (x * stride + c) ≡ entry out (x * stride + c))
-
--- the values of the first lanes at step n of a run, in places from `start` on
-unfoldable pub PutLanes : List ℕ → ℕ → ℕ → ℕ → List ℕ → List ℕ → Type 0
-PutLanes w n lanes start out out' = ((j : ℕ) → j < lanes → entry out' (start + j) ≡ entry w (4 * n + j) % q) × KeptBelow start out out' × KeptFrom (start + lanes) out out'
-
--- the values at the steps from i on below i + n
-unfoldable pub Put : List ℕ → ℕ → ℕ → ℕ → ℕ → ℕ → ℕ → ℕ → List ℕ → Type 0
-Put w i n first end stride lo lanes out =
-    (x m j : ℕ) → m < n → x + suc (i + m) ≡ end → first ≤ i + m → j < lanes → entry out (x * stride + (lo + j)) ≡ entry w (4 * m + j) % q
-
--- what steps before i wrote is kept
-unfoldable pub KeptRows : ℕ → ℕ → ℕ → ℕ → ℕ → List ℕ → List ℕ → Type 0
-KeptRows i end stride lo lanes out out' = (x j : ℕ) → end ≤ x + i → j < lanes → entry out' (x * stride + (lo + j)) ≡ entry out (x * stride + (lo + j))
-
--- the values at the steps from `first` on, below i
-unfoldable pub Walked : (ℕ → ℕ → K) → ℕ → ℕ → ℕ → ℕ → ℕ → ℕ → List ℕ → Type 0
-Walked g i first end stride lo lanes out =
-    (x m j : ℕ) → m < i → x + suc m ≡ end → first ≤ m → j < lanes → entry out (x * stride + (lo + j)) ≡ (g j m) .val
-
-unfoldable pub Walk : ℕ → List ℕ → ℕ → ℕ → ℕ → ℕ → ℕ → List ℕ → Type 0
-Walk lines t first end stride lo lanes out =
-    (g : ℕ → ℕ → K) → Lines g lanes lines 0 lines t 0 → Ended g lanes lines → Walked g end first end stride lo lanes out
-
--- ---- loading
-
--- value k of lane j: the values of the lanes stand point by point, four places to a point, and the last point's is value 0
-unfoldable pub valueFrom : List ℕ → ℕ → ℕ → ℕ → K
-valueFrom src width j k = of (entry src (4 * (width - suc k) + j))
-
--- the lines below top of lane j have its values, and 0 above them, with changing signs
-unfoldable pub Signed : List ℕ → ℕ → ℕ → ℕ → ℕ → List ℕ → Type 0
-Signed src width lines top j u = (r k : ℕ) → r < top → r + suc k ≡ lines → of (entry u (4 * r + j)) ≡ sign k ⊗ clip width (valueFrom src width j) k

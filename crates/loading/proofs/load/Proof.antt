@@ -1,14 +1,14 @@
--- `extrapolation::load` meets its contract. The invariant: the lanes below j are loaded.
+-- `loading::load` meets its contract. The invariant: the lanes below j are loaded.
 use mathlib.Core.Path.{_≡_, refl, _∙_, subst}
 use Prim.Native.Nat.{ℕ, _-_, _*_, _≤_}
 use native.Mathlib.Nat.{not-suc-le-zero}
 use lib.ListN.{length}
-use Rattle.extrapolation.specs.Lanes.{Small}
-use Rattle.extrapolation.proofs.Loading.{LanesSigned, lanes-turn}
+use Rattle.stepping.specs.Lanes.{Small}
+use Rattle.loading.proofs.Signs.{LanesSigned, lanes-turn}
 use borrow.Author.Needs.{needs}
 use native.Mathlib.Omega.{arith}
-use Rattle.extrapolation.proofs.load.Statement.{statement}
-use Rattle.extrapolation.proofs.load.Tie as tie
+use Rattle.loading.proofs.load.Statement.{statement}
+use Rattle.loading.proofs.load.Tie as tie
 
 abbrev Inv-loop : tie.InvT-loop
 Inv-loop values lanes width lines t₀ j₀ t j =

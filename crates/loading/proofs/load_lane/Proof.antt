@@ -1,13 +1,13 @@
--- `extrapolation::load_lane` meets its contract. The invariant: the lines below r are loaded.
+-- `loading::load_lane` meets its contract. The invariant: the lines below r are loaded.
 use mathlib.Core.Path.{_≡_, refl, subst}
 use Prim.Native.Nat.{ℕ, _-_, _*_, _≤_, _<_}
 use lib.ListN.{length, length-set}
-use Rattle.extrapolation.specs.Lanes.{Signed}
-use Rattle.extrapolation.proofs.Loading.{LoadInv, load-none, load-turn}
+use Rattle.loading.specs.Signs.{Signed}
+use Rattle.loading.proofs.Signs.{LoadInv, load-none, load-turn}
 use borrow.Author.Needs.{needs}
 use native.Mathlib.Omega.{arith}
-use Rattle.extrapolation.proofs.load_lane.Statement.{statement}
-use Rattle.extrapolation.proofs.load_lane.Tie as tie
+use Rattle.loading.proofs.load_lane.Statement.{statement}
+use Rattle.loading.proofs.load_lane.Tie as tie
 
 abbrev Inv-loop : tie.InvT-loop
 Inv-loop values width lines j t₀ r₀ t r = (r ≤ lines) × (j < 4) × (4 * lines ≤ length t) × (length t ≡ length t₀) × (4 * width ≤ length values) × LoadInv values width lines j t₀ t r

@@ -1,10 +1,10 @@
--- `extrapolation::signed` meets its contract.
+-- `loading::signed` meets its contract.
 use Prim.Native.Nat.{_<_}
 use borrow.Author.Needs.{needs}
 use native.Mathlib.Omega.{arith}
-use Rattle.extrapolation.proofs.Loading.{signed-even, signed-odd}
-use Rattle.extrapolation.proofs.signed.Statement.{statement}
-use Rattle.extrapolation.proofs.signed.Tie as tie
+use Rattle.loading.proofs.Signs.{signed-even, signed-odd}
+use Rattle.loading.proofs.signed.Statement.{statement}
+use Rattle.loading.proofs.signed.Tie as tie
 
 sub-result : tie.Need-sub-result
 sub-result c = search needs

@@ -1,10 +1,9 @@
--- `extrapolation::signed_value` meets its contract.
-use Prim.Native.Nat.{_-_}
-use Rattle.extrapolation.proofs.Loading.{value-inside, value-outside}
+-- `loading::signed_value` meets its contract.
+use Rattle.loading.proofs.Signs.{value-inside, value-outside}
 use borrow.Author.Needs.{needs}
 use native.Mathlib.Omega.{arith}
-use Rattle.extrapolation.proofs.signed_value.Statement.{statement}
-use Rattle.extrapolation.proofs.signed_value.Tie as tie
+use Rattle.loading.proofs.signed_value.Statement.{statement}
+use Rattle.loading.proofs.signed_value.Tie as tie
 
 sub-signed : tie.Need-sub-signed
 sub-signed c = search needs

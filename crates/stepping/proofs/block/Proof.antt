@@ -1,13 +1,13 @@
--- `extrapolation::block` meets its contract. The invariant: the lanes below j are done.
+-- `stepping::block` meets its contract. The invariant: the lanes below j are done.
 use mathlib.Core.Path.{_≡_, refl, _∙_}
 use Prim.Native.Nat.{_+_, _-_, _*_, _≤_}
 use lib.ListN.{length}
-use Rattle.extrapolation.specs.Lanes.{run}
-use Rattle.extrapolation.proofs.Stepping.{BlockInv, block-holds, block-turn, block-done}
+use Rattle.stepping.specs.Lanes.{run}
+use Rattle.stepping.proofs.Stepping.{BlockInv, block-holds, block-turn, block-done}
 use borrow.Author.Needs.{needs}
 use native.Mathlib.Omega.{arith}
-use Rattle.extrapolation.proofs.block.Statement.{statement}
-use Rattle.extrapolation.proofs.block.Tie as tie
+use Rattle.stepping.proofs.block.Statement.{statement}
+use Rattle.stepping.proofs.block.Tie as tie
 
 abbrev Inv-loop : tie.InvT-loop
 Inv-loop t₀ b w₀ lanes j₀ t w j = (j ≤ lanes) × (lanes ≤ 4) × (20 * b + 20 ≤ length t) × (length t ≡ length t₀) × (length w ≡ 4 * run) × BlockInv t₀ b w₀ lanes t w j

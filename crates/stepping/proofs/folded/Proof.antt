@@ -1,8 +1,8 @@
--- `extrapolation::folded` meets its contract.
+-- `stepping::folded` meets its contract.
 use borrow.Author.Needs.{needs}
-use Rattle.extrapolation.proofs.Kernel.{fold-same, fold-small}
-use Rattle.extrapolation.proofs.folded.Statement.{statement}
-use Rattle.extrapolation.proofs.folded.Tie as tie
+use Rattle.stepping.proofs.Kernel.{fold-same, fold-small}
+use Rattle.stepping.proofs.folded.Statement.{statement}
+use Rattle.stepping.proofs.folded.Tie as tie
 
 mul-result : tie.Need-mul-result
 mul-result c = search needs

@@ -1,13 +1,13 @@
--- `extrapolation::lane` meets its contract. The invariant: n steps are made.
+-- `stepping::lane` meets its contract. The invariant: n steps are made.
 use mathlib.Core.Path.{_≡_}
 use Prim.Native.Nat.{_+_, _-_, _*_, _≤_, _<_}
 use lib.ListN.{length, length-set}
-use Rattle.extrapolation.specs.Lanes.{run, Small}
-use Rattle.extrapolation.proofs.Kernel.{LaneInv, lane-holds, lane-turn, lane-done, lane-fits}
+use Rattle.stepping.specs.Lanes.{run, Small}
+use Rattle.stepping.proofs.Kernel.{LaneInv, lane-holds, lane-turn, lane-done, lane-fits}
 use borrow.Author.Needs.{needs}
 use native.Mathlib.Omega.{arith}
-use Rattle.extrapolation.proofs.lane.Statement.{statement}
-use Rattle.extrapolation.proofs.lane.Tie as tie
+use Rattle.stepping.proofs.lane.Statement.{statement}
+use Rattle.stepping.proofs.lane.Tie as tie
 
 abbrev Inv-loop : tie.InvT-loop
 Inv-loop t at w₀ j v₀ n₀ w v n = (n ≤ run) × (at + 16 < length t) × (j < 4) × (length w ≡ 4 * run) × Small t × LaneInv t at w₀ j w v n

@@ -1,13 +1,13 @@
--- `extrapolation::steps` meets its contract. The invariant: the blocks below b are done.
+-- `stepping::steps` meets its contract. The invariant: the blocks below b are done.
 use mathlib.Core.Path.{_≡_, refl, _∙_}
 use Prim.Native.Nat.{_-_, _*_, _≤_}
 use lib.ListN.{length}
-use Rattle.extrapolation.specs.Lanes.{run}
-use Rattle.extrapolation.proofs.Stepping.{TableInv, table-holds, table-turn, table-done}
+use Rattle.stepping.specs.Lanes.{run}
+use Rattle.stepping.proofs.Stepping.{TableInv, table-holds, table-turn, table-done}
 use borrow.Author.Needs.{needs}
 use native.Mathlib.Omega.{arith}
-use Rattle.extrapolation.proofs.steps.Statement.{statement}
-use Rattle.extrapolation.proofs.steps.Tie as tie
+use Rattle.stepping.proofs.steps.Statement.{statement}
+use Rattle.stepping.proofs.steps.Tie as tie
 
 abbrev Inv-loop : tie.InvT-loop
 Inv-loop t₀ blocks w₀ lanes b₀ t w b = (b ≤ blocks) × (lanes ≤ 4) × (20 * blocks ≤ length t) × (length t ≡ length t₀) × (length w ≡ 4 * run) × TableInv t₀ blocks lanes t w b

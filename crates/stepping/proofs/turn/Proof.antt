@@ -1,7 +1,7 @@
--- `extrapolation::turn` meets its contract.
+-- `stepping::turn` meets its contract.
 use borrow.Author.Needs.{needs}
-use Rattle.extrapolation.proofs.turn.Statement.{statement}
-use Rattle.extrapolation.proofs.turn.Tie as tie
+use Rattle.stepping.proofs.turn.Statement.{statement}
+use Rattle.stepping.proofs.turn.Tie as tie
 
 array-read-t6 : tie.Need-array-read-t6
 array-read-t6 c = search needs
