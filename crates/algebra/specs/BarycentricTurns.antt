@@ -8,7 +8,7 @@ use native.Mathlib.Numerals.{add-one}
 use native.Mathlib.Omega.{arith}
 use lib.Dec.{lit<}
 use lib.ListN.{length, getD, set}
-use Rattle.algebra.specs.Prime.{q, prime, inverse-turns}
+use Rattle.algebra.specs.Prime.{q, prime, inverse-by-remainder}
 use Rattle.algebra.specs.Inverse.{invN, invN-unique, invN-right}
 use Rattle.algebra.specs.Table.{inverseFactorials}
 use Rattle.lists.specs.Number.{mul-mod-mod}
@@ -25,7 +25,7 @@ pub inverse-turn : (k : ℕ) (s : List ℕ) (v : ℕ) → 2 ≤ k → k < q → 
 inverse-turn k s v l u h f =
     invN-unique k v below
     (ap (λ (t : ℕ). k * t % q) f ∙ mul-mod-mod k ((q - q / k) * getD s (q % k) 0) q
-    ∙ inverse-turns k (q / k) (q % k) (getD s (q % k) 0) (div-add-mod' q k) (omega arith) (div-le-self q k) one)
+    ∙ inverse-by-remainder k (q / k) (q % k) (getD s (q % k) 0) (div-add-mod' q k) (omega arith) (div-le-self q k) one)
   where
     below : v < q
     below = let m : (q - q / k) * getD s (q % k) 0 % q < q = mod-lt _ (lit< tt) in rw f m

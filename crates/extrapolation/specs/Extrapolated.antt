@@ -7,6 +7,10 @@ use Rattle.algebra.specs.Field.{of}
 use Rattle.algebra.specs.Numbers.{evalN}
 use Rattle.stepping.specs.Lanes.{entry}
 
+-- the most points of both kinds together
+abbrev pub mostPoints : ℕ
+mostPoints = 65536
+
 -- polynomial p j has at most `width` coefficients, and at n, .., n + width - 1 the values of lane j, which stand four places apart
 unfoldable pub Through : (ℕ → List ℕ) → List ℕ → ℕ → ℕ → ℕ → Type 0
 Through p src width n lanes = (j : ℕ) → j < lanes → (length (p j) ≤ width) × ((t : ℕ) → t < width → of (entry src (4 * t + j)) ≡ of (evalN (p j) (n + t)))

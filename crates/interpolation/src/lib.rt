@@ -17,6 +17,9 @@ use field::multiply_add;
 use field::subtract;
 use newton::newton_from;
 
+// The most points: as many as the table has entries.
+const MOST_POINTS: usize = 320;
+
 // ---- points that differ
 
 // The product of the differences of z to the points.
@@ -83,13 +86,13 @@ fn fill_weights(points: &[u32], weights: &mut [u32])
 }
 
 // Room for points or weights. A function of its own, so that a caller's goals do not show 320 zeros.
-fn blank() -> [u32; 320] {
-    [0u32; 320]
+fn blank() -> [u32; MOST_POINTS] {
+    [0u32; MOST_POINTS]
 }
 
 // The coefficients of the polynomial through the values at the points.
 pub fn interpolate(points: &[u32], values: &[u32], out: &mut [u32])
-    requires { ⌜ Samples (now points) (now values) (now out) × (length (now points) ≤ 320) ⌝ }
+    requires { ⌜ Samples (now points) (now values) (now out) × (length (now points) ≤ tableSize) ⌝ }
     ensures { λ _. ⌜ now (out .exit) ≡ interpN (now (points .entry)) (now (values .entry)) ⌝ }
 {
     let n = points.len();

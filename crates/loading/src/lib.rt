@@ -5,7 +5,7 @@ ghost use lib.ListN.{length};
 ghost use Rattle.algebra.specs.Field.{of, _⊗_};
 ghost use Rattle.algebra.specs.Lagrange.{sign};
 ghost use Rattle.algebra.specs.Differences.{clip};
-ghost use Rattle.stepping.specs.Lanes.{limit, Small, KeptLanes};
+ghost use Rattle.stepping.specs.Lanes.{laneCount, limit, Small, KeptLanes};
 ghost use Rattle.loading.specs.Signs.{valueFrom, Signed};
 
 // v or -v, by the sign of step k.
@@ -21,7 +21,7 @@ fn signed(v: u32, k: usize) -> u64
 
 // Value k of lane j with its sign, and 0 above the last.
 fn signed_value(values: &[u32], width: usize, j: usize, k: usize) -> u64
-    requires { ⌜ (j < 4) × (4 * width ≤ length (now values)) ⌝ }
+    requires { ⌜ (j < laneCount) × (4 * width ≤ length (now values)) ⌝ }
     ensures { λ r. ⌜ (of r ≡ sign k ⊗ clip width (valueFrom (now (values .entry)) width j) k) × (r < limit) ⌝ }
 {
     if k < width {
@@ -33,7 +33,7 @@ fn signed_value(values: &[u32], width: usize, j: usize, k: usize) -> u64
 
 // The values of lane j, with changing signs, the last line first.
 fn load_lane(values: &[u32], width: usize, lines: usize, j: usize, t: &mut [u64])
-    requires { ⌜ (j < 4) × (4 * lines ≤ length (now t)) × Small (now t) × (4 * width ≤ length (now values)) ⌝ }
+    requires { ⌜ (j < laneCount) × (4 * lines ≤ length (now t)) × Small (now t) × (4 * width ≤ length (now values)) ⌝ }
     ensures { λ _. ⌜ Small (now (t .exit)) × KeptLanes (now (t .entry)) j (now (t .exit)) × Signed (now (values .entry)) width lines lines j (now (t .exit)) ⌝ }
 {
     let mut r = 0;
@@ -46,7 +46,7 @@ fn load_lane(values: &[u32], width: usize, lines: usize, j: usize, t: &mut [u64]
 
 // The values of all lanes.
 pub fn load(values: &[u32], lanes: usize, width: usize, lines: usize, t: &mut [u64])
-    requires { ⌜ (lanes ≤ 4) × (4 * lines ≤ length (now t)) × Small (now t) × (4 * width ≤ length (now values)) ⌝ }
+    requires { ⌜ (lanes ≤ laneCount) × (4 * lines ≤ length (now t)) × Small (now t) × (4 * width ≤ length (now values)) ⌝ }
     ensures { λ _. ⌜ Small (now (t .exit)) × ((j : ℕ) → j < lanes → Signed (now (values .entry)) width lines lines j (now (t .exit))) ⌝ }
 {
     let mut j = 0;

@@ -5,7 +5,7 @@ ghost use lib.ListN.{length, replicate};
 ghost use Rattle.algebra.specs.Prime.{q};
 ghost use Rattle.lists.specs.Tabulate.{tabulate};
 ghost use Rattle.algebra.specs.Dot.{longest, spare};
-ghost use Rattle.algebra.specs.Sums.{sumsOf, lowAdded, highAdded, SmallProducts, Spare, Summed, reducedAt};
+ghost use Rattle.algebra.specs.Sums.{widest, sumsOf, lowAdded, highAdded, SmallProducts, Spare, Summed, reducedAt};
 ghost use Rattle.lists.specs.All.{All};
 ghost use Rattle.lists.specs.Fill.{Filled};
 use field::product;
@@ -68,16 +68,19 @@ fn reduce_sums(low: &[u64], high: &[u64], out: &mut [u32])
     }
 }
 
-// Room for sums. A function of its own, so that a caller's goals do not show 64 zeros.
-fn blank_sums() -> [u64; 64]
-    ensures { λ r. ⌜ r ≡ replicate 64 0 ⌝ }
+// The entries of the widest rows.
+const WIDEST: usize = 64;
+
+// Room for sums. A function of its own, so that a caller's goals do not show its zeros.
+fn blank_sums() -> [u64; WIDEST]
+    ensures { λ r. ⌜ r ≡ replicate widest 0 ⌝ }
 {
-    [0u64; 64]
+    [0u64; WIDEST]
 }
 
 // The sum of the rows, each times its weight, where the rows stand one after the other. Each entry is reduced once, as in `dot`.
 pub fn sum_rows(weights: &[u32], rows: &[u32], out: &mut [u32])
-    requires { ⌜ (length (now out) * length (now weights) ≤ length (now rows)) × (length (now weights) ≤ longest) × (length (now out) ≤ 64) ⌝ }
+    requires { ⌜ (length (now out) * length (now weights) ≤ length (now rows)) × (length (now weights) ≤ longest) × (length (now out) ≤ widest) ⌝ }
     ensures { λ _. ⌜ now (out .exit) ≡ sumsOf (now (weights .entry)) (length (now (out .entry))) (now (rows .entry)) ⌝ }
 {
     let n = out.len();

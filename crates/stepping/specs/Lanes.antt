@@ -10,6 +10,10 @@ use Rattle.algebra.specs.Differences.{difference}
 abbrev pub entry : List ℕ → ℕ → ℕ
 entry t m = getD t m 0
 
+-- the lanes of a line
+abbrev pub laneCount : ℕ
+laneCount = 4
+
 -- the steps of a run, after which entries are folded
 abbrev pub run : ℕ
 run = 24

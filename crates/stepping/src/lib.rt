@@ -7,7 +7,7 @@ ghost use mathlib.Core.Path.{_≡_};
 ghost use Prim.Native.Nat.{_+_, _*_, _<_, _≤_};
 ghost use lib.ListN.{length};
 ghost use Rattle.algebra.specs.Field.{of};
-ghost use Rattle.stepping.specs.Lanes.{run, limit, Small, Addable, Grown, turned, LaneStep, KeptLines, KeptLanes, BlockStep, KeptBelow, KeptFrom, TableStep, Zeros};
+ghost use Rattle.stepping.specs.Lanes.{laneCount, run, limit, Small, Addable, Grown, turned, LaneStep, KeptLines, KeptLanes, BlockStep, KeptBelow, KeptFrom, TableStep, Zeros};
 
 // The steps of a run, after which entries are folded.
 const RUN: usize = 24;
@@ -29,7 +29,7 @@ fn folded(x: u64) -> u64
 
 // 24 steps of five entries of lane j. `w` has what comes from above, and then what goes below.
 fn lane(t: &mut [u64], at: usize, w: &mut [u64], j: usize)
-    requires { ⌜ (at + 16 < length (now t)) × (j < 4) × (length (now w) ≡ 4 * run) × Small (now t) × Grown (now w) ⌝ }
+    requires { ⌜ (at + 16 < length (now t)) × (j < laneCount) × (length (now w) ≡ laneCount * run) × Small (now t) × Grown (now w) ⌝ }
     ensures { λ _. ⌜ Small (now (t .exit)) × Grown (now (w .exit)) × KeptLines (now (t .entry)) at (now (t .exit)) × KeptLanes (now (w .entry)) j (now (w .exit)) × LaneStep (now (t .entry)) at (now (w .entry)) j (now (t .exit)) (now (w .exit)) ⌝ }
 {
     let mut v = [t[at + 16], t[at + 12], t[at + 8], t[at + 4], t[at]];
@@ -50,7 +50,7 @@ fn lane(t: &mut [u64], at: usize, w: &mut [u64], j: usize)
 
 // 24 steps of five lines.
 fn block(t: &mut [u64], b: usize, w: &mut [u64], lanes: usize)
-    requires { ⌜ (20 * b + 20 ≤ length (now t)) × (lanes ≤ 4) × (length (now w) ≡ 4 * run) × Small (now t) × Grown (now w) ⌝ }
+    requires { ⌜ (20 * b + 20 ≤ length (now t)) × (lanes ≤ laneCount) × (length (now w) ≡ laneCount * run) × Small (now t) × Grown (now w) ⌝ }
     ensures { λ _. ⌜ Small (now (t .exit)) × Grown (now (w .exit)) × KeptBelow (20 * b) (now (t .entry)) (now (t .exit)) × KeptFrom (20 * b + 20) (now (t .entry)) (now (t .exit)) × BlockStep b lanes (now (t .entry)) (now (w .entry)) (now (t .exit)) (now (w .exit)) ⌝ }
 {
     let mut j = 0;
@@ -62,7 +62,7 @@ fn block(t: &mut [u64], b: usize, w: &mut [u64], lanes: usize)
 
 // 24 steps of a table, from the highest order down. (From the lowest up the compiler would not vectorize `block`.)
 pub fn steps(t: &mut [u64], blocks: usize, w: &mut [u64], lanes: usize)
-    requires { ⌜ (20 * blocks ≤ length (now t)) × (lanes ≤ 4) × (length (now w) ≡ 4 * run) × Small (now t) × Zeros (now w) ⌝ }
+    requires { ⌜ (20 * blocks ≤ length (now t)) × (lanes ≤ laneCount) × (length (now w) ≡ laneCount * run) × Small (now t) × Zeros (now w) ⌝ }
     ensures { λ _. ⌜ Small (now (t .exit)) × TableStep (5 * blocks) lanes (now (t .entry)) (now (t .exit)) (now (w .exit)) ⌝ }
 {
     let mut b = 0;
