@@ -12,3 +12,5 @@ pub mod Linear
 pub mod Chi
 -- parities carried from round to round
 pub mod Carried
+-- a round lane by lane
+pub mod ByLanes

@@ -1,15 +1,12 @@
 -- `keccak_round::round` meets its contract: each lane that π leaves by its rotation, then each D[x] by the contract of `theta_effect`, then χ and ι on
 -- the lanes that are complemented; and the parities.
 use mathlib.Core.Path.{refl, ap, _∙_}
-use mathlib.Core.List.{List}
+use mathlib.Core.List.{List, []}
 use Prim.Native.Nat.{ℕ}
-use lib.Bits.{bitXor}
-use lib.ListN.{getD}
-use Rattle.keccak.specs.Keccak.{state, lane, rho, pi}
 use Rattle.keccak.proofs.Literal.{cons}
-use Rattle.keccak.specs.Held.{held, roundWith}
-use Rattle.keccak.proofs.Chi.{fewComplements, round-held}
-use Rattle.keccak.proofs.Carried.{carried, carried-is}
+use Rattle.keccak.proofs.Chi.{fewComplements}
+use Rattle.keccak.proofs.Carried.{carried}
+use Rattle.keccak.proofs.ByLanes.{round-by-lanes}
 use borrow.Author.Needs.{needs}
 use Rattle.keccak_round.proofs.round.Statement.{statement}
 use Rattle.keccak_round.proofs.round.Tie as tie
@@ -45,7 +42,7 @@ returns c =
     let a = c0 .before .args .t1 in
     let k = c0 .before .args .k in
     ap (λ (b : List ℕ). carried (fewComplements b k))
-    ((cons (c1 .rotate .ensures)
+    (cons (c1 .rotate .ensures)
     (cons (c2 .rotate2 .ensures)
     (cons (c3 .rotate3 .ensures)
     (cons (c4 .rotate4 .ensures)
@@ -69,11 +66,9 @@ returns c =
     (cons (c7 .rotate7 .ensures)
     (cons (c8 .rotate8 .ensures)
     (cons (c9 .rotate9 .ensures)
-    (cons (c10 .rotate10 .ensures)
+    (cons {s = []} {t = []} (c10 .rotate10 .ensures)
     refl)))))))))))))))))))))))))
-    ∙ ap (λ (d : List ℕ). pi (rho (state (λ x y. bitXor (lane a x y) (getD d x 0))))) (c0 .theta-effect .ensures))
-    ∙ ap carried (round-held a k)
-    ∙ carried-is (held (roundWith (held a) k))
+    ∙ round-by-lanes a (c0 .theta-effect .result) k (c0 .theta-effect .ensures)
 
 pub round-spec : {M : Type 1} → statement M
 round-spec =
