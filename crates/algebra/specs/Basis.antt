@@ -2,21 +2,21 @@
 use mathlib.Core.Path.{_≡_, refl, sym, _∙_, ap, ap₂}
 use mathlib.Core.List.{List, [], _∷_, map}
 use Prim.Native.Nat.{ℕ, zero, suc, _+_, _-_, _≤_, _<_}
-use native.Mathlib.Nat.{suc-inj, suc-ne-zero, add-suc, add-zero, zero-add}
+use native.Mathlib.Nat.{not-suc-le-zero, suc-inj, suc-ne-zero, add-suc, add-zero, zero-add}
 use native.Mathlib.Omega.{arith}
 use lib.ListN.{length, getD, length-map, replicate, length-replicate}
 use Rattle.lists.specs.All.{Distinct}
 use Rattle.algebra.specs.Prime.{q}
-use Rattle.algebra.specs.Field.{K, of, _⊕_, _⊗_, 𝟎, 𝟏, dv, ring, dif-path, ⊗-assoc}
+use Rattle.algebra.specs.Field.{K, of, of-one, _⊕_, _⊗_, 𝟎, 𝟏, dv, ring, dif-path, ⊗-assoc}
 use Rattle.algebra.specs.Poly.{eval, prod}
-use Rattle.algebra.specs.Interp.{dot, bases, length-bases, eval-interp}
+use Rattle.algebra.specs.Interp.{dot, bases, length-bases, eval-interp, interp, interp-of-values}
 use Rattle.algebra.specs.Lagrange.{elementsFrom, downTo, weight, Weights, lsum, lagrange, weights, elementsFrom-distinct, from-zero}
-use Rattle.algebra.specs.Numbers.{ofs}
+use Rattle.algebra.specs.Numbers.{evalN, of-evalN, ofs, ofs-vals, interpN}
 use Rattle.algebra.specs.Table.{tableSize, inverseFactorial, table}
-use Rattle.lists.specs.Range.{upFrom}
+use Rattle.lists.specs.Range.{upFrom, length-upFrom}
 
 -- ---- Lagrange's values: each weight times the differences of z to the other points
-unfoldable pub lvals : List K → List K → List K → K → List K
+lvals : List K → List K → List K → K → List K
 lvals pre [] ws z = []
 lvals pre (x ∷ post) [] z = []
 lvals pre (x ∷ post) (w ∷ ws) z = (w ⊗ (prod pre z ⊗ prod post z)) ∷ lvals (x ∷ pre) post ws z
@@ -65,7 +65,7 @@ dot-ext (b ∷ bs) (c ∷ cs) l h = ap₂ (λ (k : K) (t : List K). k ∷ t) (he
     tail : (b c : K) (ys bs cs : List K) → dot (𝟎 ∷ ys) (b ∷ bs) ≡ dot (𝟎 ∷ ys) (c ∷ cs) → dot ys bs ≡ dot ys cs
     tail b c ys bs cs e = sym (none b (dot ys bs)) ∙ e ∙ none c (dot ys cs)
 
-pub basis-values : (xs ws : List K) (z : K) → Distinct xs → Weights ws [] xs → map (λ (b : List K). eval b z) (bases xs) ≡ lvals [] xs ws z
+basis-values : (xs ws : List K) (z : K) → Distinct xs → Weights ws [] xs → map (λ (b : List K). eval b z) (bases xs) ≡ lvals [] xs ws z
 basis-values xs ws z d h =
     dot-ext _ _ (len ∙ sym (length-lvals [] xs ws z h))
     (λ (ys : List K) (e : length ys ≡ length (map (λ (b : List K). eval b z) (bases xs))). sym (eval-interp xs ys z) ∙ lagrange xs ws ys (e ∙ len) d h z ∙ lsum-dot [] xs ws ys z)
@@ -86,7 +86,7 @@ lvals-at T a i (suc m) (suc k) z j r e f =
     ap (λ (p : ℕ). getD (lvals (downTo a (suc i)) (elementsFrom p m) (weights T (suc i) m) z) k 𝟎) (sym (add-suc a i))
     ∙ lvals-at T a (suc i) m k z j r (omega arith) (omega arith)
 
-pub ofs-points : (a n : ℕ) → ofs (upFrom a n) ≡ elementsFrom a n
+ofs-points : (a n : ℕ) → ofs (upFrom a n) ≡ elementsFrom a n
 unfolding upFrom elementsFrom
 ofs-points a zero = refl
 ofs-points a (suc n) = ap (λ (t : List K). of a ∷ t) (ofs-points (suc a) n)
@@ -100,3 +100,37 @@ basis-at a x n c l u v =
     ∙ ap (λ (t : List K). getD t c 𝟎) (basis-values (elementsFrom a n) (weights inverseFactorial 0 n) (of x) (elementsFrom-distinct a n v) (from-zero inverseFactorial tableSize table a n u))
     ∙ ap (λ (p : ℕ). getD (lvals [] (elementsFrom p n) (weights inverseFactorial 0 n) (of x)) c 𝟎) (sym (add-zero a))
     ∙ lvals-at inverseFactorial a 0 n c (of x) c (n - suc c) (sym (zero-add c)) (omega arith)
+
+-- ---- the values 1 have the polynomial 1
+eval-none : (k : ℕ) (z : K) → eval (replicate k 𝟎) z ≡ 𝟎
+unfolding eval
+eval-none zero z = refl
+eval-none (suc k) z = ap (λ (t : K). 𝟎 ⊕ z ⊗ t) (eval-none k z) ∙ none z
+  where
+    none : (z : K) → 𝟎 ⊕ z ⊗ 𝟎 ≡ 𝟎
+    none z = rw (← dv z) (simp ring)
+
+eval-constant : (k : ℕ) (z : K) → eval (𝟏 ∷ replicate k 𝟎) z ≡ 𝟏
+unfolding eval
+eval-constant k z = ap (λ (t : K). 𝟏 ⊕ z ⊗ t) (eval-none k z) ∙ one z
+  where
+    one : (z : K) → 𝟏 ⊕ z ⊗ 𝟎 ≡ 𝟏
+    one z = rw (← dv z) (simp ring)
+
+ones : (p : List K) → ((z : K) → eval p z ≡ 𝟏) → (xs : List K) → ofs (replicate (length xs) 1) ≡ map (λ (z : K). eval p z) xs
+ones p h [] = refl
+ones p h (x ∷ xs) = ap₂ (λ (k : K) (t : List K). k ∷ t) (of-one ∙ sym (h x)) (ones p h xs)
+
+pub value-of-ones : (a n x : ℕ) → 0 < n → a + n ≤ q → of (evalN (interpN (upFrom a n) (replicate n 1)) x) ≡ 𝟏
+unfolding interpN
+value-of-ones a zero x l u = absurd (not-suc-le-zero {n = 0} l)
+value-of-ones a (suc k) x l u =
+    of-evalN _ x
+    ∙ ap (λ (t : List K). eval t (of x)) (ofs-vals (interp (ofs (upFrom a (suc k))) (ofs (replicate (suc k) 1)))
+    ∙ ap₂ (λ (s : List K) (j : ℕ). interp s (ofs (replicate j 1))) (ofs-points a (suc k)) (sym long)
+    ∙ ap (interp (elementsFrom a (suc k))) (ones (𝟏 ∷ replicate k 𝟎) (eval-constant k) (elementsFrom a (suc k)))
+    ∙ interp-of-values (elementsFrom a (suc k)) (𝟏 ∷ replicate k 𝟎) (ap suc (length-replicate k 𝟎) ∙ sym long) (elementsFrom-distinct a (suc k) u))
+    ∙ eval-constant k (of x)
+  where
+    long : length (elementsFrom a (suc k)) ≡ suc k
+    long = ap length (sym (ofs-points a (suc k))) ∙ length-map (upFrom a (suc k)) of ∙ length-upFrom a (suc k)

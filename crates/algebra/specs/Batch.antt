@@ -1,7 +1,7 @@
 -- The honest side: a batch P₀ + z P₁ + z² P₂ + .. of polynomials as numbers, coefficient by coefficient, and what it is worth at a point.
 use mathlib.Core.Path.{_≡_, refl, sym, _∙_, ap, ap₂}
 use mathlib.Core.List.{List, [], _∷_, map}
-use Prim.Native.Nat.{ℕ, zero, suc, _+_, _<_}
+use Prim.Native.Nat.{ℕ, zero, suc, _<_}
 use native.Mathlib.Omega.{arith}
 use lib.ListN.{length, getD, length-map, List·getD-map}
 use Rattle.lists.specs.All.{Distinct}

@@ -9,7 +9,8 @@ use lib.Dec.{lit<}
 use lib.ListN.{length, length-map}
 use Rattle.lists.specs.All.{All, Sized}
 use Rattle.algebra.specs.Prime.{q}
-use Rattle.algebra.specs.Field.{K, of, of-path, of-mul, of-one, _⊗_, mul-mod-mod, mod-mul-mod}
+use Rattle.lists.specs.Number.{mul-mod-mod, mod-mul-mod}
+use Rattle.algebra.specs.Field.{K, of, of-path, of-mul, of-one, _⊗_}
 use Rattle.algebra.specs.Rows.{power, concat, eval-concat}
 use Rattle.algebra.specs.Poly.{eval}
 use Rattle.algebra.specs.Numbers.{ofs-append, evalN, evalN-below, of-evalN, of-injective, ofs, ofs-valuesAtN, valuesAtN}

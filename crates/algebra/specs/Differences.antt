@@ -28,7 +28,7 @@ unfolding difference
 difference-step k g i = ⊕-⊝ (difference k g i) (difference k g (suc i))
 
 -- it looks at k + 1 places
-pub difference-ext : (k : ℕ) (f g : ℕ → K) (i : ℕ) → ((m : ℕ) → i ≤ m → m ≤ i + k → f m ≡ g m) → difference k f i ≡ difference k g i
+difference-ext : (k : ℕ) (f g : ℕ → K) (i : ℕ) → ((m : ℕ) → i ≤ m → m ≤ i + k → f m ≡ g m) → difference k f i ≡ difference k g i
 unfolding difference
 difference-ext zero f g i h = h i (omega arith) (omega arith)
 difference-ext (suc k) f g i h =
@@ -74,7 +74,7 @@ unfolding down along eval
 down-cons c p a m = refl
 
 -- the differences of an order that the polynomial does not reach are 0
-pub difference-down : (p : List K) (a : K) (i : ℕ) → difference (length p) (down p a) i ≡ 𝟎
+difference-down : (p : List K) (a : K) (i : ℕ) → difference (length p) (down p a) i ≡ 𝟎
 unfolding difference down eval
 difference-down [] a i = refl
 difference-down (c ∷ p) a i =

@@ -1,6 +1,6 @@
 -- Interpolation as a program does it, in place: first the coefficients of Newton's form, c₀ + (X - x₀)(c₁ + (X - x₁)(c₂ + ..)), then its expansion.
 use mathlib.Core.Path.{_≡_, refl, sym, _∙_, ap, ap₂, subst}
-use mathlib.Core.Logic.{_≢_, _⊎_, ⊎-elim}
+use mathlib.Core.Logic.{_≢_, ⊎-elim}
 use mathlib.Core.List.{List, [], _∷_, _++_, map, append-nil}
 use Prim.Native.Nat.{ℕ, zero, suc, _+_, _*_, _-_, _/_, _%_, _≤_, _<_, max}
 use native.Mathlib.Nat.{suc-inj, suc-ne-zero, not-suc-le-zero, le-of-suc-le-suc, mod-lt, mod-mod, le-suc-iff, pos-of-ne-zero, zero-add, le-of-eq, le-of-lt, add-mod-mod, add-sub-of-le, div-add-mod}
@@ -83,7 +83,7 @@ of-subN a b l = of-mod (a + (q - b)) ∙ sym (of-add a (q - b)) ∙ ap (λ (t : 
     of-q-sub : (b : ℕ) → b ≤ q → of (q - b) ≡ ⊖ (of b)
     of-q-sub b l = of-path (q - b) (4294967290 * b) (same-mod (q - b) (4294967290 * b) b 1 (omega arith)) ∙ sym (of-neg b)
 
-pub of-prodN : (xs : List ℕ) (z : ℕ) → Elements xs → of (prodN xs z) ≡ prod (ofs xs) (of z)
+of-prodN : (xs : List ℕ) (z : ℕ) → Elements xs → of (prodN xs z) ≡ prod (ofs xs) (of z)
 unfolding prodN prod
 of-prodN [] z b = of-one
 of-prodN (x ∷ xs) z b = of-mod _ ∙ sym (of-mul (subN z x) (prodN xs z)) ∙ ap₂ _⊗_ (of-subN z x (le-of-lt (b .0))) (of-prodN xs z (b .1))
@@ -121,11 +121,11 @@ eval-nform [] cs z b = refl
 eval-nform (x ∷ xs) [] z b = refl
 eval-nform (x ∷ xs) (c ∷ cs) z b = ap (λ (t : List K). eval t (of z)) (ofs-linN x c (nformN xs cs)) ∙ eval-lin (of x) (of c) (ofs (nformN xs cs)) (of z) ∙ ap (λ (t : K). of c ⊕ (of z ⊝ of x) ⊗ t) (eval-nform xs cs z (b .1))
 
-pub evalN-nformN : (xs cs : List ℕ) (z : ℕ) → Elements xs → evalN (nformN xs cs) z ≡ nevN xs cs z
+evalN-nformN : (xs cs : List ℕ) (z : ℕ) → Elements xs → evalN (nformN xs cs) z ≡ nevN xs cs z
 evalN-nformN xs cs z b = of-injective _ _ (evalN-below _ z) (nevN-below xs cs z) (of-evalN (nformN xs cs) z ∙ eval-nform xs cs z b ∙ sym (of-nevN xs cs z b))
 
 -- ---- steps of the loops that go from the last point to the first
-pub prodN-step : (xs : List ℕ) (z i j : ℕ) → suc j ≡ i → j < length xs → subN z (getD xs j 0) * prodN (drop i xs) z % q ≡ prodN (drop j xs) z
+prodN-step : (xs : List ℕ) (z i j : ℕ) → suc j ≡ i → j < length xs → subN z (getD xs j 0) * prodN (drop i xs) z % q ≡ prodN (drop j xs) z
 unfolding prodN
 prodN-step xs z i j e l =
     ap (λ (k : ℕ). subN z (getD xs j 0) * prodN (drop k xs) z % q) (sym e)
@@ -135,7 +135,7 @@ pub prodN-end : (xs : List ℕ) (z : ℕ) → prodN (drop (length xs) xs) z ≡ 
 unfolding prodN
 prodN-end xs z = ap (λ (t : List ℕ). prodN t z) (drop-length xs)
 
-pub nevN-step : (xs cs : List ℕ) (z i j : ℕ) → length cs ≡ length xs → suc j ≡ i → j < length xs
+nevN-step : (xs cs : List ℕ) (z i j : ℕ) → length cs ≡ length xs → suc j ≡ i → j < length xs
     → (getD cs j 0 + subN z (getD xs j 0) * nevN (drop i xs) (drop i cs) z % q) % q ≡ nevN (drop j xs) (drop j cs) z
 unfolding nevN
 nevN-step xs cs z i j m e l =
@@ -151,7 +151,7 @@ nevN-end xs cs z = ap (λ (t : List ℕ). nevN t cs z) (drop-length xs)
 abbrev pub Good : List ℕ → List ℕ → List ℕ → ℕ → Type 0
 Good xs ys cs k = (j : ℕ) → j < k → nevN (take k xs) (take k cs) (getD xs j 0) ≡ getD ys j 0
 
-pub below-append : (p r : List ℕ) → Elements p → Elements r → Elements (p ++ r)
+below-append : (p r : List ℕ) → Elements p → Elements r → Elements (p ++ r)
 below-append [] r h k = k
 below-append (a ∷ p) r h k = (h .0, below-append p r (h .1) k)
 
@@ -189,7 +189,7 @@ kept n p c h = rw h (none n c)
     none n c = rw (← dv n, ← dv c) (simp ring)
 
 -- one more coefficient: w is the inverse of the product over the points before
-abbrev pub nextN : List ℕ → List ℕ → List ℕ → ℕ → ℕ → ℕ
+abbrev nextN : List ℕ → List ℕ → List ℕ → ℕ → ℕ → ℕ
 nextN xs ys cs k w = subN (getD ys k 0) (nevN (take k xs) (take k cs) (getD xs k 0)) * w % q
 
 module _ (xs ys cs : List ℕ) (k w : ℕ) (bx : Elements xs) (by : Elements ys) (lc : length cs ≡ length xs) (ly : length ys ≡ length xs) (lk : k < length xs) where
@@ -215,7 +215,7 @@ module _ (xs ys cs : List ℕ) (k w : ℕ) (bx : Elements xs) (by : Elements ys)
       (more (getD xs j 0) c
       ∙ kept _ _ (of c) (ap (λ (m : ℕ). of (prodN (take k xs) m)) (sym (getD-take k xs j 0 l)) ∙ prodN-at (take k xs) (below-take k xs bx) j (omega (arith, length-take-le k xs (omega arith)))))
 
-  pub good-next : (cs′ : List ℕ) → take (suc k) cs′ ≡ take k cs ++ ((nextN xs ys cs k w) ∷ []) → (w * prodN (take k xs) (getD xs k 0)) % q ≡ 1 → Good xs ys cs k → Good xs ys cs′ (suc k)
+  good-next : (cs′ : List ℕ) → take (suc k) cs′ ≡ take k cs ++ ((nextN xs ys cs k w) ∷ []) → (w * prodN (take k xs) (getD xs k 0)) % q ≡ 1 → Good xs ys cs k → Good xs ys cs′ (suc k)
   good-next cs′ e h g j l =
       ap (λ (t : List ℕ). nevN (take (suc k) xs) t (getD xs j 0)) e
       ∙ ⊎-elim (λ (m : suc j ≤ k). old-value j (nextN xs ys cs k w) m ∙ g j m)
@@ -233,7 +233,7 @@ unfolding linN
 below-linN x c [] l b = (l, tt)
 below-linN x c (a ∷ p) l b = (mod-lt _ (lit< tt), below-linN x a p (b .0) (b .1))
 
-pub length-nformN : (xs cs : List ℕ) → length cs ≡ length xs → length (nformN xs cs) ≡ length xs
+length-nformN : (xs cs : List ℕ) → length cs ≡ length xs → length (nformN xs cs) ≡ length xs
 unfolding nformN
 length-nformN [] cs l = refl
 length-nformN (x ∷ xs) [] l = l
@@ -312,7 +312,7 @@ stage-get r s i j e l m =
 pub stage-set : (r s : List ℕ) (i v : ℕ) → length r ≡ length s → i < length s → v ≡ getD r i 0 → set (stage r s i) i v ≡ stage r s (suc i)
 stage-set r s i v e l h = ap (set (stage r s i) i) h ∙ simp zero-add at (paste-suc s 0 r i 0 (omega arith) (omega arith))
 
-pub sweep-end : (x : ℕ) (s : List ℕ) (i : ℕ) → i < length s → length s ≤ suc i → stage (sweepN x s) s i ≡ sweepN x s
+sweep-end : (x : ℕ) (s : List ℕ) (i : ℕ) → i < length s → length s ≤ suc i → stage (sweepN x s) s i ≡ sweepN x s
 unfolding sweepN
 sweep-end x [] i l m = absurd (not-suc-le-zero l)
 sweep-end x (c ∷ p) i l m =
@@ -321,7 +321,7 @@ sweep-end x (c ∷ p) i l m =
     ∙ take-append-drop i (linN x c p)
 
 -- a sweep of the part from k on
-pub nformN-drop : (xs s0 : List ℕ) (k : ℕ) → length s0 ≡ length xs → k < length xs → sweepN (getD xs k 0) (getD s0 k 0 ∷ nformN (drop (suc k) xs) (drop (suc k) s0)) ≡ nformN (drop k xs) (drop k s0)
+nformN-drop : (xs s0 : List ℕ) (k : ℕ) → length s0 ≡ length xs → k < length xs → sweepN (getD xs k 0) (getD s0 k 0 ∷ nformN (drop (suc k) xs) (drop (suc k) s0)) ≡ nformN (drop k xs) (drop k s0)
 unfolding nformN sweepN
 nformN-drop xs s0 k e l = sym (ap₂ nformN (drop-cons xs k 0 l) (drop-cons s0 k 0 (omega arith)))
 

@@ -6,7 +6,7 @@ use native.Mathlib.Nat.{mod-lt, le-refl, suc-inj, suc-ne-zero, not-suc-le-zero, 
 use native.Mathlib.Numerals.{add-one}
 use native.Mathlib.Omega.{arith}
 use lib.Dec.{lit<}
-use lib.ListN.{length, getD, take, drop, set, length-set, length-map}
+use lib.ListN.{length, getD, set, take, drop, length-map}
 use lib.Seq.{take-length, ext-getD}
 use Rattle.algebra.specs.Prime.{q}
 use Rattle.algebra.specs.Field.{K, of, same-mod, of-add, of-mul, of-zero, of-one, _⊕_, _⊗_, 𝟏, dv, ring, dif-path, ⊗-zero, ⊗-one, ⊗-comm}
@@ -17,7 +17,8 @@ use Rattle.lists.specs.All.{Sized}
 use Rattle.lists.specs.Maps.{getD-map-in}
 use Rattle.lists.specs.Pieces.{piece, pieces, length-pieces, pieces-at, pieces-sized}
 use Rattle.lists.specs.Tabulate.{tabulate-is, tabulateFrom, tabulate, length-from}
-use Rattle.lists.specs.Fill.{Filled, entryOf, fill-next}
+use Rattle.lists.specs.Fill.{Filled, entryOf, four-filled}
+use Rattle.lists.specs.Parts.{row-fits, span-length}
 use Rattle.algebra.specs.Divided.{of-mod}
 use Rattle.algebra.specs.Interp.{dot}
 
@@ -214,23 +215,34 @@ dots-entry w n rows j l =
     getD-map-in (dotN w) (pieces (length w) n rows) j [] 0 (subst (λ (k : ℕ). j < k) (sym (length-pieces (length w) n rows)) l)
     ∙ ap (dotN w) (pieces-at (length w) n j rows l)
 
--- four entries more
-pub four-filled : (f : ℕ → ℕ) (s : List ℕ) (j a b c d : ℕ) → j + 4 ≤ length s → Filled f s 0 j → a ≡ f j → b ≡ f (j + 1) → c ≡ f (j + 2) → d ≡ f (j + 3)
-    → Filled f (set (set (set (set s j a) (j + 1) b) (j + 2) c) (j + 3) d) 0 (j + 4)
-four-filled f s j a b c d l h ea eb ec ed =
-    let s₁ : List ℕ = set s j a in
-    let s₂ : List ℕ = set s₁ (j + 1) b in
-    let s₃ : List ℕ = set s₂ (j + 2) c in
-    let l₁ : length s₁ ≡ length s = length-set s j a in
-    let l₂ : length s₂ ≡ length s = length-set s₁ (j + 1) b ∙ l₁ in
-    let l₃ : length s₃ ≡ length s = length-set s₂ (j + 2) c ∙ l₂ in
-    let m₂ : j + 1 + 1 ≡ j + 2 = omega arith in
-    let m₃ : j + 2 + 1 ≡ j + 3 = omega arith in
-    let m₄ : j + 3 + 1 ≡ j + 4 = omega arith in
-    let h₁ : Filled f s₁ 0 (j + 1) = fill-next f s 0 j a (omega arith) ea h in
-    let h₂ : Filled f s₂ 0 (j + 2) = subst (λ (k : ℕ). Filled f s₂ 0 k) m₂ (fill-next f s₁ 0 (j + 1) b (omega arith) eb h₁) in
-    let h₃ : Filled f s₃ 0 (j + 3) = subst (λ (k : ℕ). Filled f s₃ 0 k) m₃ (fill-next f s₂ 0 (j + 2) c (omega arith) ec h₂) in
-    subst (λ (k : ℕ). Filled f (set s₃ (j + 3) d) 0 k) m₄ (fill-next f s₃ 0 (j + 3) d (omega arith) ed h₃)
+-- ---- four rows at a time
+
+pub four-rows-fit : (w j n k : ℕ) → 4 ≤ n - j → w * n ≤ k → j * w + w + w + w + w ≤ k
+four-rows-fit w j n k l b = let r = row-fits w (j + 3) n (omega arith) in omega arith
+
+pub four-lengths : (w j : ℕ) (t : List ℕ) → j * w + w + w + w + w ≤ length t
+    → (length (take (j * w + w - j * w) (drop (j * w) t)) ≡ w)
+    × (length (take (j * w + w + w - (j * w + w)) (drop (j * w + w) t)) ≡ w)
+    × (length (take (j * w + w + w + w - (j * w + w + w)) (drop (j * w + w + w) t)) ≡ w)
+    × (length (take (j * w + w + w + w + w - (j * w + w + w + w)) (drop (j * w + w + w + w) t)) ≡ w)
+four-lengths w j t h =
+    (span-length (j * w) w t (omega arith), span-length (j * w + w) w t (omega arith), span-length (j * w + w + w) w t (omega arith), span-length (j * w + w + w + w) w t (omega arith))
+
+pub dots-four : (w rows out : List ℕ) (n j a b c d : ℕ) → 4 ≤ n - j → length out ≡ n → Filled (entryOf (dotsOf w n rows)) out 0 j
+    → a ≡ dotN w (take (j * length w + length w - j * length w) (drop (j * length w) rows))
+    → b ≡ dotN w (take (j * length w + length w + length w - (j * length w + length w)) (drop (j * length w + length w) rows))
+    → c ≡ dotN w (take (j * length w + length w + length w + length w - (j * length w + length w + length w)) (drop (j * length w + length w + length w) rows))
+    → d ≡ dotN w (take (j * length w + length w + length w + length w + length w - (j * length w + length w + length w + length w)) (drop (j * length w + length w + length w + length w) rows))
+    → Filled (entryOf (dotsOf w n rows)) (set (set (set (set out j a) (j + 1) b) (j + 2) c) (j + 3) d) 0 (j + 4)
+dots-four w rows out n j a b c d l e h ha hb hc hd =
+    let m : ℕ = length w in
+    four-filled (entryOf (dotsOf w n rows)) out j a b c d (omega arith) h
+    (dots-at w rows n j (j * m) (j * m + m) a (omega arith) (omega arith) refl ha)
+    (dots-at w rows n (j + 1) (j * m + m) (j * m + m + m) b (omega arith) (omega arith) refl hb)
+    (dots-at w rows n (j + 2) (j * m + m + m) (j * m + m + m + m) c (omega arith) (omega arith) refl hc)
+    (dots-at w rows n (j + 3) (j * m + m + m + m) (j * m + m + m + m + m) d (omega arith) (omega arith) refl hd)
+
+-- ---- values of polynomials
 
 -- with the powers they are the values of the rows as polynomials
 powers-dots : (k : ℕ) (ps : List (List ℕ)) (x : ℕ) → Sized k ps → map (dotN (tabulate k (powN x))) ps ≡ valuesAtN ps x

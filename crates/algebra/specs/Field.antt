@@ -1,14 +1,15 @@
 -- The field of q = 4294967291 elements: numbers below q. Every operation is shut, so that a proof goes by the laws.
 use mathlib.Core.Path.{_≡_, refl, sym, _∙_, ap}
 use mathlib.Core.Logic.{_≢_}
-use Prim.Native.Nat.{ℕ, zero, suc, _+_, _*_, _-_, _/_, _%_, _<_}
-use native.Mathlib.Nat.{mod-lt, mod-eq-of-lt, add-mod, pos-of-ne-zero, zero-mul, mul-zero, zero-add, add-zero, add-mul-mod-self-left, mul-comm, div-add-mod}
+use Prim.Native.Nat.{ℕ, suc, _+_, _*_, _%_, _<_}
+use native.Mathlib.Nat.{mod-lt, mod-eq-of-lt, add-mod, pos-of-ne-zero, zero-mul, mul-zero, zero-add, add-zero}
 use mathlib.Core.HLevel.{isProp→PathP}
 use native.Mathlib.Bridge.{le-prop}
 use native.Mathlib.Decide.{ℕ-discrete}
 use native.Mathlib.Numerals.{add-one}
 use native.Mathlib.Omega.{arith}
 use lib.Dec.{lit<}
+use Rattle.lists.specs.Number.{mul-mod, mul-mod-mod}
 use Rattle.algebra.specs.Prime.{q, inverse}
 
 pub record K : Type 0 where
@@ -37,7 +38,7 @@ unfoldable pub 𝟏 : K
 𝟏 = of 1
 
 -- ---- the passage from numbers
-pub K-ext : (a b : K) → a .val ≡ b .val → a ≡ b
+K-ext : (a b : K) → a .val ≡ b .val → a ≡ b
 K-ext a b e = λ i. record { val = e i; below = isProp→PathP (λ (j : 𝕀). e j < q) (λ j. le-prop) (a .below) (b .below) i }
 
 pub val-of : (n : ℕ) → (of n) .val ≡ n % q
@@ -47,17 +48,6 @@ val-of n = refl
 pub of-val : (a : K) → of (a .val) ≡ a
 unfolding of
 of-val a = K-ext _ a (mod-eq-of-lt (a .below))
-
-pub mod-mul-mod : (m n k : ℕ) → (m % k * n) % k ≡ (m * n) % k
-mod-mul-mod m n k =
-    let e : m * n ≡ m % k * n + k * (m / k * n) = omega (arith, ap (λ (x : ℕ). x * n) (div-add-mod m k)) in
-    rw e (sym (add-mul-mod-self-left (m % k * n) k (m / k * n)))
-
-pub mul-mod-mod : (m n k : ℕ) → (m * (n % k)) % k ≡ (m * n) % k
-mul-mod-mod m n k = rw (mul-comm m (n % k), mul-comm m n) (mod-mul-mod n m k)
-
-pub mul-mod : (m n k : ℕ) → (m % k * (n % k)) % k ≡ (m * n) % k
-mul-mod m n k = mod-mul-mod m (n % k) k ∙ mul-mod-mod m n k
 
 -- the proof of a path between elements: one between numbers modulo q
 pub of-path : (m n : ℕ) → m % q ≡ n % q → of m ≡ of n
@@ -131,20 +121,11 @@ dif-one = refl
 pub ruleset ring = (dif-add, dif-mul, dif-neg, dif-zero, dif-one, zero-mul, mul-zero, zero-add, add-zero)
 
 -- ---- the laws
-pub ⊕-comm : (a b : K) → a ⊕ b ≡ b ⊕ a
-⊕-comm a b = rw (← dv a, ← dv b) (simp ring (dif-path _ _ _ _ (omega arith)))
-
-pub ⊕-assoc : (a b c : K) → a ⊕ b ⊕ c ≡ a ⊕ (b ⊕ c)
-⊕-assoc a b c = rw (← dv a, ← dv b, ← dv c) (simp ring (dif-path _ _ _ _ (omega arith)))
-
 pub ⊗-comm : (a b : K) → a ⊗ b ≡ b ⊗ a
 ⊗-comm a b = rw (← dv a, ← dv b) (simp ring (dif-path _ _ _ _ (omega arith)))
 
 pub ⊗-assoc : (a b c : K) → a ⊗ b ⊗ c ≡ a ⊗ (b ⊗ c)
 ⊗-assoc a b c = rw (← dv a, ← dv b, ← dv c) (simp ring (dif-path _ _ _ _ (omega arith)))
-
-pub ⊗-⊕ : (a b c : K) → a ⊗ (b ⊕ c) ≡ a ⊗ b ⊕ a ⊗ c
-⊗-⊕ a b c = rw (← dv a, ← dv b, ← dv c) (simp ring (dif-path _ _ _ _ (omega arith)))
 
 pub ⊕-zero : (a : K) → a ⊕ 𝟎 ≡ a
 ⊕-zero a = rw (← dv a) (simp ring (dif-path _ _ _ _ (omega arith)))
@@ -177,7 +158,7 @@ inv-at a (no n) = of ((inverse (a .val) (pos-of-ne-zero n) (a .below)) .0)
 unfoldable pub inv : K → K
 inv a = inv-at a (ℕ-discrete (a .val) 0)
 
-pub val-zero : (a : K) → a .val ≡ 0 → a ≡ 𝟎
+val-zero : (a : K) → a .val ≡ 0 → a ≡ 𝟎
 unfolding 𝟎 of
 val-zero a e = K-ext a 𝟎 e
 
@@ -226,3 +207,10 @@ inv-unique a b e = sym (⊗-one b) ∙ ap (λ (t : K). b ⊗ t) (sym (inv-right 
 pub zero-val : 𝟎 .val ≡ 0
 unfolding 𝟎 of
 zero-val = refl
+
+-- what a nonzero factor e takes to the same element is the same
+pub cancel : (e a b : K) → e ≢ 𝟎 → e ⊗ a ≡ e ⊗ b → a ≡ b
+cancel e a b n h = sym (back a) ∙ ap (λ (t : K). inv e ⊗ t) h ∙ back b
+  where
+    back : (a : K) → inv e ⊗ (e ⊗ a) ≡ a
+    back a = sym (⊗-assoc (inv e) e a) ∙ ap (λ (t : K). t ⊗ a) (⊗-comm (inv e) e ∙ inv-right e n) ∙ ⊗-comm 𝟏 a ∙ ⊗-one a

@@ -1,7 +1,7 @@
 -- Interpolation over consecutive points by forward differences: the coefficient k of Newton's form is the difference k at the first point over k factorial.
 use mathlib.Core.Path.{_≡_, refl, sym, _∙_, ap, ap₂}
 use mathlib.Core.List.{List, [], _∷_}
-use Prim.Native.Nat.{ℕ, zero, suc, _+_, _*_, _-_, _%_, _≤_, _<_}
+use Prim.Native.Nat.{ℕ, zero, suc, _+_, _*_, _%_, _≤_, _<_}
 use native.Mathlib.Nat.{not-suc-le-zero, mod-lt, add-zero, zero-add, suc-add, add-suc}
 use native.Mathlib.Omega.{arith}
 use lib.Dec.{lit<}
@@ -129,7 +129,7 @@ newtonN-below : (ys : List ℕ) (m n : ℕ) → Elements (tabulateFrom m n (newt
 newtonN-below ys m zero = tt
 newtonN-below ys m (suc n) = (mod-lt _ (lit< tt), newtonN-below ys (suc m) n)
 
-pub elements-newtonN : (ys : List ℕ) (n : ℕ) → Elements (tabulate n (newtonN ys))
+elements-newtonN : (ys : List ℕ) (n : ℕ) → Elements (tabulate n (newtonN ys))
 elements-newtonN ys n = newtonN-below ys 0 n
 
 -- Newton's form over consecutive points is a sum of falling powers

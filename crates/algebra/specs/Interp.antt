@@ -28,13 +28,13 @@ comb [] bs = []
 comb (y ∷ ys) [] = []
 comb (y ∷ ys) (b ∷ bs) = addV (scale y b) (comb ys bs)
 
-pub eval-comb : (ys : List K) (bs : List (List K)) (x : K) → eval (comb ys bs) x ≡ dot ys (map (λ (b : List K). eval b x) bs)
+eval-comb : (ys : List K) (bs : List (List K)) (x : K) → eval (comb ys bs) x ≡ dot ys (map (λ (b : List K). eval b x) bs)
 unfolding comb dot eval
 eval-comb [] bs x = refl
 eval-comb (y ∷ ys) [] x = refl
 eval-comb (y ∷ ys) (b ∷ bs) x = eval-add (scale y b) (comb ys bs) x ∙ ap₂ _⊕_ (eval-scale y b x) (eval-comb ys bs x)
 
-pub coeff-comb : (ys : List K) (bs : List (List K)) (i : ℕ) → getD (comb ys bs) i 𝟎 ≡ dot ys (map (λ (b : List K). getD b i 𝟎) bs)
+coeff-comb : (ys : List K) (bs : List (List K)) (i : ℕ) → getD (comb ys bs) i 𝟎 ≡ dot ys (map (λ (b : List K). getD b i 𝟎) bs)
 unfolding comb dot
 coeff-comb [] bs i = refl
 coeff-comb (y ∷ ys) [] i = refl
@@ -46,7 +46,7 @@ length-comb-le n [] bs s = omega arith
 length-comb-le n (y ∷ ys) [] s = omega arith
 length-comb-le n (y ∷ ys) (b ∷ bs) s = le-of-eq (length-addV-left (scale y b) (comb ys bs) (omega (arith, length-scale y b, length-comb-le n ys bs (s .1))) ∙ length-scale y b ∙ s .0)
 
-pub length-comb : (n : ℕ) (y : K) (ys : List K) (b : List K) (bs : List (List K)) → Sized n (b ∷ bs) → length (comb (y ∷ ys) (b ∷ bs)) ≡ n
+length-comb : (n : ℕ) (y : K) (ys : List K) (b : List K) (bs : List (List K)) → Sized n (b ∷ bs) → length (comb (y ∷ ys) (b ∷ bs)) ≡ n
 unfolding comb
 length-comb n y ys b bs s = length-addV-left (scale y b) (comb ys bs) (omega (arith, length-scale y b, length-comb-le n ys bs (s .1))) ∙ length-scale y b ∙ s .0
 
@@ -132,7 +132,7 @@ unfolding adjust
 sized-adjust n x l [] e s = tt
 sized-adjust n x l (b ∷ bs) e s = (length-addV b _ (omega (arith, length-scale (⊖ (eval b x)) l, s .0)) ∙ length-scale _ l ∙ e, sized-adjust n x l bs e (s .1))
 
-pub sized-bases : (xs : List K) → Sized (length xs) (bases xs)
+sized-bases : (xs : List K) → Sized (length xs) (bases xs)
 unfolding bases
 sized-bases [] = tt
 sized-bases (x ∷ xs) = (length-top x xs, sized-adjust (length xs) x (top x xs) (bases xs) (length-top x xs) (sized-bases xs))

@@ -5,7 +5,8 @@ use Prim.Native.Nat.{ℕ, _+_, _*_, _-_, _/_, _%_, _<_}
 use native.Mathlib.Nat.{mod-lt, mod-eq-of-lt, mul-assoc, div-add-mod', div-le-self, add-sub-of-le}
 use native.Mathlib.Omega.{arith}
 use Rattle.algebra.specs.Prime.{q}
-use Rattle.algebra.specs.Field.{K, of, of-val, of-inj, of-mul, of-path, of-one, of-zero, _⊗_, ⊗-comm, 𝟎, 𝟏, inv, inv-right, inv-unique, mul-mod-mod, mod-mul-mod}
+use Rattle.lists.specs.Number.{mul-mod-mod, mod-mul-mod}
+use Rattle.algebra.specs.Field.{K, of, of-val, of-inj, of-mul, of-path, of-one, of-zero, _⊗_, ⊗-comm, 𝟎, 𝟏, inv, inv-right, inv-unique}
 use Rattle.algebra.specs.Numbers.{val-of-below}
 
 pub invN : ℕ → ℕ

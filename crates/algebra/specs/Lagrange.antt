@@ -2,7 +2,7 @@
 use mathlib.Core.Path.{_≡_, refl, sym, _∙_, ap, ap₂, subst, fun-ext}
 use mathlib.Core.Logic.{_≢_}
 use mathlib.Core.List.{List, [], _∷_, _++_, map}
-use Prim.Native.Nat.{ℕ, zero, suc, _+_, _≤_, _<_, _%_, _-_}
+use Prim.Native.Nat.{ℕ, zero, suc, _+_, _≤_, _<_, _%_}
 use native.Mathlib.Nat.{suc-inj, suc-ne-zero, le-of-eq, mod-eq-of-lt, lt-trans, add-suc, suc-add, zero-add, add-zero}
 use native.Mathlib.Numerals.{add-one}
 use native.Mathlib.Omega.{arith}
@@ -14,7 +14,7 @@ use Rattle.algebra.specs.Poly.{eval, addV, scale, eval-add, eval-scale, 
 use Rattle.algebra.specs.Interp.{interp, interp-values, length-interp, values-all}
 
 -- ---- factorials as elements
-unfoldable pub fact : ℕ → K
+fact : ℕ → K
 fact zero = 𝟏
 fact (suc n) = of (suc n) ⊗ fact n
 
@@ -83,10 +83,10 @@ unfolding fact
 rising-one n = one-left _ ∙ rising-fact 0 n ∙ ap fact (zero-add n)
 
 -- the products over the n points below a + n, and over the n points above b
-pub prod-below : (a n : ℕ) → prod (downTo a n) (of (a + n)) ≡ fact n
+prod-below : (a n : ℕ) → prod (downTo a n) (of (a + n)) ≡ fact n
 prod-below a n = ap (λ (m : ℕ). prod (downTo a n) (of m)) (sym (add-zero (a + n))) ∙ prod-below-from a 0 n ∙ rising-one n
 
-pub prod-above : (b n : ℕ) → prod (elementsFrom (suc b) n) (of b) ≡ sign n ⊗ fact n
+prod-above : (b n : ℕ) → prod (elementsFrom (suc b) n) (of b) ≡ sign n ⊗ fact n
 prod-above b n = ap (λ (m : ℕ). prod (elementsFrom m n) (of b)) (sym (add-one b)) ∙ prod-above-from b 1 n ∙ ap (λ (t : K). sign n ⊗ t) (rising-one n)
 
 -- ---- the weights, from a table of inverse factorials
@@ -103,7 +103,7 @@ pub record Table (T : ℕ → K) (size : ℕ) : Type 0 where
   pub first : T 0 ≡ 𝟏
   pub next : (t : ℕ) → suc t < size → T (suc t) ⊗ of (suc t) ≡ T t
 
-pub table-fact : (T : ℕ → K) (size : ℕ) → Table T size → (t : ℕ) → t < size → T t ⊗ fact t ≡ 𝟏
+table-fact : (T : ℕ → K) (size : ℕ) → Table T size → (t : ℕ) → t < size → T t ⊗ fact t ≡ 𝟏
 unfolding fact
 table-fact T size h zero l = rw (h .first) (⊗-one 𝟏)
 table-fact T size h (suc t) l = sym (⊗-assoc _ _ _) ∙ rw (h .next t l) (table-fact T size h t (omega arith))
@@ -112,7 +112,7 @@ unfoldable pub weight : (ℕ → K) → ℕ → ℕ → K
 weight T i m = T i ⊗ T m ⊗ sign m
 
 -- the weight of the point with i points below and m above: the product of its differences to them, times the weight, is 1
-pub weight-right : (T : ℕ → K) (size : ℕ) → Table T size → (a i m : ℕ) → i < size → m < size
+weight-right : (T : ℕ → K) (size : ℕ) → Table T size → (a i m : ℕ) → i < size → m < size
     → (prod (downTo a i) (of (a + i)) ⊗ prod (elementsFrom (suc (a + i)) m) (of (a + i))) ⊗ weight T i m ≡ 𝟏
 unfolding weight
 weight-right T size h a i m li lm =
@@ -144,7 +144,7 @@ lpoly pre (x ∷ post) [] ys = []
 lpoly pre (x ∷ post) (w ∷ ws) [] = []
 lpoly pre (x ∷ post) (w ∷ ws) (y ∷ ys) = addV (scale (y ⊗ w) (vanish (pre ++ post))) (lpoly (x ∷ pre) post ws ys)
 
-pub prod-append : (xs ys : List K) (z : K) → prod (xs ++ ys) z ≡ prod xs z ⊗ prod ys z
+prod-append : (xs ys : List K) (z : K) → prod (xs ++ ys) z ≡ prod xs z ⊗ prod ys z
 unfolding prod
 prod-append [] ys z = one-left _
 prod-append (x ∷ xs) ys z = ap (λ (t : K). (z ⊝ x) ⊗ t) (prod-append xs ys z) ∙ sym (⊗-assoc _ _ _)
@@ -236,11 +236,6 @@ weights-right T size h a i zero l = tt
 weights-right T size h a i (suc m) l =
     (weight-right T size h a i m (omega arith) (omega arith), subst (λ (p : ℕ). Weights (weights T (suc i) m) (downTo a (suc i)) (elementsFrom p m)) (add-suc a i) (weights-right T size h a (suc i) m (omega arith)))
 
-pub length-elementsFrom : (a n : ℕ) → length (elementsFrom a n) ≡ n
-unfolding elementsFrom
-length-elementsFrom a zero = refl
-length-elementsFrom a (suc n) = ap suc (length-elementsFrom (suc a) n)
-
 of-ne : (a b : ℕ) → a < b → b < q → of b ≢ of a
 of-ne a b l u e = let f : b % q ≡ a % q = of-inj b a e in omega (arith, mod-eq-of-lt u, mod-eq-of-lt (lt-trans l u))
 
@@ -257,10 +252,3 @@ elementsFrom-distinct a (suc n) u = (elementsFrom-apart a (suc a) n (omega arith
 pub from-zero : (T : ℕ → K) (size : ℕ) → Table T size → (a n : ℕ) → n ≤ size → Weights (weights T 0 n) [] (elementsFrom a n)
 unfolding downTo
 from-zero T size h a n l = subst (λ (p : ℕ). Weights (weights T 0 n) [] (elementsFrom p n)) (add-zero a) (weights-right T size h a 0 n (omega arith))
-
--- the interpolation over n consecutive points is Lagrange's sum with the table's weights
-pub consecutive : (T : ℕ → K) (size : ℕ) → Table T size → (a n : ℕ) → n ≤ size → a + n ≤ q → (ys : List K) → length ys ≡ n → (z : K)
-    → eval (interp (elementsFrom a n) ys) z ≡ lsum [] (elementsFrom a n) (weights T 0 n) ys z
-consecutive T size h a n l u ys e z =
-    lagrange (elementsFrom a n) (weights T 0 n) ys (e ∙ sym (length-elementsFrom a n)) (elementsFrom-distinct a n u)
-    (from-zero T size h a n l) z

@@ -45,7 +45,7 @@ evalN-below [] x = lit< tt
 evalN-below (c ∷ cs) x = mod-lt _ (lit< tt)
 
 -- one step of a loop that goes from the last coefficient to the first
-pub evalN-step : (p : List ℕ) (x i j : ℕ) → suc j ≡ i → j < length p → (getD p j 0 + x * evalN (drop i p) x % q) % q ≡ evalN (drop j p) x
+evalN-step : (p : List ℕ) (x i j : ℕ) → suc j ≡ i → j < length p → (getD p j 0 + x * evalN (drop i p) x % q) % q ≡ evalN (drop j p) x
 unfolding evalN
 evalN-step p x i j e l =
     ap (λ (k : ℕ). (getD p j 0 + x * evalN (drop k p) x % q) % q) (sym e)
@@ -76,7 +76,7 @@ of-injective m n l u e = sym (mod-eq-of-lt l) ∙ of-inj m n e ∙ mod-eq-of-lt 
 pub val-of-below : (m : ℕ) → m < q → (of m) .val ≡ m
 val-of-below m l = val-of m ∙ mod-eq-of-lt l
 
-pub vals-ofs : (p : List ℕ) → Elements p → vals (ofs p) ≡ p
+vals-ofs : (p : List ℕ) → Elements p → vals (ofs p) ≡ p
 vals-ofs [] h = refl
 vals-ofs (a ∷ p) h = ap₂ (λ (c : ℕ) (t : List ℕ). c ∷ t) (val-of-below a (h .0)) (vals-ofs p (h .1))
 
@@ -84,11 +84,11 @@ pub ofs-vals : (p : List K) → ofs (vals p) ≡ p
 ofs-vals [] = refl
 ofs-vals (a ∷ p) = ap₂ (λ (c : K) (t : List K). c ∷ t) (of-val a) (ofs-vals p)
 
-pub vals-below : (p : List K) → Elements (vals p)
+vals-below : (p : List K) → Elements (vals p)
 vals-below [] = tt
 vals-below (a ∷ p) = (a .below, vals-below p)
 
-pub ofs-injective : (p r : List ℕ) → Elements p → Elements r → ofs p ≡ ofs r → p ≡ r
+ofs-injective : (p r : List ℕ) → Elements p → Elements r → ofs p ≡ ofs r → p ≡ r
 ofs-injective p r h k e = sym (vals-ofs p h) ∙ ap vals e ∙ vals-ofs r k
 
 apart-ofs : (x : ℕ) (xs : List ℕ) → x < q → Elements xs → All (λ (y : ℕ). y ≢ x) xs → All (λ (y : K). y ≢ of x) (ofs xs)
@@ -119,7 +119,7 @@ pub interpN-length : (xs ys : List ℕ) → length ys ≡ length xs → length (
 unfolding interpN
 interpN-length xs ys l = length-map (interp (ofs xs) (ofs ys)) (λ (a : K). a .val) ∙ length-interp (ofs xs) (ofs ys) (length-map ys of ∙ l ∙ sym (length-map xs of)) ∙ length-map xs of
 
-pub evalN-vals : (p : List K) (x : ℕ) → evalN (vals p) x ≡ (eval p (of x)) .val
+evalN-vals : (p : List K) (x : ℕ) → evalN (vals p) x ≡ (eval p (of x)) .val
 evalN-vals p x =
     sym (val-of-below _ (evalN-below (vals p) x))
     ∙ ap (λ (t : K). t .val) (of-evalN (vals p) x ∙ ap (λ (t : List K). eval t (of x)) (ofs-vals p))
@@ -145,7 +145,7 @@ unfolding valuesAtN valuesAt
 ofs-valuesAtN [] x = refl
 ofs-valuesAtN (p ∷ ps) x = ap₂ (λ (c : K) (t : List K). c ∷ t) (of-evalN p x) (ofs-valuesAtN ps x)
 
-pub valuesAtN-vals : (ps : List (List K)) (x : ℕ) → valuesAtN (map vals ps) x ≡ vals (valuesAt ps (of x))
+valuesAtN-vals : (ps : List (List K)) (x : ℕ) → valuesAtN (map vals ps) x ≡ vals (valuesAt ps (of x))
 unfolding valuesAtN valuesAt
 valuesAtN-vals [] x = refl
 valuesAtN-vals (p ∷ ps) x = ap₂ (λ (c : ℕ) (t : List ℕ). c ∷ t) (evalN-vals p x) (valuesAtN-vals ps x)

@@ -79,7 +79,7 @@ coeff-scale k [] i = sym (⊗-zero k)
 coeff-scale k (a ∷ p) zero = refl
 coeff-scale k (a ∷ p) (suc i) = coeff-scale k p i
 
-abbrev pub Zeros : List K → Type 0
+abbrev Zeros : List K → Type 0
 Zeros p = All (λ (a : K). a ≡ 𝟎) p
 
 -- ---- division by X - a: the values at a of the tails
@@ -103,7 +103,7 @@ unfolding eval sufs
 divide c [] a x = divide-base c a x
 divide c (d ∷ ds) a x = ap (λ (t : K). c ⊕ x ⊗ t) (divide d ds a x) ∙ divide-step c a x (eval (d ∷ ds) a) (eval (sufs a ds) x)
 
-pub eval-zeros : (p : List K) (x : K) → Zeros p → eval p x ≡ 𝟎
+eval-zeros : (p : List K) (x : K) → Zeros p → eval p x ≡ 𝟎
 unfolding eval
 eval-zeros [] x z = refl
 eval-zeros (a ∷ p) x z = rw (z .0, eval-zeros p x (z .1), ⊗-zero, ⊕-zero)
@@ -128,7 +128,7 @@ value-cons : (c : K) (cs : List K) (a : K) → eval (c ∷ cs) a ≡ 𝟎 → c 
 unfolding eval
 value-cons c cs a e = e
 
-pub roots : (xs p : List K) → length p ≤ length xs → Distinct xs → All (λ (x : K). eval p x ≡ 𝟎) xs → Zeros p
+roots : (xs p : List K) → length p ≤ length xs → Distinct xs → All (λ (x : K). eval p x ≡ 𝟎) xs → Zeros p
 roots [] [] l d r = tt
 roots [] (c ∷ cs) l d r = absurd (not-suc-le-zero l)
 roots (a ∷ xs) [] l d r = tt
@@ -140,10 +140,10 @@ roots (a ∷ xs) (c ∷ cs) l d r =
 neg-scale : (a : K) → ⊖ 𝟏 ⊗ a ≡ ⊖ a
 neg-scale a = rw (← dv a) (simp ring (dif-path _ _ _ _ (omega arith)))
 
-abbrev pub subV : List K → List K → List K
+abbrev subV : List K → List K → List K
 subV p r = addV p (scale (⊖ 𝟏) r)
 
-pub eval-sub : (p r : List K) (x : K) → eval (subV p r) x ≡ eval p x ⊝ eval r x
+eval-sub : (p r : List K) (x : K) → eval (subV p r) x ≡ eval p x ⊝ eval r x
 eval-sub p r x = eval-add p (scale (⊖ 𝟏) r) x ∙ ap (λ (t : K). eval p x ⊕ t) (eval-scale (⊖ 𝟏) r x ∙ neg-scale (eval r x))
 
 sub-zeros : (p r : List K) → length p ≡ length r → Zeros (subV p r) → p ≡ r
@@ -167,14 +167,14 @@ unique xs p r l m d h =
 unfoldable pub mulLin : K → List K → List K
 mulLin a p = addV (scale (⊖ a) p) (𝟎 ∷ p)
 
-pub length-mulLin : (a : K) (p : List K) → length (mulLin a p) ≡ suc (length p)
+length-mulLin : (a : K) (p : List K) → length (mulLin a p) ≡ suc (length p)
 unfolding mulLin
 length-mulLin a p = length-addV (scale (⊖ a) p) (𝟎 ∷ p) (omega (arith, length-scale (⊖ a) p))
 
 mulLin-step : (a x u : K) → ⊖ a ⊗ u ⊕ (𝟎 ⊕ x ⊗ u) ≡ (x ⊝ a) ⊗ u
 mulLin-step a x u = rw (← dv a, ← dv x, ← dv u) (simp ring (dif-path _ _ _ _ (omega arith)))
 
-pub eval-mulLin : (a : K) (p : List K) (x : K) → eval (mulLin a p) x ≡ (x ⊝ a) ⊗ eval p x
+eval-mulLin : (a : K) (p : List K) (x : K) → eval (mulLin a p) x ≡ (x ⊝ a) ⊗ eval p x
 unfolding mulLin eval
 eval-mulLin a p x = eval-add (scale (⊖ a) p) (𝟎 ∷ p) x ∙ ap (λ (t : K). t ⊕ (𝟎 ⊕ x ⊗ eval p x)) (eval-scale (⊖ a) p x) ∙ mulLin-step a x (eval p x)
 

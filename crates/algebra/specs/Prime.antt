@@ -1,6 +1,6 @@
 -- The modulus q = 4294967291, and that no number from 2 below q divides it.
 use mathlib.Core.Path.{_≡_, refl, sym, ap, subst}
-use mathlib.Core.Logic.{_≢_, _⊎_, ⊎-elim}
+use mathlib.Core.Logic.{_≢_, ⊎-elim}
 use mathlib.Core.Bool.{Bool, true, false}
 use Prim.Native.Nat.{ℕ, zero, suc, _+_, _*_, _-_, _/_, _%_, _≤_, _<_}
 use native.Mathlib.Nat.{mod-lt, div-add-mod', le-suc-iff, mul-mod-right, not-suc-le-zero, suc-inj, sub-add-cancel, lt-of-mul-lt-mul-right, lt-of-le-of-lt, mul-le-mul-left, one-mul, le-refl, add-sub-of-le, div-le-self, ne-of-gt, le-trans}
@@ -76,17 +76,18 @@ expand a c d r s g e = omega (arith, ap (λ (m : ℕ). m * s) e, ap (λ (m : ℕ
 mod-one : (x y z w : ℕ) → x + q * y ≡ q * z + w → w % q ≡ 1 → x % q ≡ 1
 mod-one x y z w e f = omega arith
 
-pub go : (a c r s : ℕ) → c * a + r ≡ q → 0 < a → c ≤ q → (r * s) % q ≡ 1 → (a * ((q - c) * s)) % q ≡ 1
-go a c r s e h w f =
+-- an inverse s of r = q - c a gives one of a
+pub inverse-by-remainder : (a c r s : ℕ) → c * a + r ≡ q → 0 < a → c ≤ q → (r * s) % q ≡ 1 → (a * ((q - c) * s)) % q ≡ 1
+inverse-by-remainder a c r s e h w f =
     let d : ℕ = q - c in
     let g : c + d ≡ q = add-sub-of-le w in
     let k : a * (d * s) + q * s ≡ q * (a * s) + r * s = expand a c d r s g e in
     mod-one (a * (d * s)) s (a * s) (r * s) k f
 
 -- an inverse modulo q, by the remainders q % a, q % (q % a), ..
-unfoldable pub inverse-go : (n a : ℕ) → a ≤ n → 0 < a → a < q → (b : ℕ) × ((a * b) % q ≡ 1)
-inverse-go zero a h l u = absurd (not-suc-le-zero (le-trans l h))
-inverse-go (suc n) a h l u = one-step (decLe a 1) (λ k v w. inverse-go n (q % a) k v w)
+unfoldable pub inverse-chain : (n a : ℕ) → a ≤ n → 0 < a → a < q → (b : ℕ) × ((a * b) % q ≡ 1)
+inverse-chain zero a h l u = absurd (not-suc-le-zero (le-trans l h))
+inverse-chain (suc n) a h l u = one-step (decLe a 1) (λ k v w. inverse-chain n (q % a) k v w)
   where
     one-step : Dec (a ≤ 1) → (q % a ≤ n → 0 < q % a → q % a < q → (b : ℕ) × ((q % a * b) % q ≡ 1)) → (b : ℕ) × ((a * b) % q ≡ 1)
     one-step (yes k) f = (1, let e : a ≡ 1 = omega arith in subst (λ (m : ℕ). (m * 1) % q ≡ 1) (sym e) refl)
@@ -96,7 +97,7 @@ inverse-go (suc n) a h l u = one-step (decLe a 1) (λ k v w. inverse-go n (q % a
         let t = f (omega arith) (omega arith) (omega arith) in
         let c : q / a * a + q % a ≡ q = div-add-mod' q a in
         let w : q / a ≤ q = div-le-self q a in
-        ((q - q / a) * t .0, go a (q / a) (q % a) (t .0) c l w (t .1))
+        ((q - q / a) * t .0, inverse-by-remainder a (q / a) (q % a) (t .0) c l w (t .1))
 
 unfoldable pub inverse : (a : ℕ) → 0 < a → a < q → (b : ℕ) × ((a * b) % q ≡ 1)
-inverse a l u = inverse-go a a (le-refl a) l u
+inverse a l u = inverse-chain a a (le-refl a) l u

@@ -42,7 +42,7 @@ agree-batch ps z t [] h = tt
 agree-batch ps z t (e ∷ es) h = (h .0 ∙ sym (eval-batch z ps e), agree-batch ps z t es (h .1))
 
 -- the polynomial through the answer is the batch of the rows
-pub answer-batch : (ps : List (List K)) (n : ℕ) → 0 < length ps → Sized n ps → (z : K) (pts vs es : List K)
+answer-batch : (ps : List (List K)) (n : ℕ) → 0 < length ps → Sized n ps → (z : K) (pts vs es : List K)
     → length pts ≡ n → length vs ≡ n → n ≤ length es → Distinct es
     → All (λ (e : K). eval (interp pts vs) e ≡ eval (valuesAt ps e) z) es → interp pts vs ≡ batch z ps
 answer-batch ps n l s z pts vs es lp lv le d h =

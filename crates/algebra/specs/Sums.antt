@@ -16,6 +16,10 @@ use Rattle.algebra.specs.Numbers.{evalN}
 use Rattle.algebra.specs.Batch.{columnN, length-columnN, columnN-at}
 use Rattle.algebra.specs.Dot.{split, longest, wordEnd, spare, dotN, dot-powersN, Halves, halves-none, halves-turn, halves-spare, halves-done}
 
+-- the entries of the widest rows
+abbrev pub widest : ℕ
+widest = 64
+
 -- column i of the rows of n entries, one for each weight, which stand one after the other
 abbrev pub columnOf : List ℕ → ℕ → List ℕ → ℕ → List ℕ
 columnOf weights n rows i = columnN (pieces n (length weights) rows) i

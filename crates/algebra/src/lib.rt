@@ -1,0 +1,1 @@
+// Definitions and laws of algebra: see specs/. No function.

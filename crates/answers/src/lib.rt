@@ -23,7 +23,7 @@ use field::fold;
 use field::powers;
 use interpolation::interpolate_from;
 use sums::dots;
-use sums::sum_rows;
+use row_sums::sum_rows;
 
 // Rows of at most so many entries are summed by Horner's rule, which needs no room for sums.
 const NARROW: usize = 8;

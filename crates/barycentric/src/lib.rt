@@ -1,7 +1,7 @@
 // What the value at x of the polynomial through values at consecutive points takes in the barycentric form: weights, which depend on the number of points alone,
 // and the inverses of the points' distances to x, or products of distances in their place.
 ghost use mathlib.Core.Path.{_≡_};
-ghost use Prim.Native.Nat.{_+_, _%_, _≤_, _<_};
+ghost use Prim.Native.Nat.{_+_, _≤_, _<_};
 ghost use lib.ListN.{length};
 ghost use Rattle.lists.specs.Fill.{Filled};
 ghost use Rattle.lists.specs.Tabulate.{tabulate};

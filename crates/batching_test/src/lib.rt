@@ -31,7 +31,7 @@ fn batching_agrees(
 {
     let answer = width * k;
     let answer_end = answer + width;
-    let left = sums::evaluate_by(e, powers, &batching[answer..answer_end]);
+    let left = horner::evaluate_by(e, powers, &batching[answer..answer_end]);
     let scale = mu * k;
     let scale_end = scale + mu;
     let rows = sums::dot(&scales[scale..scale_end], &values[0..mu]);

@@ -21,7 +21,8 @@ use Rattle.algebra.specs.Field.{K, of, 𝟎}
 use Rattle.algebra.specs.Poly.{eval}
 use Rattle.algebra.specs.Interp.{interp, interp-values}
 use Rattle.algebra.specs.Numbers.{evalN, of-evalN, ofs, ofs-vals, interpN, interpN-length, valuesAtN, distinct-ofs}
-use Rattle.extrapolation.specs.Lanes.{entry, Small, KeptColumns}
+use Rattle.stepping.specs.Lanes.{entry, Small}
+use Rattle.extrapolation.specs.Written.{KeptColumns}
 use Rattle.extrapolation.specs.Extrapolated.{Through, Columns, Extrapolated}
 use Rattle.scheme.specs.Sizes.{Sizes, SizesInOrder, leaves, rows, width, recordValues, points}
 use Rattle.scheme.specs.Layers.{Lent, lentOf, extended, rowPolynomials, maskPolynomial}

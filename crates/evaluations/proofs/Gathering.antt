@@ -11,8 +11,8 @@ use lib.Dec.{ltb}
 use lib.ListN.{length, set}
 use borrow.Author.Tests.{ltb-true, ltb-false}
 use Rattle.lists.specs.Choice.{tested}
-use Rattle.extrapolation.specs.Lanes.{entry, KeptLanes}
-use Rattle.extrapolation.proofs.Kernel.{put-here, put-else, put-lane}
+use Rattle.stepping.specs.Lanes.{entry, KeptLanes}
+use Rattle.stepping.proofs.Kernel.{put-here, put-else, put-lane}
 use Rattle.scheme.specs.Sizes.{Sizes, rows, columns, width}
 use Rattle.scheme.specs.Layers.{Lent, extended}
 use Rattle.lent.specs.Rows.{CanExtend, strided}

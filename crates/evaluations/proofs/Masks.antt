@@ -14,7 +14,7 @@ use Rattle.lists.specs.Tabulate.{tabulate, length-from}
 use Rattle.algebra.specs.Numbers.{evalN, valuesAtN}
 use Rattle.algebra.specs.Columns.{powN}
 use Rattle.algebra.specs.Dot.{longest, dotsOf, dots-powersN}
-use Rattle.extrapolation.specs.Lanes.{entry}
+use Rattle.stepping.specs.Lanes.{entry}
 use Rattle.algebra.specs.Values.{values-at, length-values}
 use Rattle.evaluations.specs.Values.{MaskLanes}
 

@@ -3,7 +3,7 @@ use mathlib.Core.Path.{_≡_}
 use mathlib.Core.List.{List}
 use Prim.Native.Nat.{ℕ, _+_, _*_, _/_, _≤_}
 use lib.ListN.{length}
-use Rattle.extrapolation.specs.Lanes.{Small}
+use Rattle.stepping.specs.Lanes.{Small}
 use Rattle.scheme.specs.Sizes.{Sizes, leaves, width, recordValues}
 use Rattle.lent.specs.Rows.{CanExtend}
 

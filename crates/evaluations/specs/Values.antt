@@ -4,7 +4,7 @@ use mathlib.Core.List.{List}
 use Prim.Native.Nat.{ℕ, _+_, _*_, _<_}
 use Rattle.lists.specs.Pieces.{piece}
 use Rattle.algebra.specs.Numbers.{evalN, interpN}
-use Rattle.extrapolation.specs.Lanes.{entry}
+use Rattle.stepping.specs.Lanes.{entry}
 use Rattle.scheme.specs.Sizes.{Sizes, width, points}
 use Rattle.scheme.specs.Layers.{Lent, extended}
 

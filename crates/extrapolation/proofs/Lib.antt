@@ -1,5 +1,6 @@
-pub mod Kernel
-pub mod Stepping
+-- Walks along tables of differences.
+
+-- the values of a walk, as they are written
 pub mod Putting
-pub mod Loading
+-- two walks: from values to differences, and from these to values
 pub mod Walks

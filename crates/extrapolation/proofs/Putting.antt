@@ -14,9 +14,10 @@ use borrow.Author.Tests.{ltb-true, ltb-false}
 use Rattle.lists.specs.Choice.{tested}
 use Rattle.lists.specs.Parts.{row-fits}
 use Rattle.algebra.specs.Prime.{q}
-use Rattle.algebra.specs.Field.{K, of, val-of}
+use Rattle.algebra.specs.Field.{K, val-of}
 use Rattle.algebra.specs.Differences.{difference}
-use Rattle.extrapolation.specs.Lanes.{run, limit, entry, Small, Handed, Lines, Fed, KeptBelow, KeptFrom, Ended, TableStep, Zeros, PutLanes, KeptColumns, KeptRows, Put, Walked, Walk}
+use Rattle.stepping.specs.Lanes.{run, limit, entry, Small, Handed, Lines, Fed, KeptBelow, KeptFrom, Ended, TableStep, Zeros}
+use Rattle.extrapolation.specs.Written.{PutLanes, KeptColumns, KeptRows, Put, Walked, Walk}
 
 pub zeros : (n : ℕ) → Zeros (replicate n 0)
 unfolding Zeros

@@ -14,9 +14,11 @@ use Rattle.algebra.specs.Poly.{eval}
 use Rattle.algebra.specs.Lagrange.{sign, of-sub}
 use Rattle.algebra.specs.Numbers.{evalN, evalN-below, of-evalN, ofs, val-of-below}
 use Rattle.algebra.specs.Differences.{difference, down, difference-end, clip, clip-below, clip-above, dual, dual-start, dual-end, dual-dual}
-use Rattle.extrapolation.specs.Lanes.{entry, Lines, Ended, Walked, Walk, valueFrom, Signed}
+use Rattle.stepping.specs.Lanes.{entry, Lines, Ended}
+use Rattle.extrapolation.specs.Written.{Walked, Walk}
+use Rattle.loading.specs.Signs.{valueFrom, Signed}
 use Rattle.extrapolation.specs.Extrapolated.{Through, Columns, Extrapolated}
-use Rattle.extrapolation.proofs.Loading.{LanesSigned}
+use Rattle.loading.proofs.Signs.{LanesSigned}
 
 -- ---- a polynomial's value at x, m steps below a = m + x
 down-value : (p : List ℕ) (a m x : ℕ) → m + x ≡ a → down (ofs p) (of a) m ≡ of (evalN p x)

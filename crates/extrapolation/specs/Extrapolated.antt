@@ -5,7 +5,11 @@ use Prim.Native.Nat.{ℕ, _+_, _*_, _≤_, _<_}
 use lib.ListN.{length}
 use Rattle.algebra.specs.Field.{of}
 use Rattle.algebra.specs.Numbers.{evalN}
-use Rattle.extrapolation.specs.Lanes.{entry}
+use Rattle.stepping.specs.Lanes.{entry}
+
+-- the most points of both kinds together
+abbrev pub mostPoints : ℕ
+mostPoints = 65536
 
 -- polynomial p j has at most `width` coefficients, and at n, .., n + width - 1 the values of lane j, which stand four places apart
 unfoldable pub Through : (ℕ → List ℕ) → List ℕ → ℕ → ℕ → ℕ → Type 0

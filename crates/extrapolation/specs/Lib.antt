@@ -1,2 +1,3 @@
-pub mod Lanes
+-- What a walk along a table writes, and what two walks leave.
+pub mod Written
 pub mod Extrapolated

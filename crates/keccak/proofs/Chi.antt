@@ -26,7 +26,7 @@ turned =
     ∷ ones ∷ 0 ∷ 0 ∷ ones ∷ 0
     ∷ []
 
-pub turned-is : pi (rho (theta six)) ≡ turned
+turned-is : pi (rho (theta six)) ≡ turned
 unfolding rotl bit number
 turned-is = refl
 

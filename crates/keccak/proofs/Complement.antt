@@ -9,15 +9,15 @@ use Rattle.keccak.specs.Lane.{complement}
 use Rattle.keccak.specs.Held.{ones}
 use Rattle.keccak.specs.Xor.{xor-assoc}
 
-pub complement-xor : (x : ℕ) → x < 2 ^ 64 → complement x ≡ bitXor x ones
+complement-xor : (x : ℕ) → x < 2 ^ 64 → complement x ≡ bitXor x ones
 complement-xor x h =
     let same : x % 2 ^ 64 ≡ x = mod-eq-of-lt h in
     omega (arith, xor-add-and x ones, and-mask x 64, same)
 
-pub complement-lt : (x : ℕ) → complement x < 2 ^ 64
+complement-lt : (x : ℕ) → complement x < 2 ^ 64
 complement-lt x = omega arith
 
-pub complement-twice : (x : ℕ) → x < 2 ^ 64 → complement (complement x) ≡ x
+complement-twice : (x : ℕ) → x < 2 ^ 64 → complement (complement x) ≡ x
 complement-twice x h = omega arith
 
 -- ---- the bits of a number are those that another has too, and those that it has not

@@ -54,7 +54,7 @@ entry-lt f h i zero k = zero-lt-suc 1
 entry-lt f h i (suc n) zero = h i
 entry-lt f h i (suc n) (suc k) = entry-lt f h (suc i) n k
 
-pub rotl-lt : (x n : ℕ) → rotl x n < 2 ^ 64
+rotl-lt : (x n : ℕ) → rotl x n < 2 ^ 64
 unfolding rotl
 rotl-lt x n =
     let f : ℕ → ℕ = λ z. bit x ((z + 64 - n) % 64) in

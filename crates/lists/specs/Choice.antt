@@ -1,7 +1,11 @@
 -- A choice by a computed test, and the two things that a test can say.
-use mathlib.Core.Path.{_≡_, refl, sym}
+use mathlib.Core.Path.{_≡_, refl, sym, _∙_}
 use mathlib.Core.Logic.{_⊎_, inl, inr}
 use mathlib.Core.Bool.{Bool, true, false, _&&_, _||_, false≢true}
+use Prim.Native.Nat.{ℕ}
+use native.Mathlib.Decide.{ℕ-discrete}
+use lib.Dec.{eqb}
+use borrow.Author.Tests.{eq-eqb, ne-eqb}
 
 abbrev pub pick : {A : Type 0} → Bool → A → A → A
 pick true a b = a
@@ -40,3 +44,11 @@ pub iff : (a b : Bool) → (a ≡ true → b ≡ true) → (b ≡ true → a ≡
 iff true b f g = sym (f refl)
 iff false true f g = absurd (false≢true (g refl))
 iff false false f g = refl
+
+-- two tests whether numbers are equal, each of which follows from the other
+pub eqb-both : (a b c d : ℕ) → (a ≡ b → c ≡ d) → (c ≡ d → a ≡ b) → eqb a b ≡ eqb c d
+eqb-both a b c d f g = by (ℕ-discrete a b)
+  where
+    by : Dec (a ≡ b) → eqb a b ≡ eqb c d
+    by (yes e) = eq-eqb a b e ∙ sym (eq-eqb c d (f e))
+    by (no n) = ne-eqb a b n ∙ sym (ne-eqb c d (λ (e : c ≡ d). n (g e)))

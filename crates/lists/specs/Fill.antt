@@ -5,7 +5,7 @@ use Prim.Native.Nat.{ℕ, _+_, _-_, _≤_, _<_}
 use native.Mathlib.Nat.{not-suc-le-zero, ne-of-gt, ne-of-lt}
 use native.Mathlib.Omega.{arith}
 use native.Mathlib.Decide.{ℕ-discrete}
-use lib.ListN.{length, getD, set, List·getD-append}
+use lib.ListN.{length, getD, set, length-set, List·getD-append}
 use lib.Seq.{getD-set-same, getD-set-other}
 use Rattle.lists.specs.Tabulate.{tabulate, tabulate-is, getD-tabulate, length-tabulate}
 
@@ -58,3 +58,21 @@ filled-own s i k j m u = refl
 pub filled-front : (f : ℕ → ℕ) (n : ℕ) (s rest : List ℕ) → s ≡ tabulate n f → Filled f (s ++ rest) 0 n
 filled-front f n s rest e j m u =
     List·getD-append s rest 0 j (subst (λ (k : ℕ). j < k) (sym (ap length e ∙ length-tabulate n f)) u) ∙ ap (λ (t : List ℕ). getD t j 0) e ∙ getD-tabulate n f j u
+
+-- four entries more
+pub four-filled : (f : ℕ → ℕ) (s : List ℕ) (j a b c d : ℕ) → j + 4 ≤ length s → Filled f s 0 j → a ≡ f j → b ≡ f (j + 1) → c ≡ f (j + 2) → d ≡ f (j + 3)
+    → Filled f (set (set (set (set s j a) (j + 1) b) (j + 2) c) (j + 3) d) 0 (j + 4)
+four-filled f s j a b c d l h ea eb ec ed =
+    let s₁ : List ℕ = set s j a in
+    let s₂ : List ℕ = set s₁ (j + 1) b in
+    let s₃ : List ℕ = set s₂ (j + 2) c in
+    let l₁ : length s₁ ≡ length s = length-set s j a in
+    let l₂ : length s₂ ≡ length s = length-set s₁ (j + 1) b ∙ l₁ in
+    let l₃ : length s₃ ≡ length s = length-set s₂ (j + 2) c ∙ l₂ in
+    let m₂ : j + 1 + 1 ≡ j + 2 = omega arith in
+    let m₃ : j + 2 + 1 ≡ j + 3 = omega arith in
+    let m₄ : j + 3 + 1 ≡ j + 4 = omega arith in
+    let h₁ : Filled f s₁ 0 (j + 1) = fill-next f s 0 j a (omega arith) ea h in
+    let h₂ : Filled f s₂ 0 (j + 2) = subst (λ (k : ℕ). Filled f s₂ 0 k) m₂ (fill-next f s₁ 0 (j + 1) b (omega arith) eb h₁) in
+    let h₃ : Filled f s₃ 0 (j + 3) = subst (λ (k : ℕ). Filled f s₃ 0 k) m₃ (fill-next f s₂ 0 (j + 2) c (omega arith) ec h₂) in
+    subst (λ (k : ℕ). Filled f (set s₃ (j + 3) d) 0 k) m₄ (fill-next f s₃ 0 (j + 3) d (omega arith) ed h₃)

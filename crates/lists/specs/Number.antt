@@ -1,12 +1,13 @@
 -- Numbers and their digits.
 use mathlib.Core.Path.{_≡_, sym, ap, _∙_, subst}
 use mathlib.Core.List.{List, [], _∷_, _++_}
-use Prim.Native.Nat.{ℕ, suc, _+_, _*_, _^_, _<_, _≤_}
-use native.Mathlib.Nat.{zero-add, add-comm, add-assoc, mul-add, mul-assoc, mul-comm, one-mul, pow-zero, pow-suc, zero-lt-suc, lt-of-not-le}
+use Prim.Native.Nat.{ℕ, suc, _+_, _*_, _/_, _%_, _^_, _<_, _≤_}
+use native.Mathlib.Nat.{zero-add, add-comm, add-assoc, mul-add, mul-assoc, mul-comm, one-mul, pow-zero, pow-suc, zero-lt-suc, lt-of-not-le, add-mul-mod-self-left, div-add-mod}
 use lib.Arith.{digits-lt}
 use lib.ListN.{length, getD}
 use mathlib.Core.Logic.{_⊎_, inl, inr}
 use native.Mathlib.Decide.{decLe}
+use native.Mathlib.Omega.{arith}
 
 -- the number with the given digits to the base b, lowest first
 unfoldable pub number : ℕ → List ℕ → ℕ
@@ -39,3 +40,15 @@ order a b = go (decLe a b)
     go : Dec (a ≤ b) → (a ≤ b) ⊎ (b < a)
     go (yes h) = inl h
     go (no h) = inr (lt-of-not-le h)
+
+-- ---- remainders of products
+pub mod-mul-mod : (m n k : ℕ) → (m % k * n) % k ≡ (m * n) % k
+mod-mul-mod m n k =
+    let e : m * n ≡ m % k * n + k * (m / k * n) = omega (arith, ap (λ (x : ℕ). x * n) (div-add-mod m k)) in
+    rw e (sym (add-mul-mod-self-left (m % k * n) k (m / k * n)))
+
+pub mul-mod-mod : (m n k : ℕ) → (m * (n % k)) % k ≡ (m * n) % k
+mul-mod-mod m n k = rw (mul-comm m (n % k), mul-comm m n) (mod-mul-mod n m k)
+
+pub mul-mod : (m n k : ℕ) → (m % k * (n % k)) % k ≡ (m * n) % k
+mul-mod m n k = mod-mul-mod m (n % k) k ∙ mul-mod-mod m n k

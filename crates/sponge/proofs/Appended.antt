@@ -8,7 +8,7 @@ use lib.ListN.{length, getD, take, drop, length-drop, drop-of-length-le}
 use lib.Pow.{pow-add}
 use lib.Seq.{drop-append-le, take-append-le, take-append-add, drop-append-add, take-all, getD-drop}
 use Rattle.lists.specs.Number.{number, number-append, number-lt}
-use Rattle.sponge.specs.Shake.{word}
+use Rattle.keccak.specs.Strings.{word}
 
 module _ (m p : List ℕ) (q : ℕ) where
   -- a word of the first string
@@ -48,7 +48,7 @@ pub pow-bytes : (r : ℕ) → 256 ^ r ≡ 2 ^ (r * 8)
 pow-bytes zero = refl
 pow-bytes (suc r) = pow-suc 256 r ∙ ap (λ (x : ℕ). x * 256) (pow-bytes r) ∙ sym (ap (λ (x : ℕ). 2 ^ x) (suc-mul r 8) ∙ pow-add 2 (r * 8) 8)
 
-pub drop-bytes : (m : List ℕ) (q : ℕ) → ((i : ℕ) → getD m i 0 < 256) → (i : ℕ) → getD (drop q m) i 0 < 256
+drop-bytes : (m : List ℕ) (q : ℕ) → ((i : ℕ) → getD m i 0 < 256) → (i : ℕ) → getD (drop q m) i 0 < 256
 drop-bytes m q h i = subst (λ (x : ℕ). x < 256) (sym (getD-drop q m i 0)) (h (q + i))
 
 -- the last word of a string of bytes, of which r are left

@@ -10,7 +10,8 @@ use lib.Seq.{drop-append-le, take-append-le, drop-drop, take-take, take-all}
 use Rattle.lists.specs.Tabulate.{tabulate, tabulate-ext}
 use Rattle.lists.specs.Number.{number}
 use Rattle.lists.specs.Pieces.{drop-take}
-use Rattle.sponge.specs.Shake.{padded, word, xorBlock}
+use Rattle.keccak.specs.Strings.{word}
+use Rattle.sponge.specs.Shake.{padded, xorBlock}
 use Rattle.sponge.proofs.Padding.{padding, padded-is}
 
 -- a state of 25 lanes has 25 after a block

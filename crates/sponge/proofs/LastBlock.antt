@@ -14,7 +14,8 @@ use lib.Seq.{set-append-left}
 use borrow.Author.Tests.{eq-eqb, ne-eqb}
 use Rattle.lists.specs.Tabulate.{tabulate, length-tabulate, getD-tabulate, tabulate-ext, set-tabulate}
 use Rattle.lists.specs.Number.{number, order}
-use Rattle.sponge.specs.Shake.{padded, word, xorBlock}
+use Rattle.keccak.specs.Strings.{word}
+use Rattle.sponge.specs.Shake.{padded, xorBlock}
 use Rattle.sponge.proofs.Padding.{padding, padded-is, padding-front, padding-whole, padding-middle, padding-end}
 use Rattle.sponge.proofs.Appended.{word-before, word-across, word-after, word-past, word-lt, pow-bytes}
 use Rattle.keccak.specs.Xor.{xor-assoc}

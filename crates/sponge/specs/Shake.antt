@@ -1,12 +1,13 @@
 -- SHAKE256 of FIPS 202 on strings of whole bytes: sections 4, 5, 6.2 and B.1. The capacity is 512 bits, the rate 1088 bits, which are
 -- 136 bytes or 17 lanes. A byte holds eight bits of a string, the first as its lowest bit (section B.1).
 use mathlib.Core.List.{List, [], _∷_, _++_}
-use Prim.Native.Nat.{ℕ, zero, suc, _+_, _-_, _*_, _/_, _%_, _^_}
+use Prim.Native.Nat.{ℕ, zero, suc, _+_, _-_, _*_, _/_, _%_}
 use lib.Bits.{bitXor}
 use lib.ListN.{length, getD, take, drop, replicate}
 use Rattle.lists.specs.Tabulate.{tabulate}
 use Rattle.lists.specs.Number.{number}
 use Rattle.keccak.specs.Keccak.{keccakF}
+use Rattle.keccak.specs.Strings.{word, bytes}
 
 -- ---- sections 5.1 and 6.2: the bits after the message
 
@@ -29,10 +30,6 @@ padded m = m ++ octets (length (added (length m)) / 8) (added (length m))
 
 -- ---- section 4, algorithm 8: SPONGE[KECCAK-f[1600], pad10*1, 1088]
 
--- the next eight bytes of p from `at` on, or those left, as one number: a lane (section 3.1.2)
-unfoldable pub word : List ℕ → ℕ → ℕ
-word p at = number 256 (take 8 (drop at p))
-
 -- step 6, S ⊕ (P_i || 0^c) where P_i begins at byte `at` of p: the 17 lanes of the rate, and those of the capacity as they are
 unfoldable pub xorBlock : List ℕ → List ℕ → ℕ → List ℕ
 xorBlock a p at = tabulate 17 (λ j. bitXor (getD a j 0) (word p (at + 8 * j))) ++ drop 17 a
@@ -41,10 +38,6 @@ xorBlock a p at = tabulate 17 (λ j. bitXor (getD a j 0) (word p (at + 8 * j))) 
 unfoldable pub absorbed : List ℕ → ℕ → List ℕ
 absorbed p zero = replicate 25 0
 absorbed p (suc n) = keccakF (xorBlock (absorbed p n) p (136 * n))
-
--- the state as a string of bytes (section 3.1.3)
-abbrev pub bytes : List ℕ → List ℕ
-bytes a = tabulate 200 (λ i. getD a (i / 8) 0 / 256 ^ (i % 8) % 256)
 
 -- steps 7 to 10: n blocks of output, Trunc_r(S) || Trunc_r(f(S)) || ..
 unfoldable pub squeezed : ℕ → List ℕ → List ℕ

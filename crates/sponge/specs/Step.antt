@@ -10,7 +10,8 @@ use lib.Seq.{getD-set-same, getD-set-other}
 use Rattle.lists.specs.Tabulate.{filled, fill-more, fill-kept}
 use Rattle.keccak.specs.Keccak.{keccakF}
 use Rattle.keccak.specs.State.{length-keccakF}
-use Rattle.sponge.specs.Shake.{word, xorBlock, absorbed}
+use Rattle.keccak.specs.Strings.{word}
+use Rattle.sponge.specs.Shake.{xorBlock, absorbed}
 
 -- the step: lane x ⊕ the next eight bytes of s from `at` on, or those left, as one number (that is `word`), and all other lanes unchanged
 unfoldable pub xorWord : List ℕ → ℕ → List ℕ → ℕ → List ℕ

@@ -1,12 +1,13 @@
 // SHAKE256 of FIPS 202, cut to 32 bytes.
 ghost use mathlib.Core.Path.{_≡_};
 ghost use Prim.Native.Nat.{_≤_, _<_, _/_};
-ghost use lib.ListN.{length, take};
+ghost use lib.ListN.{length};
 ghost use Rattle.sponge.specs.Shake as S;
 ghost use Rattle.sponge.specs.Step as W;
 ghost use Rattle.sponge.specs.Digest as D;
-
-mod words; // words.rt: bytes as lanes
+use permutation::keccak_f;
+use squeezing::squeeze;
+use words::word;
 
 const RATE: usize = 136; // bytes of a block
 
@@ -15,7 +16,7 @@ fn xor_word(a: &mut [u64; 25], lane: usize, s: &[u8], at: usize)
     requires { ⌜ (lane < 25) × (at ≤ length (now s)) ⌝ }
     ensures { λ _. ⌜ now (a .exit) ≡ W.xorWord (now (a .entry)) lane (now (s .entry)) at ⌝ }
 {
-    let w = words::word(s, at);
+    let w = word(s, at);
     a[lane] = a[lane] ^ w;
 }
 
@@ -57,56 +58,12 @@ fn absorb(s: &[u8]) -> [u64; 25]
     while RATE <= s.len() - at {
         let next = at + RATE;
         xor_words(&mut a, &s[at..next]);
-        keccak::keccak_f(&mut a);
+        keccak_f(&mut a);
         at = next;
     }
     xor_last_block(&mut a, &s[at..]);
-    keccak::keccak_f(&mut a);
+    keccak_f(&mut a);
     a
-}
-
-// The first 32 bytes of a state.
-fn squeeze(a: [u64; 25]) -> [u8; 32]
-    ensures { λ r. ⌜ r ≡ take 32 (S.bytes a) ⌝ }
-{
-    let a0 = a[0];
-    let a1 = a[1];
-    let a2 = a[2];
-    let a3 = a[3];
-    [
-        ((a0 >> 0) % 256) as u8,
-        ((a0 >> 8) % 256) as u8,
-        ((a0 >> 16) % 256) as u8,
-        ((a0 >> 24) % 256) as u8,
-        ((a0 >> 32) % 256) as u8,
-        ((a0 >> 40) % 256) as u8,
-        ((a0 >> 48) % 256) as u8,
-        ((a0 >> 56) % 256) as u8,
-        ((a1 >> 0) % 256) as u8,
-        ((a1 >> 8) % 256) as u8,
-        ((a1 >> 16) % 256) as u8,
-        ((a1 >> 24) % 256) as u8,
-        ((a1 >> 32) % 256) as u8,
-        ((a1 >> 40) % 256) as u8,
-        ((a1 >> 48) % 256) as u8,
-        ((a1 >> 56) % 256) as u8,
-        ((a2 >> 0) % 256) as u8,
-        ((a2 >> 8) % 256) as u8,
-        ((a2 >> 16) % 256) as u8,
-        ((a2 >> 24) % 256) as u8,
-        ((a2 >> 32) % 256) as u8,
-        ((a2 >> 40) % 256) as u8,
-        ((a2 >> 48) % 256) as u8,
-        ((a2 >> 56) % 256) as u8,
-        ((a3 >> 0) % 256) as u8,
-        ((a3 >> 8) % 256) as u8,
-        ((a3 >> 16) % 256) as u8,
-        ((a3 >> 24) % 256) as u8,
-        ((a3 >> 32) % 256) as u8,
-        ((a3 >> 40) % 256) as u8,
-        ((a3 >> 48) % 256) as u8,
-        ((a3 >> 56) % 256) as u8,
-    ]
 }
 
 // The digest of a byte string of any length.

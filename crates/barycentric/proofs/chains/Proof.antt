@@ -3,7 +3,8 @@ use mathlib.Core.Path.{_≡_, refl, subst}
 use mathlib.Core.List.{List}
 use Prim.Native.Nat.{ℕ, _+_, _-_}
 use lib.ListN.{length, length-set}
-use Rattle.algebra.specs.Barycentric.{riseN, fallN, aboveN, rise-start, rise-turn, fall-start, fall-turn, above-entry}
+use Rattle.algebra.specs.Barycentric.{riseN, fallN, aboveN}
+use Rattle.algebra.specs.BarycentricTurns.{rise-start, rise-turn, fall-start, fall-turn, above-entry}
 use Rattle.lists.specs.Fill.{Filled, filled-none, filled-is, fill-next, fill-back}
 use borrow.Author.Needs.{needs}
 use native.Mathlib.Omega.{arith}

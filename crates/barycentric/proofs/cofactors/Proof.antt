@@ -1,6 +1,6 @@
 -- `barycentric::cofactors` meets its contract: both chains, entry by entry multiplied.
 use lib.ListN.{length}
-use Rattle.algebra.specs.Barycentric.{cofactors-done}
+use Rattle.algebra.specs.BarycentricTurns.{cofactors-done}
 use borrow.Author.Needs.{needs}
 use Rattle.barycentric.proofs.cofactors.Statement.{statement}
 use Rattle.barycentric.proofs.cofactors.Tie as tie

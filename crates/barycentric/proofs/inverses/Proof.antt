@@ -5,7 +5,7 @@ use native.Mathlib.Nat.{mod-lt, div-le-self}
 use lib.ListN.{length, length-set}
 use Rattle.algebra.specs.Prime.{q}
 use Rattle.algebra.specs.Inverse.{invN}
-use Rattle.algebra.specs.Barycentric.{inverse-first, inverse-turn}
+use Rattle.algebra.specs.BarycentricTurns.{inverse-first, inverse-turn}
 use Rattle.lists.specs.Fill.{Filled, fill-next}
 use borrow.Author.Needs.{needs}
 use native.Mathlib.Omega.{arith}

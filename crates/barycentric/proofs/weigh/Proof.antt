@@ -4,7 +4,7 @@ use mathlib.Core.List.{List}
 use Prim.Native.Nat.{ℕ, _-_, _*_, _%_, _≤_}
 use lib.ListN.{length, getD, length-set}
 use Rattle.algebra.specs.Prime.{q}
-use Rattle.algebra.specs.Barycentric.{weighed-entry, weighed-done}
+use Rattle.algebra.specs.BarycentricTurns.{weighed-entry, weighed-done}
 use Rattle.lists.specs.Fill.{Filled, entryOf, filled-none, filled-own, fill-next, fill-rest}
 use borrow.Author.Needs.{needs}
 use native.Mathlib.Omega.{arith}

@@ -1,6 +1,6 @@
 -- `barycentric::weights` meets its contract.
 use lib.ListN.{length}
-use Rattle.algebra.specs.Barycentric.{weights-done}
+use Rattle.algebra.specs.BarycentricTurns.{weights-done}
 use borrow.Author.Needs.{needs}
 use Rattle.barycentric.proofs.weights.Statement.{statement}
 use Rattle.barycentric.proofs.weights.Tie as tie

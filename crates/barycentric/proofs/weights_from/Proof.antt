@@ -3,7 +3,8 @@ use mathlib.Core.Path.{_≡_, refl, subst}
 use Prim.Native.Nat.{ℕ, _-_, _≤_, _<_}
 use lib.ListN.{length, length-set}
 use Rattle.algebra.specs.Prime.{q}
-use Rattle.algebra.specs.Barycentric.{weightN, signN, signN-below, sign-start, sign-turn, weight-entry}
+use Rattle.algebra.specs.Barycentric.{weightN, signN, signN-below}
+use Rattle.algebra.specs.BarycentricTurns.{sign-start, sign-turn, weight-entry}
 use Rattle.lists.specs.Fill.{Filled, filled-none, filled-is, fill-back}
 use borrow.Author.Needs.{needs}
 use native.Mathlib.Omega.{arith}

@@ -7,7 +7,7 @@ use Rattle.scheme.specs.Sizes.{Sizes, rows, width}
 use Rattle.scheme.specs.Layers.{Lent, lentOf}
 use Rattle.scheme.proofs.Accepted.{sizes-in-order}
 use Rattle.commitment.specs.Shape.{sizesIn}
-use Rattle.extrapolation.specs.Lanes.{Small}
+use Rattle.stepping.specs.Lanes.{Small}
 use Rattle.extrapolation.specs.Extrapolated.{Columns}
 use Rattle.evaluations.specs.Values.{rowPolynomial}
 use Rattle.evaluations.proofs.Columns.{extrapolation-asked, rows-through, columns-none, columns-more, some-lanes, row-columns}

@@ -1,6 +1,6 @@
 -- `extrapolation::blank_feed` meets its contract.
 use Prim.Native.Nat.{_*_}
-use Rattle.extrapolation.specs.Lanes.{run}
+use Rattle.stepping.specs.Lanes.{run}
 use Rattle.extrapolation.proofs.Putting.{zeros}
 use Rattle.extrapolation.proofs.blank_feed.Statement.{statement}
 use Rattle.extrapolation.proofs.blank_feed.Tie as tie

@@ -1,6 +1,5 @@
 -- `extrapolation::extrapolate` meets its contract: two walks, the first to the differences, the second over the points before.
-use Prim.Native.Nat.{_+_, _-_, _*_, _/_}
-use lib.ListN.{length}
+use Prim.Native.Nat.{_+_, _*_, _/_}
 use Rattle.extrapolation.proofs.Walks.{enough-lines, extrapolated}
 use borrow.Author.Needs.{needs}
 use native.Mathlib.Omega.{arith}

@@ -2,7 +2,8 @@
 use mathlib.Core.Path.{_≡_, refl, subst}
 use Prim.Native.Nat.{ℕ, _+_, _-_, _*_, _≤_, _<_}
 use lib.ListN.{length, length-set}
-use Rattle.extrapolation.specs.Lanes.{run, PutLanes}
+use Rattle.stepping.specs.Lanes.{run}
+use Rattle.extrapolation.specs.Written.{PutLanes}
 use Rattle.extrapolation.proofs.Putting.{put-none, put-turn}
 use borrow.Author.Needs.{needs}
 use native.Mathlib.Omega.{arith}

@@ -3,7 +3,7 @@ use mathlib.Core.Path.{_≡_, refl, _∙_}
 use Prim.Native.Nat.{ℕ, _+_, _-_, _*_, _≤_, _<_}
 use lib.ListN.{length}
 use Rattle.lists.specs.Parts.{row-fits}
-use Rattle.extrapolation.specs.Lanes.{run}
+use Rattle.stepping.specs.Lanes.{run}
 use Rattle.extrapolation.proofs.Putting.{StepsInv, steps-none, steps-turn, steps-done}
 use borrow.Author.Needs.{needs}
 use native.Mathlib.Omega.{arith}

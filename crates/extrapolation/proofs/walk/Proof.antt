@@ -2,7 +2,7 @@
 use mathlib.Core.Path.{_≡_, refl, _∙_}
 use Prim.Native.Nat.{_+_, _-_, _*_, _≤_}
 use lib.ListN.{length}
-use Rattle.extrapolation.specs.Lanes.{run}
+use Rattle.stepping.specs.Lanes.{run}
 use Rattle.extrapolation.proofs.Putting.{WalkInv, walk-none, walk-turn, walk-done}
 use borrow.Author.Needs.{needs}
 use native.Mathlib.Omega.{arith}

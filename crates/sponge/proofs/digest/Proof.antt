@@ -4,7 +4,8 @@ use mathlib.Core.List.{List}
 use Prim.Native.Nat.{ℕ}
 use borrow.Author.Needs.{needs}
 use lib.ListN.{take}
-use Rattle.sponge.specs.Shake.{shake256, squeezed, bytes}
+use Rattle.keccak.specs.Strings.{bytes}
+use Rattle.sponge.specs.Shake.{shake256, squeezed}
 use Rattle.sponge.specs.Digest.{digest-is}
 use Rattle.sponge.proofs.digest.Statement.{statement}
 use Rattle.sponge.proofs.digest.Tie as tie

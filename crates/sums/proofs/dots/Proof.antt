@@ -5,7 +5,7 @@ use Prim.Native.Nat.{ℕ, _+_, _-_, _*_, _≤_}
 use lib.ListN.{length, length-set}
 use Rattle.lists.specs.Fill.{Filled, entryOf, filled-none, fill-next}
 use Rattle.lists.specs.Parts.{row-fits, span-length}
-use Rattle.algebra.specs.Dot.{dotsOf, dots-at, dots-done, longest, four-filled}
+use Rattle.algebra.specs.Dot.{dotsOf, dots-at, dots-done, longest, four-rows-fit, four-lengths, dots-four}
 use borrow.Author.Needs.{needs}
 use native.Mathlib.Omega.{arith}
 use Rattle.sums.proofs.dots.Statement.{statement}
@@ -101,165 +101,79 @@ loop-again c =
 
 add-third : tie.Need-add-third Inv-loop μ-loop
 add-third c =
-    let w : ℕ = length (c .before .before .before .before .before .before .args .weights .now) in
-    let n : ℕ = length (c .before .before .before .before .before .before .args .out .now) in
-    let k = c .if1 .left in
-    let r = row-fits w (c .before .before .loop .j + 3) n (omega arith) in
-    let b : w * n ≤ length (c .before .before .before .before .before .before .args .rows .now) = c .before .before .before .before .before .before .pre .0 in
-    search needs
+    let f = four-rows-fit (length (c .before .before .before .before .before .before .args .weights .now)) (c .before .before .loop .j) (length (c .before .before .before .before .before .before .args .out .now)) (length (c .before .before .before .before .before .before .args .rows .now)) (c .if1 .left) (c .before .before .before .before .before .before .pre .0) in search needs
 
 add-fourth : tie.Need-add-fourth Inv-loop μ-loop
 add-fourth c =
-    let w : ℕ = length (c .before .before .before .before .before .before .args .weights .now) in
-    let n : ℕ = length (c .before .before .before .before .before .before .args .out .now) in
-    let k = c .if1 .left in
-    let r = row-fits w (c .before .before .loop .j + 3) n (omega arith) in
-    let b : w * n ≤ length (c .before .before .before .before .before .before .args .rows .now) = c .before .before .before .before .before .before .pre .0 in
-    search needs
+    let f = four-rows-fit (length (c .before .before .before .before .before .before .args .weights .now)) (c .before .before .loop .j) (length (c .before .before .before .before .before .before .args .out .now)) (length (c .before .before .before .before .before .before .args .rows .now)) (c .if1 .left) (c .before .before .before .before .before .before .pre .0) in search needs
 
 add-end : tie.Need-add-end Inv-loop μ-loop
 add-end c =
-    let w : ℕ = length (c .before .before .before .before .before .before .args .weights .now) in
-    let n : ℕ = length (c .before .before .before .before .before .before .args .out .now) in
-    let k = c .if1 .left in
-    let r = row-fits w (c .before .before .loop .j + 3) n (omega arith) in
-    let b : w * n ≤ length (c .before .before .before .before .before .before .args .rows .now) = c .before .before .before .before .before .before .pre .0 in
-    search needs
+    let f = four-rows-fit (length (c .before .before .before .before .before .before .args .weights .now)) (c .before .before .loop .j) (length (c .before .before .before .before .before .before .args .out .now)) (length (c .before .before .before .before .before .before .args .rows .now)) (c .if1 .left) (c .before .before .before .before .before .before .pre .0) in search needs
 
 mul-four-dots : tie.Need-mul-four-dots Inv-loop μ-loop
 mul-four-dots c =
-    let w : ℕ = length (c .before .before .before .before .before .before .args .weights .now) in
-    let n : ℕ = length (c .before .before .before .before .before .before .args .out .now) in
-    let k = c .if1 .left in
-    let r = row-fits w (c .before .before .loop .j + 3) n (omega arith) in
-    let b : w * n ≤ length (c .before .before .before .before .before .before .args .rows .now) = c .before .before .before .before .before .before .pre .0 in
-    search needs
+    let f = four-rows-fit (length (c .before .before .before .before .before .before .args .weights .now)) (c .before .before .loop .j) (length (c .before .before .before .before .before .before .args .out .now)) (length (c .before .before .before .before .before .before .args .rows .now)) (c .if1 .left) (c .before .before .before .before .before .before .pre .0) in search needs
 
 sub-four-dots : tie.Need-sub-four-dots Inv-loop μ-loop
 sub-four-dots c = search needs
 
 part-four-dots-start : tie.Need-part-four-dots-start Inv-loop μ-loop
-part-four-dots-start c =
-    let w : ℕ = length (c .before .before .before .before .before .before .args .weights .now) in
-    let n : ℕ = length (c .before .before .before .before .before .before .args .out .now) in
-    let k = c .if1 .left in
-    let r = row-fits w (c .before .before .loop .j + 3) n (omega arith) in
-    let b : w * n ≤ length (c .before .before .before .before .before .before .args .rows .now) = c .before .before .before .before .before .before .pre .0 in
-    search needs
+part-four-dots-start c = search needs
 
 part-four-dots-end : tie.Need-part-four-dots-end Inv-loop μ-loop
 part-four-dots-end c =
-    let w : ℕ = length (c .before .before .before .before .before .before .args .weights .now) in
-    let n : ℕ = length (c .before .before .before .before .before .before .args .out .now) in
-    let k = c .if1 .left in
-    let r = row-fits w (c .before .before .loop .j + 3) n (omega arith) in
-    let b : w * n ≤ length (c .before .before .before .before .before .before .args .rows .now) = c .before .before .before .before .before .before .pre .0 in
-    search needs
+    let f = four-rows-fit (length (c .before .before .before .before .before .before .args .weights .now)) (c .before .before .loop .j) (length (c .before .before .before .before .before .before .args .out .now)) (length (c .before .before .before .before .before .before .args .rows .now)) (c .if1 .left) (c .before .before .before .before .before .before .pre .0) in search needs
 
 mul-four-dots-2 : tie.Need-mul-four-dots-2 Inv-loop μ-loop
 mul-four-dots-2 c =
-    let w : ℕ = length (c .before .before .before .before .before .before .before .args .weights .now) in
-    let n : ℕ = length (c .before .before .before .before .before .before .before .args .out .now) in
-    let k = c .before .if1 .left in
-    let r = row-fits w (c .before .before .before .loop .j + 3) n (omega arith) in
-    let b : w * n ≤ length (c .before .before .before .before .before .before .before .args .rows .now) = c .before .before .before .before .before .before .before .pre .0 in
-    search needs
+    let f = four-rows-fit (length (c .before .before .before .before .before .before .before .args .weights .now)) (c .before .before .before .loop .j) (length (c .before .before .before .before .before .before .before .args .out .now)) (length (c .before .before .before .before .before .before .before .args .rows .now)) (c .before .if1 .left) (c .before .before .before .before .before .before .before .pre .0) in search needs
 
 sub-four-dots-2 : tie.Need-sub-four-dots-2 Inv-loop μ-loop
 sub-four-dots-2 c = search needs
 
 part-four-dots-start-2 : tie.Need-part-four-dots-start-2 Inv-loop μ-loop
-part-four-dots-start-2 c =
-    let w : ℕ = length (c .before .before .before .before .before .before .before .args .weights .now) in
-    let n : ℕ = length (c .before .before .before .before .before .before .before .args .out .now) in
-    let k = c .before .if1 .left in
-    let r = row-fits w (c .before .before .before .loop .j + 3) n (omega arith) in
-    let b : w * n ≤ length (c .before .before .before .before .before .before .before .args .rows .now) = c .before .before .before .before .before .before .before .pre .0 in
-    search needs
+part-four-dots-start-2 c = search needs
 
 part-four-dots-end-2 : tie.Need-part-four-dots-end-2 Inv-loop μ-loop
 part-four-dots-end-2 c =
-    let w : ℕ = length (c .before .before .before .before .before .before .before .args .weights .now) in
-    let n : ℕ = length (c .before .before .before .before .before .before .before .args .out .now) in
-    let k = c .before .if1 .left in
-    let r = row-fits w (c .before .before .before .loop .j + 3) n (omega arith) in
-    let b : w * n ≤ length (c .before .before .before .before .before .before .before .args .rows .now) = c .before .before .before .before .before .before .before .pre .0 in
-    search needs
+    let f = four-rows-fit (length (c .before .before .before .before .before .before .before .args .weights .now)) (c .before .before .before .loop .j) (length (c .before .before .before .before .before .before .before .args .out .now)) (length (c .before .before .before .before .before .before .before .args .rows .now)) (c .before .if1 .left) (c .before .before .before .before .before .before .before .pre .0) in search needs
 
 mul-four-dots-3 : tie.Need-mul-four-dots-3 Inv-loop μ-loop
 mul-four-dots-3 c =
-    let w : ℕ = length (c .before .before .before .before .before .before .before .before .args .weights .now) in
-    let n : ℕ = length (c .before .before .before .before .before .before .before .before .args .out .now) in
-    let k = c .before .before .if1 .left in
-    let r = row-fits w (c .before .before .before .before .loop .j + 3) n (omega arith) in
-    let b : w * n ≤ length (c .before .before .before .before .before .before .before .before .args .rows .now) = c .before .before .before .before .before .before .before .before .pre .0 in
-    search needs
+    let f = four-rows-fit (length (c .before .before .before .before .before .before .before .before .args .weights .now)) (c .before .before .before .before .loop .j) (length (c .before .before .before .before .before .before .before .before .args .out .now)) (length (c .before .before .before .before .before .before .before .before .args .rows .now)) (c .before .before .if1 .left) (c .before .before .before .before .before .before .before .before .pre .0) in search needs
 
 sub-four-dots-3 : tie.Need-sub-four-dots-3 Inv-loop μ-loop
 sub-four-dots-3 c = search needs
 
 part-four-dots-start-3 : tie.Need-part-four-dots-start-3 Inv-loop μ-loop
-part-four-dots-start-3 c =
-    let w : ℕ = length (c .before .before .before .before .before .before .before .before .args .weights .now) in
-    let n : ℕ = length (c .before .before .before .before .before .before .before .before .args .out .now) in
-    let k = c .before .before .if1 .left in
-    let r = row-fits w (c .before .before .before .before .loop .j + 3) n (omega arith) in
-    let b : w * n ≤ length (c .before .before .before .before .before .before .before .before .args .rows .now) = c .before .before .before .before .before .before .before .before .pre .0 in
-    search needs
+part-four-dots-start-3 c = search needs
 
 part-four-dots-end-3 : tie.Need-part-four-dots-end-3 Inv-loop μ-loop
 part-four-dots-end-3 c =
-    let w : ℕ = length (c .before .before .before .before .before .before .before .before .args .weights .now) in
-    let n : ℕ = length (c .before .before .before .before .before .before .before .before .args .out .now) in
-    let k = c .before .before .if1 .left in
-    let r = row-fits w (c .before .before .before .before .loop .j + 3) n (omega arith) in
-    let b : w * n ≤ length (c .before .before .before .before .before .before .before .before .args .rows .now) = c .before .before .before .before .before .before .before .before .pre .0 in
-    search needs
+    let f = four-rows-fit (length (c .before .before .before .before .before .before .before .before .args .weights .now)) (c .before .before .before .before .loop .j) (length (c .before .before .before .before .before .before .before .before .args .out .now)) (length (c .before .before .before .before .before .before .before .before .args .rows .now)) (c .before .before .if1 .left) (c .before .before .before .before .before .before .before .before .pre .0) in search needs
 
 mul-four-dots-4 : tie.Need-mul-four-dots-4 Inv-loop μ-loop
 mul-four-dots-4 c =
-    let w : ℕ = length (c .before .before .before .before .before .before .before .before .before .args .weights .now) in
-    let n : ℕ = length (c .before .before .before .before .before .before .before .before .before .args .out .now) in
-    let k = c .before .before .before .if1 .left in
-    let r = row-fits w (c .before .before .before .before .before .loop .j + 3) n (omega arith) in
-    let b : w * n ≤ length (c .before .before .before .before .before .before .before .before .before .args .rows .now) = c .before .before .before .before .before .before .before .before .before .pre .0 in
-    search needs
+    let f = four-rows-fit (length (c .before .before .before .before .before .before .before .before .before .args .weights .now)) (c .before .before .before .before .before .loop .j) (length (c .before .before .before .before .before .before .before .before .before .args .out .now)) (length (c .before .before .before .before .before .before .before .before .before .args .rows .now)) (c .before .before .before .if1 .left) (c .before .before .before .before .before .before .before .before .before .pre .0) in search needs
 
 sub-four-dots-4 : tie.Need-sub-four-dots-4 Inv-loop μ-loop
 sub-four-dots-4 c = search needs
 
 part-four-dots-start-4 : tie.Need-part-four-dots-start-4 Inv-loop μ-loop
-part-four-dots-start-4 c =
-    let w : ℕ = length (c .before .before .before .before .before .before .before .before .before .args .weights .now) in
-    let n : ℕ = length (c .before .before .before .before .before .before .before .before .before .args .out .now) in
-    let k = c .before .before .before .if1 .left in
-    let r = row-fits w (c .before .before .before .before .before .loop .j + 3) n (omega arith) in
-    let b : w * n ≤ length (c .before .before .before .before .before .before .before .before .before .args .rows .now) = c .before .before .before .before .before .before .before .before .before .pre .0 in
-    search needs
+part-four-dots-start-4 c = search needs
 
 part-four-dots-end-4 : tie.Need-part-four-dots-end-4 Inv-loop μ-loop
 part-four-dots-end-4 c =
-    let w : ℕ = length (c .before .before .before .before .before .before .before .before .before .args .weights .now) in
-    let n : ℕ = length (c .before .before .before .before .before .before .before .before .before .args .out .now) in
-    let k = c .before .before .before .if1 .left in
-    let r = row-fits w (c .before .before .before .before .before .loop .j + 3) n (omega arith) in
-    let b : w * n ≤ length (c .before .before .before .before .before .before .before .before .before .args .rows .now) = c .before .before .before .before .before .before .before .before .before .pre .0 in
-    search needs
+    let f = four-rows-fit (length (c .before .before .before .before .before .before .before .before .before .args .weights .now)) (c .before .before .before .before .before .loop .j) (length (c .before .before .before .before .before .before .before .before .before .args .out .now)) (length (c .before .before .before .before .before .before .before .before .before .args .rows .now)) (c .before .before .before .if1 .left) (c .before .before .before .before .before .before .before .before .before .pre .0) in search needs
 
 four-dots-requires : tie.Need-four-dots-requires Inv-loop μ-loop
 four-dots-requires c κs =
-    let args = c .before .before .before .before .before .before .before .before .before .before .args in
-    let w : ℕ = length (args .weights .now) in
+    let s = c .before .before .before .before .before .before .before .before .before .before in
+    let w : ℕ = length (s .args .weights .now) in
     let j : ℕ = c .before .before .before .before .before .before .loop .j in
-    let k = c .before .before .before .before .if1 .left in
-    let r = row-fits w (j + 3) (length (args .out .now)) (omega arith) in
-    let b : w * length (args .out .now) ≤ length (args .rows .now) = c .before .before .before .before .before .before .before .before .before .before .pre .0 in (
-      c .before .before .before .before .before .before .before .before .before .before .pre .1,
-      span-length (j * w) w (args .rows .now) (omega arith),
-      span-length (j * w + w) w (args .rows .now) (omega arith),
-      span-length (j * w + w + w) w (args .rows .now) (omega arith),
-      span-length (j * w + w + w + w) w (args .rows .now) (omega arith),
-    )
+    let spans = four-lengths w j (s .args .rows .now) (four-rows-fit w j (length (s .args .out .now)) (length (s .args .rows .now)) (c .before .before .before .before .if1 .left) (s .pre .0)) in
+    (s .pre .1, spans .0, spans .1, spans .2, spans .3)
 
 mul-out-2 : tie.Need-mul-out-2 Inv-loop μ-loop
 mul-out-2 c = search needs
@@ -311,26 +225,17 @@ loop-less-2 c = search needs
 
 loop-again-2 : tie.Need-loop-again-2 Inv-loop μ-loop
 loop-again-2 c =
-    let args = c .before .before .before .before .before .before .before .before .before .before .before .args in
+    let s = c .before .before .before .before .before .before .before .before .before .before .before in
     let loop = c .before .before .before .before .before .before .before .loop in
-    let w : List ℕ = args .weights .now in
-    let rows : List ℕ = args .rows .now in
-    let n : ℕ = length (args .out .now) in
-    let j : ℕ = loop .j in
-    let m : ℕ = length w in
-    let r = c .four-dots in
-    let k = c .before .before .before .before .before .if1 .left in (
+    let k = c .before .before .before .before .before .if1 .left in
+    let r = c .four-dots in (
       refl,
       refl,
       omega arith,
       simp length-set (loop .inv .3),
-      c .before .before .before .before .before .before .before .before .before .before .before .pre .0,
-      c .before .before .before .before .before .before .before .before .before .before .before .pre .1,
-      four-filled (entryOf (dotsOf w n rows)) (loop .out) j (r .result .a .0) (r .result .b .0) (r .result .c .0) (r .result .d .0) (omega (arith, loop .inv .3)) (loop .inv .6)
-          (dots-at w rows n j (j * m) (j * m + m) (r .result .a .0) (omega arith) (omega arith) refl (r .ensures .0))
-          (dots-at w rows n (j + 1) (j * m + m) (j * m + m + m) (r .result .b .0) (omega arith) (omega arith) refl (r .ensures .1))
-          (dots-at w rows n (j + 2) (j * m + m + m) (j * m + m + m + m) (r .result .c .0) (omega arith) (omega arith) refl (r .ensures .2))
-          (dots-at w rows n (j + 3) (j * m + m + m + m) (j * m + m + m + m + m) (r .result .d .0) (omega arith) (omega arith) refl (r .ensures .3)),
+      s .pre .0,
+      s .pre .1,
+      dots-four (s .args .weights .now) (s .args .rows .now) (loop .out) (length (s .args .out .now)) (loop .j) (r .result .a .0) (r .result .b .0) (r .result .c .0) (r .result .d .0) k (loop .inv .3) (loop .inv .6) (r .ensures .0) (r .ensures .1) (r .ensures .2) (r .ensures .3),
     )
 
 same-length : tie.Need-same-length Inv-loop μ-loop

@@ -1,0 +1,2 @@
+-- The values of lanes with changing signs.
+pub mod Signs

@@ -1,0 +1,48 @@
+// Lanes as bytes.
+ghost use mathlib.Core.Path.{_≡_};
+ghost use lib.ListN.{take};
+ghost use Rattle.keccak.specs.Strings.{bytes};
+
+// The first 32 bytes of a state.
+pub fn squeeze(a: [u64; 25]) -> [u8; 32]
+    ensures { λ r. ⌜ r ≡ take 32 (bytes a) ⌝ }
+{
+    let a0 = a[0];
+    let a1 = a[1];
+    let a2 = a[2];
+    let a3 = a[3];
+    [
+        ((a0 >> 0) % 256) as u8,
+        ((a0 >> 8) % 256) as u8,
+        ((a0 >> 16) % 256) as u8,
+        ((a0 >> 24) % 256) as u8,
+        ((a0 >> 32) % 256) as u8,
+        ((a0 >> 40) % 256) as u8,
+        ((a0 >> 48) % 256) as u8,
+        ((a0 >> 56) % 256) as u8,
+        ((a1 >> 0) % 256) as u8,
+        ((a1 >> 8) % 256) as u8,
+        ((a1 >> 16) % 256) as u8,
+        ((a1 >> 24) % 256) as u8,
+        ((a1 >> 32) % 256) as u8,
+        ((a1 >> 40) % 256) as u8,
+        ((a1 >> 48) % 256) as u8,
+        ((a1 >> 56) % 256) as u8,
+        ((a2 >> 0) % 256) as u8,
+        ((a2 >> 8) % 256) as u8,
+        ((a2 >> 16) % 256) as u8,
+        ((a2 >> 24) % 256) as u8,
+        ((a2 >> 32) % 256) as u8,
+        ((a2 >> 40) % 256) as u8,
+        ((a2 >> 48) % 256) as u8,
+        ((a2 >> 56) % 256) as u8,
+        ((a3 >> 0) % 256) as u8,
+        ((a3 >> 8) % 256) as u8,
+        ((a3 >> 16) % 256) as u8,
+        ((a3 >> 24) % 256) as u8,
+        ((a3 >> 32) % 256) as u8,
+        ((a3 >> 40) % 256) as u8,
+        ((a3 >> 48) % 256) as u8,
+        ((a3 >> 56) % 256) as u8,
+    ]
+}

@@ -1,0 +1,2 @@
+-- Tables of differences and their steps.
+pub mod Lanes
