@@ -1,18 +1,26 @@
 /*
- * The argument layer's side of a commitment, in C: it commits to two polynomials, asks for their values at two points, takes as
- * many bytes as the reply will have, has the question opened, checks the reply and reads the values; then it shows what a refusal
- * does. It checks each result and exits with 1 at the first that is not as it should be.
+ * Both sides of a commitment, in C. A badge commits to two polynomials; a reader asks for their values at two points and checks the
+ * reply; then it is shown what a forger can do and what is refused. Each result is checked, and the program exits with 1 at the
+ * first that is not as it should be.
  *
- *     gcc -std=c11 -Wall -Wextra -Werror -Iinclude examples/argument_layer.c target/staticlib/libsmallwood.a
+ * All randomness is the system's (getrandom, Linux), so values and the reply's length change from run to run. Every check holds for
+ * every draw, but for a collision of SHAKE256 where a root must differ.
+ *
+ *     gcc -std=c11 -Wall -Wextra -Wpedantic -Werror -Iinclude examples/argument_layer.c target/staticlib/libsmallwood.a
  */
+#include <errno.h>
 #include <stdbool.h>
 #include <stdio.h>
 #include <stdlib.h>
 #include <string.h>
+#include <sys/random.h>
 
 #include "smallwood.h"
 
-/* Two polynomials of six coefficients, in two columns each; eight leaves, two of them opened; two repetitions, two points. */
+/*
+ * Two polynomials of six coefficients, in two columns each; eight leaves, two of them opened; two repetitions, two points.
+ * M is below MU: each point shows one equation on the MU coefficients of each column. The sizes are for show: no security.
+ */
 enum { H = 3, MU = 3, NU = 2, W = 2, L = 2, ETA = 2, M = 2 };
 
 enum {
@@ -25,33 +33,72 @@ enum {
     TABLE = N * (MU + ETA),
     TREE = 32 * (2 * N - 1),
     QUESTION = 14 + 32 + 4 * ETA + 4 * M + 2 * L,
-    REPLY_BOUND = 4 * WIDTH * (ETA + M) + L * (4 * (MU + ETA) + 32) + 32 * L * H, /* what no reply exceeds */
+    BATCHING = 4 * WIDTH * ETA, /* a reply begins with the batching answers */
+    EVALUATION = 4 * WIDTH * M, /* then come the evaluation answers */
+    ANSWERS = BATCHING + EVALUATION,
+    REPLY_BOUND = ANSWERS + L * (4 * (MU + ETA) + 32) + 32 * L * H, /* what no reply exceeds */
     VALUES = 4 * W * M
 };
 
-static void expect(bool holds, const char *what)
+static void must(bool holds, const char *what)
 {
     if (!holds) {
         printf("FAILED: %s\n", what);
         exit(1);
     }
+}
+
+static void expect(bool holds, const char *what)
+{
+    must(holds, what);
     printf("ok: %s\n", what);
 }
 
-/* A stand-in, so that each run is the same. A prover draws tails, masks and nonces from the system's generator. */
-static uint64_t state = 1;
+/* ---- Drawing, on both sides */
 
-static uint32_t drawn(void)
+static void draw_bytes(void *to, size_t count)
 {
-    state = state * 6364136223846793005u + 1442695040888963407u;
-    return (uint32_t)(state >> 33);
+    uint8_t *next = to;
+
+    while (count > 0) {
+        ssize_t got = getrandom(next, count, 0);
+        if (got < 0 && errno == EINTR)
+            continue;
+        must(got > 0, "the system gives random bytes");
+        next += got;
+        count -= (size_t)got;
+    }
 }
 
+/* A word that is not below q is drawn again: a remainder would make small elements likelier. */
 static void draw_elements(uint32_t *words, size_t count)
 {
     for (size_t i = 0; i < count; i++)
-        words[i] = drawn() % SMALLWOOD_Q;
+        do
+            draw_bytes(&words[i], sizeof words[i]);
+        while (words[i] >= SMALLWOOD_Q);
 }
+
+/* L different leaves, each set as likely as any other, in rising order. N is a power of 2, so H bits give each leaf alike. */
+static void draw_indices(uint32_t *indices)
+{
+    for (int count = 0; count < L;) {
+        uint32_t index;
+        int at = 0;
+
+        draw_bytes(&index, sizeof index);
+        index &= N - 1;
+        while (at < count && indices[at] < index)
+            at++;
+        if (at < count && indices[at] == index)
+            continue;
+        memmove(indices + at + 1, indices + at, (size_t)(count - at) * sizeof *indices);
+        indices[at] = index;
+        count++;
+    }
+}
+
+/* ---- Bytes, on both sides */
 
 static void put_half(uint8_t *to, uint32_t x)
 {
@@ -70,7 +117,11 @@ static uint32_t word_at(const uint8_t *from)
     return (uint32_t)from[0] | (uint32_t)from[1] << 8 | (uint32_t)from[2] << 16 | (uint32_t)from[3] << 24;
 }
 
-static void write_question(uint8_t *to, const uint8_t *root, const uint32_t *challenges, const uint32_t *points, const uint32_t *indices)
+struct asked {
+    uint32_t challenges[ETA], points[M], indices[L];
+};
+
+static void write_question(uint8_t *to, const uint8_t *root, const struct asked *asked)
 {
     memcpy(to, "SWQ", 3);
     put_half(to + 3, 1);
@@ -83,12 +134,159 @@ static void write_question(uint8_t *to, const uint8_t *root, const uint32_t *cha
     to[13] = M;
     memcpy(to + 14, root, 32);
     for (int k = 0; k < ETA; k++)
-        put_word(to + 46 + 4 * k, challenges[k]);
+        put_word(to + 46 + 4 * k, asked->challenges[k]);
     for (int p = 0; p < M; p++)
-        put_word(to + 46 + 4 * ETA + 4 * p, points[p]);
+        put_word(to + 46 + 4 * ETA + 4 * p, asked->points[p]);
     for (int a = 0; a < L; a++)
-        put_half(to + 46 + 4 * ETA + 4 * M + 2 * a, indices[a]);
+        put_half(to + 46 + 4 * ETA + 4 * M + 2 * a, asked->indices[a]);
 }
+
+/* ---- The badge. Only its root, its answers and one reply leave it. */
+
+static uint32_t badge_coefficients[COEFFICIENTS], badge_tails[TAILS], badge_masks[MASKS], badge_table[TABLE];
+static uint8_t badge_nonces[NONCES], badge_tree[TREE];
+
+/* What it was asked. The points and leaves are stand-ins until the reader sends his. */
+static struct asked badge_asked;
+static enum { COMMITTED, BATCHED, EVALUATED, USED } badge_step;
+
+static void wipe(void *memory, size_t size)
+{
+    volatile uint8_t *byte = memory;
+
+    while (size-- > 0)
+        *byte++ = 0;
+}
+
+/* Overwrites what a call left below on the stack; it stands right after the call, in the same function. */
+__attribute__((noinline)) static void wipe_stack(void)
+{
+    volatile uint8_t room[32768];
+
+    for (size_t i = 0; i < sizeof room; i++)
+        room[i] = 0;
+}
+
+static uint32_t badge_commit(uint32_t l, uint8_t *root)
+{
+    uint32_t number = smallwood_commit(H, MU, NU, W, l, ETA, badge_coefficients, COEFFICIENTS, badge_tails, TAILS, badge_masks, MASKS,
+                                       badge_nonces, NONCES, badge_table, TABLE, badge_tree, TREE);
+    wipe_stack();
+    if (number == 0)
+        memcpy(root, badge_tree + TREE - 32, 32);
+    return number;
+}
+
+static uint32_t badge_open(const uint8_t *question, uint8_t *reply, size_t size, uint64_t *length)
+{
+    uint32_t number = smallwood_open(question, QUESTION, badge_coefficients, COEFFICIENTS, badge_tails, TAILS, badge_masks, MASKS,
+                                     badge_table, TABLE, badge_nonces, NONCES, badge_tree, TREE, reply, size, length);
+    wipe_stack();
+    return number;
+}
+
+static void badge_begins(uint8_t *root)
+{
+    for (uint32_t i = 0; i < COEFFICIENTS; i++)
+        badge_coefficients[i] = i + 1; /* its secret; a real one has better */
+    draw_elements(badge_tails, TAILS);
+    draw_elements(badge_masks, MASKS);
+    draw_bytes(badge_nonces, NONCES);
+    for (uint32_t a = 0; a < L; a++)
+        badge_asked.indices[a] = a;
+    must(badge_commit(L, root) == 0, "the badge commits");
+    badge_step = COMMITTED;
+}
+
+/* The reply to what was asked so far, in memory of just its length. */
+static uint8_t *badge_reply(size_t *size)
+{
+    uint8_t question[QUESTION], *reply;
+    uint64_t needed = 0, length = 0;
+
+    write_question(question, badge_tree + TREE - 32, &badge_asked);
+    must(smallwood_reply_length(question, QUESTION, &needed) == 0, "the badge learns the reply's length");
+    reply = malloc((size_t)needed);
+    must(reply != NULL, "the badge has memory for the reply");
+    must(badge_open(question, reply, (size_t)needed, &length) == 0 && length == needed, "the badge opens");
+    *size = (size_t)length;
+    return reply;
+}
+
+/* Of a reply with stand-ins only these answers leave the badge: its leaves would use up the tails. */
+static void badge_part(size_t from, size_t count, uint8_t *answers)
+{
+    size_t size;
+    uint8_t *reply = badge_reply(&size);
+
+    memcpy(answers, reply + from, count);
+    wipe(reply, size);
+    free(reply);
+}
+
+/* Each step is taken once: a commitment answers one question. The library does not know what it was asked before. */
+static bool badge_takes_challenges(const uint32_t *challenges, uint8_t *answers)
+{
+    if (badge_step != COMMITTED)
+        return false;
+    memcpy(badge_asked.challenges, challenges, sizeof badge_asked.challenges);
+    badge_part(0, BATCHING, answers);
+    badge_step = BATCHED;
+    return true;
+}
+
+static bool badge_takes_points(const uint32_t *points, uint8_t *answers)
+{
+    if (badge_step != BATCHED)
+        return false;
+    memcpy(badge_asked.points, points, sizeof badge_asked.points);
+    badge_part(BATCHING, EVALUATION, answers);
+    badge_step = EVALUATED;
+    return true;
+}
+
+static uint8_t *badge_takes_indices(const uint32_t *indices, size_t *size)
+{
+    if (badge_step != EVALUATED)
+        return NULL;
+    memcpy(badge_asked.indices, indices, sizeof badge_asked.indices);
+    badge_step = USED;
+    return badge_reply(size);
+}
+
+static void badge_ends(void)
+{
+    wipe(badge_coefficients, sizeof badge_coefficients);
+    wipe(badge_tails, sizeof badge_tails);
+    wipe(badge_masks, sizeof badge_masks);
+    wipe(badge_nonces, sizeof badge_nonces);
+    wipe(badge_table, sizeof badge_table);
+    wipe(badge_tree, sizeof badge_tree);
+}
+
+/* ---- The reader. It has the root, what it draws, and what the badge sends. */
+
+static uint8_t reader_root[32], reader_question[QUESTION], reader_answers[ANSWERS], reader_values[VALUES], untouched[VALUES];
+static struct asked reader_asked;
+
+static uint32_t reader_checks(const uint8_t *reply, size_t size)
+{
+    memset(reader_values, 0xAA, VALUES);
+    return smallwood_check(reader_question, QUESTION, reply, size, reader_values, VALUES);
+}
+
+/* The check cannot see when answers were made; the reader compares them with those that came before it drew the leaves. */
+static bool reader_got_before(const uint8_t *reply)
+{
+    return memcmp(reply, reader_answers, ANSWERS) == 0;
+}
+
+static bool refused_with(uint32_t number, const uint8_t *reply, size_t size)
+{
+    return reader_checks(reply, size) == number && memcmp(reader_values, untouched, VALUES) == 0;
+}
+
+/* ---- For the checks of this program */
 
 /* The value of a polynomial, straight from its coefficients. */
 static uint32_t evaluate(const uint32_t *coefficients, size_t count, uint32_t z)
@@ -99,93 +297,97 @@ static uint32_t evaluate(const uint32_t *coefficients, size_t count, uint32_t z)
     return (uint32_t)value;
 }
 
-static uint32_t coefficients[COEFFICIENTS], tails[TAILS], masks[MASKS], table[TABLE];
-static uint8_t nonces[NONCES], tree[TREE], question[QUESTION], values[VALUES], untouched[VALUES];
-static uint8_t *reply, longer[REPLY_BOUND];
-
-static uint32_t open_into(uint8_t *buffer, size_t size, uint64_t *length)
+static void add_to_word(uint8_t *word, uint64_t x)
 {
-    return smallwood_open(question, QUESTION, coefficients, COEFFICIENTS, tails, TAILS, masks, MASKS, table, TABLE,
-                          nonces, NONCES, tree, TREE, buffer, size, length);
+    put_word(word, (uint32_t)((word_at(word) + x) % SMALLWOOD_Q));
 }
 
-static uint32_t check_reply(uint64_t length)
+/* Adds to the first evaluation answer the polynomial that is 0 at the opened leaves and nowhere else. */
+static void forge(uint8_t *reply)
 {
-    memset(values, 0xAA, VALUES);
-    return smallwood_check(question, QUESTION, reply, (size_t)length, values, VALUES);
-}
-
-static bool values_untouched(void)
-{
-    return memcmp(values, untouched, VALUES) == 0;
+    for (uint32_t t = 0; t < WIDTH; t++) {
+        uint64_t shift = 1;
+        for (int a = 0; a < L; a++)
+            shift *= N + t - reader_asked.indices[a];
+        add_to_word(reply + BATCHING + 4 * t, shift);
+    }
 }
 
 int main(void)
 {
-    const uint32_t challenges[ETA] = {10, 4294967290u}, points[M] = {6, 0}, indices[L] = {1, 6};
-    uint64_t size = 0, length = 0;
+    static uint8_t longer[REPLY_BOUND];
+    uint8_t *reply, *forged;
+    size_t size = 0;
+    uint64_t length = 0;
 
     memset(untouched, 0xAA, VALUES);
-    for (uint32_t i = 0; i < COEFFICIENTS; i++)
-        coefficients[i] = i + 1;
-    draw_elements(tails, TAILS);
-    draw_elements(masks, MASKS);
-    for (int i = 0; i < NONCES; i++)
-        nonces[i] = (uint8_t)drawn();
 
-    /* The prover commits and sends the root, the tree's last 32 bytes. */
-    expect(smallwood_commit(H, MU, NU, W, L, ETA, coefficients, COEFFICIENTS, tails, TAILS, masks, MASKS, nonces, NONCES,
-                            table, TABLE, tree, TREE) == 0, "commits");
+    /* The badge commits and sends the root. */
+    badge_begins(reader_root);
 
-    /* The verifier asks. A real one draws challenges, points and indices after it has seen the root. */
-    write_question(question, tree + TREE - 32, challenges, points, indices);
+    /* The reader draws nothing before it has the root, and no leaves before it has all answers. */
+    draw_elements(reader_asked.challenges, ETA);
+    expect(badge_takes_challenges(reader_asked.challenges, reader_answers), "the badge gives its batching answers");
+    draw_elements(reader_asked.points, M);
+    expect(badge_takes_points(reader_asked.points, reader_answers + BATCHING), "the badge gives its evaluation answers");
+    draw_indices(reader_asked.indices);
+    reply = badge_takes_indices(reader_asked.indices, &size);
+    expect(reply != NULL, "the badge opens the leaves");
+    printf("question of %d bytes, reply of %zu bytes\n", QUESTION, size);
 
-    /* The prover takes a buffer of the reply's length, and opens. */
-    expect(smallwood_reply_length(question, QUESTION, &size) == 0, "gives the reply's length");
-    printf("question of %d bytes, reply of %llu bytes\n", QUESTION, (unsigned long long)size);
-    reply = malloc((size_t)size);
-    expect(reply != NULL, "has memory for the reply");
-    expect(open_into(reply, (size_t)size, &length) == 0 && length == size, "opens, and the reply has that length");
-
-    /* The verifier checks, and reads the values point by point. */
-    expect(check_reply(length) == 0, "the reply is accepted");
+    /* The reader checks, and reads the values point by point. */
+    write_question(reader_question, reader_root, &reader_asked);
+    expect(reader_got_before(reply), "the reply has the answers that came before");
+    expect(reader_checks(reply, size) == 0, "the reply is accepted");
     for (int p = 0; p < M; p++)
         for (int i = 0; i < W; i++) {
-            uint32_t value = word_at(values + 4 * (p * W + i));
-            printf("polynomial %d at %u is %u\n", i + 1, points[p], value);
-            expect(value == evaluate(coefficients + i * MU * NU, MU * NU, points[p]), "the value is the polynomial's");
+            uint32_t z = reader_asked.points[p], value = word_at(reader_values + 4 * (p * W + i));
+            printf("polynomial %d at %u is %u\n", i + 1, z, value);
+            expect(value == evaluate(badge_coefficients + i * MU * NU, MU * NU, z), "the value is the polynomial's");
         }
 
-    /* A forger claims another value: one column value of the first evaluation answer is changed. */
-    uint8_t *claimed = reply + 4 * WIDTH * ETA;
-    uint32_t honest = word_at(claimed);
-    put_word(claimed, (honest + 1) % SMALLWOOD_Q);
-    expect(check_reply(length) == 10 && values_untouched(), "a changed evaluation answer is refused with 10, and no value is written");
-    put_word(claimed, honest);
+    expect(!badge_takes_challenges(reader_asked.challenges, reader_answers), "the badge takes no second question");
 
-    /* He also changes the opened value that contradicts him. The root then differs. */
-    uint8_t *opened = reply + 4 * WIDTH * (ETA + M);
-    honest = word_at(opened);
-    put_word(opened, (honest + 1) % SMALLWOOD_Q);
-    expect(check_reply(length) == 8 && values_untouched(), "a changed leaf value is refused with 8");
-    put_word(opened, honest);
+    /* A forger who may answer after he has seen the leaves is accepted. */
+    forged = malloc(size);
+    must(forged != NULL, "there is memory for a forged reply");
+    memcpy(forged, reply, size);
+    forge(forged);
+    expect(reader_checks(forged, size) == 0, "answers made for the opened leaves are accepted");
+    printf("forged: polynomial 1 at %u is %u\n", reader_asked.points[0], word_at(reader_values));
+    expect(!reader_got_before(forged), "but they are not those that came before");
+
+    /* One column value alone is changed. No basis polynomial is 0 at a leaf, so each opened leaf shows it. */
+    memcpy(forged, reply, size);
+    add_to_word(forged + BATCHING, 1);
+    expect(refused_with(10, forged, size), "a changed evaluation answer is refused with 10, and no value is written");
+
+    /* A constant coefficient is changed; another one would not show at the leaf 0. */
+    memcpy(forged, reply, size);
+    add_to_word(forged, 1);
+    expect(refused_with(9, forged, size), "a changed batching answer is refused with 9");
+
+    memcpy(forged, reply, size);
+    add_to_word(forged + ANSWERS, 1);
+    expect(refused_with(8, forged, size), "a changed leaf value is refused with 8");
 
     /* Two encodings of one element: q is refused, not reduced. */
-    honest = word_at(reply);
-    put_word(reply, SMALLWOOD_Q);
-    expect(check_reply(length) == 3 && values_untouched(), "an element that is not below q is refused with 3");
-    put_word(reply, honest);
+    memcpy(forged, reply, size);
+    put_word(forged, SMALLWOOD_Q);
+    expect(refused_with(3, forged, size), "an element that is not below q is refused with 3");
 
-    /* Lengths are exact. */
-    expect(check_reply(length - 1) == 7 && values_untouched(), "a reply that is cut is refused with 7");
-    expect(smallwood_check(question, QUESTION, reply, (size_t)length, values, VALUES - 1) == 2, "a value buffer of wrong length is refused with 2");
+    /* Lengths are exact. Two leaves of eight miss at most four nodes, so no reply here has the bound's length. */
+    expect(refused_with(7, reply, size - 1), "a reply that is cut is refused with 7");
+    expect(smallwood_check(reader_question, QUESTION, reply, size, reader_values, VALUES - 1) == 2, "a value buffer of wrong length is refused with 2");
     expect(smallwood_check(NULL, 0, NULL, 0, NULL, 0) == 6, "nothing at all is refused with 6");
     expect(size < REPLY_BOUND, "this reply is shorter than the bound");
-    expect(open_into(longer, REPLY_BOUND, &length) == 2 && length == size, "a longer buffer is refused with 2, and the length is as it was");
-    expect(smallwood_reply_length(question, QUESTION - 1, &size) == 6 && size == length, "a cut question is refused with 6, and the length is as it was");
-    expect(smallwood_commit(H, MU, NU, W, N, ETA, coefficients, COEFFICIENTS, tails, TAILS, masks, MASKS, nonces, NONCES,
-                            table, TABLE, tree, TREE) == 1, "sizes that do not fit are refused with 1");
-    expect(check_reply(length) == 0, "the honest reply is accepted again");
+    expect(badge_open(reader_question, longer, REPLY_BOUND, &length) == 2 && length == 0, "a longer buffer is refused with 2, and the length is as it was");
+    expect(smallwood_reply_length(reader_question, QUESTION - 1, &length) == 6 && length == 0, "a cut question is refused with 6, and the length is as it was");
+    expect(badge_commit(N, reader_root) == 1, "sizes that do not fit are refused with 1");
+    expect(reader_checks(reply, size) == 0, "the honest reply is accepted again");
+
+    badge_ends();
+    free(forged);
     free(reply);
     return 0;
 }

@@ -2,7 +2,7 @@
  * SmallWood: a polynomial commitment over the field of q = 4294967291 elements.
  *
  * Four entries: commit, reply_length, open, check. Each is proved to return the number and to leave the contents that the definitions
- * give, for every input that keeps the rules below. Link with libsmallwood.a; it needs no other library.
+ * give, for every input that keeps the rules below. Link with libsmallwood.a (x86-64, ELF, System V calls); it needs memcpy and memset.
  *
  * Rules for a caller
  *
@@ -10,8 +10,31 @@
  *   Alignment   A pointer to 32-bit words is aligned for uint32_t, one to a 64-bit number for uint64_t; the latter is never NULL.
  *   Overlap     A slice or a number that a call writes overlaps no other of that call. Slices that a call only reads may overlap.
  *   Threads     No entry keeps anything between calls: no globals, no heap, no files. Any number of threads may call at once on slices
- *               of their own; slices that are only read may be shared. A call takes at most about 52 kilobytes of stack (measured).
+ *               of their own; slices that are only read may be shared.
+ *   Stack       A commit takes about 18 kilobytes, an open 7, a check 52 (measured). It is not wiped: see below.
  *   Numbers     Words are in the machine's order. Multi-byte numbers in questions, replies and the check's values are little-endian.
+ *
+ * What a reply shows
+ *
+ *   One commitment answers one question, and the library keeps no state: the caller sees to it. Each commitment has tails, masks and
+ *   nonces of its own, drawn uniformly.
+ *
+ *   Columns     For each point the reply has the value of every column: one linear equation on that column's mu coefficients. mu
+ *               different points, over all questions, give every coefficient. With mu = 1 one reply shows them all.
+ *   Leaves      At each opened leaf it has the value of every row's polynomial. A row's l tails cover l opened leaves in all.
+ *   Masks       A mask covers one batching answer.
+ *
+ * What stays in memory
+ *
+ *   From the dead stack after a commit every mask and some whole rows can be computed, and after an open, at some sizes, a mask
+ *   (measured). Overwrite 32 kilobytes of stack after either call, or call on a stack of your own and wipe that. Coefficients, tails,
+ *   masks, nonces and the table are the caller's to wipe.
+ *
+ * What an accepted reply shows
+ *
+ *   Alone, that it fits its question, and no more: who knows the leaf indices before he answers can make false answers that fit. So
+ *   challenges are drawn after the root is known, and indices only after all answers are. The answers, the first
+ *   4 (w nu + l) (eta + m) bytes of a reply, do not depend on the indices: ask for them first, and compare them with the reply's.
  *
  * What a call returns
  *
@@ -125,7 +148,8 @@ uint32_t smallwood_open(const uint8_t *question, size_t question_length,
  *     values         point by point, the value of each of the w polynomials: 4 bytes each, lowest first      4 w m
  *
  * Returns 0, or the first of: 6, 5, 1, 6, 3, 4 for the question, as above; 2, where values has not 4 w m bytes; 7; 3, in the reply; 8; 9; 10.
- * One accepted reply alone does not make its values true: what accepted replies together guarantee is said in the project's promises.
+ * One accepted reply alone does not make its values true: see above. What accepted replies together guarantee is said in the project's
+ * promises.
  */
 uint32_t smallwood_check(const uint8_t *question, size_t question_length,
                          const uint8_t *reply, size_t reply_length,
