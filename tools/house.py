@@ -1,0 +1,755 @@
+#!/usr/bin/env python3
+"""Keeps the repository in order: cheap checks of its text, beside what `rt ci` proves.
+
+  tools/house.py                every finding as `file:line: what`; exit status 1 if there is one
+  tools/house.py --list-unused  unused names alone, for machines: kind, file, line and name, with tabs between them
+  tools/house.py --prune        takes unused names out of `use` lines, in place, and makes one line of two
+  tools/house.py --selftest     breaks a small repository in each way, and expects every break to be found
+
+1. Every imported name is used in its file, and a file has one `use` line for a module.
+2. Every definition and law is used, by something that is used itself or is an end; what is `pub` is needed outside
+   its file. Ends are contracts, theorems `..-spec`, what a must-fail edit puts in, what README.md, docs/PROMISES.md
+   or docs/DECISIONS.md cite, and ENDS below. The same for functions, types and constants of .rt files.
+3. What these three cite in backticks exists, and in the place that they name; so do the must-fail edits.
+4. What a must-fail edit replaces stands once in its file.
+5. No file under crates/ has over 500 lines, stored data aside; no line of .rt and .antt files over 400 characters.
+6. A crate's proofs/Lib.antt with over two modules says first what they are.
+"""
+import argparse
+import pathlib
+import re
+import sys
+import tempfile
+
+DOCS = ("README.md", "docs/PROMISES.md", "docs/DECISIONS.md")
+MOST_LINES, LONGEST_LINE, LONG_LINE = 500, 400, 240
+
+# Ends that no document cites: file under crates/, name (* for all of the file), reason.
+ENDS = [
+    ("scheme/proofs/Reading.antt", "*", "reading aids"),
+    ("scheme/proofs/Printed.antt", "*", "reading aids"),
+]
+
+# Words in backticks that are no names of the repository's own.
+LANGUAGE = set("rt requires ensures usize u8 u32 u64 &mut main pub use".split())
+
+
+# ---- antt
+
+NAME = r"[^\s(){}.;,@\"«»]+"
+LEXEME = re.compile(r"(?P<space>\s+)|(?P<text>\"(?:\\.|[^\"\\])*\")|«(?P<escaped>[^»]*)»|(?P<name>" + NAME + r")|(?P<mark>.)", re.S)
+MARKS = {"unfoldable", "abbrev", "pub", "axiom"}
+
+
+class Token:
+    __slots__ = ("text", "start", "end", "line", "column", "first")
+
+    def __init__(self, text, start, end, line, column, first):
+        self.text, self.start, self.end = text, start, end
+        self.line, self.column, self.first = line, column, first  # first: the first of its line
+
+
+def lex(text, line=1):
+    """The tokens of an antt text: a name is a run of characters other than spaces and ( ) { } . ; , @ " « »."""
+    tokens, at, begin, last = [], 0, 0, 0
+    while at < len(text):
+        if text.startswith("{-", at):
+            end = text.find("-}", at)
+            end = len(text) if end < 0 else end + 2
+        elif text.startswith("--", at):
+            end = text.find("\n", at)
+            end = len(text) if end < 0 else end
+        else:
+            found = LEXEME.match(text, at)
+            end = found.end()
+            word = found["escaped"] or found["name"] or found["mark"]
+            if word:
+                tokens.append(Token(word, at, end, line, at - begin, line != last))
+                last = line
+        lines = text.count("\n", at, end)
+        if lines:
+            line, begin = line + lines, text.rfind("\n", at, end) + 1
+        at = end
+    return tokens
+
+
+def is_name(token):
+    return token.text not in "(){}.;,@"
+
+
+class Words:
+    """The names that a list of tokens uses: bare ones, and ones behind a module's name. Labels of records and of
+    implicit arguments, fields behind a dot, and binders are none."""
+
+    def __init__(self, tokens):
+        self.bare, self.behind, self.fields = set(), set(), set()
+        binders = binder_places(tokens)
+        for i, token in enumerate(tokens):
+            if not is_name(token) or i in binders:
+                continue
+            before = tokens[i - 1] if i else None
+            after = tokens[i + 1].text if i + 1 < len(tokens) else ""
+            if before and before.text == "." and before.end == token.start:
+                self.fields.add(token.text)
+                if i > 1 and tokens[i - 2].end == before.start:
+                    self.behind.add((tokens[i - 2].text, token.text))
+            elif before and before.text in "{;" and after == "=":
+                self.fields.add(token.text)
+            else:
+                self.bare.add(token.text)
+                if "_" in token.text:
+                    self.bare.update(part for part in token.text.split("_") if part)
+
+    def use(self, name):
+        """An operator is used by its name, or by its parts: ≡ for _≡_; `do` uses _>>=_ and _>>_."""
+        if name in self.bare or (name in ("_>>=_", "_>>_") and "do" in self.bare):
+            return True
+        parts = [part for part in name.split("_") if part]
+        return "_" in name and bool(parts) and all(part in self.bare for part in parts)
+
+
+def binder_places(tokens):
+    """Places of x and y in (x y : A), {x y : A} and λ x y. and of x in let x."""
+    places = set()
+    for i, token in enumerate(tokens):
+        j = i + 1
+        if token.text in "({λ":
+            while j < len(tokens) and is_name(tokens[j]) and tokens[j].text not in (":", "=", "λ"):
+                j += 1
+            if j < len(tokens) and tokens[j].text == ("." if token.text == "λ" else ":"):
+                places.update(range(i + 1, j))
+        elif token.text == "let" and j < len(tokens):
+            places.add(j)
+    return places
+
+
+class Declaration:
+    def __init__(self, name, kind, marks, line, head):
+        self.name, self.kind, self.marks, self.line = name, kind, marks, line
+        self.head, self.body, self.parts = head, [], []  # parts: constructors, fields
+
+    @property
+    def open(self):
+        """Whether others see its body."""
+        return bool(self.marks & {"abbrev", "unfoldable"}) or self.kind in ("data", "record", "ruleset")
+
+    def read(self):
+        self.in_head = Words(self.head)
+        self.words = Words(self.head + self.body)
+        self.open_words = self.words if self.open else self.in_head
+
+
+def items(tokens):
+    """Cuts tokens where a line begins at the first token's column, outside brackets."""
+    cut, depth = [], 0
+    for token in tokens:
+        if token.first and token.column == tokens[0].column and depth == 0 or not cut:
+            cut.append([])
+        cut[-1].append(token)
+        depth += (token.text in "({") - (token.text in ")}")
+    return cut
+
+
+def at_depth_0(tokens, words):
+    depth = 0
+    for i, token in enumerate(tokens):
+        depth += (token.text in "({") - (token.text in ")}")
+        if depth == 0 and token.text in words:
+            return i
+    return None
+
+
+def declarations(tokens, around=()):
+    """The declarations of a file or of a block; `around` are the block's parameters."""
+    found = []
+    for item in items(tokens) if tokens else []:
+        words = [token.text for token in item]
+        marks, i = set(), 0
+        while i < len(words) and words[i] in MARKS:
+            marks.add(words[i])
+            i += 1
+        word = words[i]
+        if word in ("module", "mutual"):
+            where = at_depth_0(item, ("where",)) if word == "module" else i
+            found += declarations(item[where + 1:], list(around) + item[i + 1:where])
+        elif word in ("use", "mod", "infix", "infixl", "infixr"):
+            pass
+        elif word in ("data", "record"):
+            where = at_depth_0(item, ("where",))
+            d = Declaration(words[i + 1], word, marks, item[i].line, list(around) + item[i + 2:where])
+            for part in items(item[where + 1:]) if where is not None and where + 1 < len(item) else []:
+                if part[0].text == "deriving":
+                    d.parts.append((part[-1].text, part[-1].line))
+                    continue
+                colon = at_depth_0(part, (":",)) or 0
+                d.parts += [(token.text, token.line) for token in part[:colon] if token.text != "pub"]
+                d.body += part[colon + 1:]
+            found.append(d)
+        elif word == "ruleset":
+            d = Declaration(words[i + 1], word, marks, item[i].line, list(around))
+            d.body = item[i + 3:]
+            found.append(d)
+        elif word == "open":
+            d = Declaration("open", word, marks, item[i].line, list(around) + item[i + 1:])
+            found.append(d)
+        else:
+            sign = at_depth_0(item, (":", "="))
+            if word != "unfolding" and sign is not None and words[sign] == ":":
+                found.append(Declaration(word, "law", marks, item[i].line, list(around) + item[sign + 1:]))
+            elif found:
+                found[-1].body += item[1:] if word in ("unfolding", found[-1].name) else item
+    return found
+
+
+class Import:
+    """A `use` line. names: (name there, name here); of a whole module (None, name here)."""
+
+    def __init__(self, line, text, module, names, whole):
+        self.line, self.text, self.module, self.names, self.whole = line, text, module, names, whole
+
+
+def imports_of(lines, ghost):
+    """The `use` lines of an antt file, or the `ghost use` lines of an .rt file."""
+    found = []
+    form = re.compile(r"(ghost use) (.*);$" if ghost else r"(use|pub use|unfoldable pub use) (.*)$")
+    for number, line in enumerate(lines, 1):
+        match = form.match(line)
+        if not match:
+            continue
+        path = match[2].strip()
+        if "{" in path:
+            module, names = path[:path.index("{")].rstrip("."), path[path.index("{") + 1:path.rindex("}")]
+            pairs = []
+            for name in names.split(","):
+                parts = name.split()
+                if parts:
+                    pairs.append((parts[0], parts[-1]))
+            found.append(Import(number, line, module, pairs, False))
+        else:
+            parts = path.split()
+            found.append(Import(number, line, parts[0], [(None, parts[-1].split(".")[-1])], True))
+        found[-1].passed_on = "pub" in match[1]
+    return found
+
+
+# ---- .rt
+
+CLAUSE = re.compile(r"\b(?:requires|ensures|invariant|decreases)\s*\{")
+ITEM = re.compile(r"^(?P<pub>pub )?(?:extern \"C\" )?(?P<kind>fn|const|static|struct|enum) (?P<name>\w+)")
+
+
+def without_comments(text):
+    """With the comments of an .rt text blanked; lines stay."""
+    return re.sub(r"(\"(?:\\.|[^\"\\\n])*\")|//[^\n]*", lambda found: found[1] or "", text)
+
+
+class Item:
+    def __init__(self, kind, name, line, is_pub, entry):
+        self.kind, self.name, self.line, self.pub, self.entry = kind, name, line, is_pub, entry
+        self.text = ""
+
+
+class Code:
+    """An .rt file: its items, and the clauses apart from the code."""
+
+    def __init__(self, text):
+        text = without_comments(text)
+        self.lines = text.split("\n")
+        self.imports = imports_of(self.lines, ghost=True)
+        self.uses = []  # line, text, crate, name
+        for number, line in enumerate(self.lines, 1):
+            match = re.match(r"use ([\w:]+)::(\w+);$", line.strip())
+            if match:
+                self.uses.append((number, match[1], match[2]))
+        body = re.sub(r"^(ghost )?use .*;$", "", text, flags=re.M)
+        code, clauses, at = [], [], 0
+        for found in CLAUSE.finditer(body):
+            if found.start() < at:
+                continue
+            depth, end = 1, found.end()
+            while depth and end < len(body):
+                depth += (body[end] == "{") - (body[end] == "}")
+                end += 1
+            code.append(body[at:found.start()])
+            clauses.append(body[found.end():end - 1])
+            code.append("\n" * body.count("\n", found.start(), end))
+            at = end
+        code.append(body[at:])
+        self.code = "".join(code)
+        self.clauses = Words(lex("\n".join(clauses)))
+        self.items = []
+        entry = False
+        for number, line in enumerate(self.code.split("\n"), 1):
+            match = ITEM.match(line)
+            if match:
+                self.items.append(Item(match["kind"], match["name"], number, bool(match["pub"]), entry))
+                line = line[match.end():]
+            if line.strip():
+                entry = line.startswith("#[no_mangle]")
+            if self.items:
+                self.items[-1].text += line + "\n"
+
+    def names(self, name, kind, of=None):
+        """Whether the text `of` (all of the code without it) names an item."""
+        text = self.code if of is None else of
+        return bool(re.search(r"\b%s\s*(?:\(|::<)|::%s\b|\b%s\b(?=\s*[,;)])" % ((re.escape(name),) * 3) if kind == "fn" else r"\b%s\b" % re.escape(name), text))
+
+
+# ---- the repository
+
+class File:
+    def __init__(self, root, path):
+        self.path = path
+        self.name = str(path.relative_to(root))
+        self.text = path.read_text()
+        self.lines = self.text.split("\n")
+
+
+class Repository:
+    def __init__(self, root):
+        self.root = pathlib.Path(root)
+        self.findings = []  # kind, file, line, name, what
+        crates = self.root / "crates"
+        self.crates = sorted(p.name for p in crates.iterdir() if p.is_dir())
+        self.antt, self.rt = {}, {}
+        for part in ("specs", "proofs"):
+            for path in sorted(crates.glob("*/%s/**/*.antt" % part)):
+                file = File(self.root, path)
+                tokens = lex(file.text)
+                file.imports = imports_of(file.lines, ghost=False)
+                file.declarations = declarations(tokens)
+                for d in file.declarations:
+                    d.read()
+                file.words = [d.words for d in file.declarations]
+                file.proof = path.name == "Proof.antt"
+                self.antt[file.name] = file
+        for path in sorted(crates.glob("*/src/**/*.rt")):
+            file = File(self.root, path)
+            file.code = Code(file.text)
+            file.crate = path.relative_to(crates).parts[0]
+            self.rt[file.name] = file
+        self.edits = [File(self.root, path) for path in sorted(crates.glob("*/must-fail/*.edit"))]
+        self.docs = [File(self.root, self.root / name) for name in DOCS]
+
+    def find(self, kind, file, line, what, name=""):
+        self.findings.append((kind, file, line, name, what))
+
+    def module_file(self, module):
+        """crates/C/specs/X.antt for Rattle.C.specs.X and Rattle.C.specs.X."""
+        match = re.match(r"Rattle·(\w+)(?:·\w+)?\.(specs|proofs)\.(.+)$", module)
+        return match and "crates/%s/%s/%s.antt" % (match[1], match[2], match[3].replace(".", "/"))
+
+    # -- 1
+
+    def used_names(self, file):
+        """A test for the names of an antt file: whether its declarations use one that a `use` line brings."""
+        return lambda name, whole: any(any(m == name for m, _ in w.behind) if whole else w.use(name) or any(m == name for m, _ in w.behind) for w in file.words)
+
+    def unused_imports(self, file):
+        """(import, [(name there, name here)]) for an antt or .rt file."""
+        if file.name.endswith(".antt"):
+            used, imports = self.used_names(file), file.imports
+        else:
+            clauses, imports = file.code.clauses, file.code.imports
+            used = lambda name, whole: clauses.use(name)
+        through = {i.module.split(".")[0] for i in imports}  # use c.M as Q, then use Q.{x}
+        for i in imports:
+            if not i.passed_on:
+                yield i, [pair for pair in i.names if not used(pair[1], i.whole) and not (i.whole and pair[1] in through)]
+
+    def check_imports(self):
+        for file in [*self.antt.values(), *self.rt.values()]:
+            modules = {}
+            for i, unused in self.unused_imports(file):
+                for _, name in unused:
+                    self.find("import", file.name, i.line, "`%s` is imported from %s and not used" % (name, i.module), name)
+                if not i.whole:
+                    if i.module in modules:
+                        self.find("twice", file.name, i.line, "a second `use` line for %s, after line %d" % (i.module, modules[i.module]), i.module)
+                    modules.setdefault(i.module, i.line)
+        for file in self.rt.values():
+            seen = set()
+            for line, crate, name in file.code.uses:
+                if not re.search(r"\b%s\b" % name, file.code.code):
+                    self.find("import", file.name, line, "`%s` is imported from %s and not used" % (name, crate), name)
+                if (crate, name) in seen:
+                    self.find("twice", file.name, line, "a second `use` line for %s::%s" % (crate, name), name)
+                seen.add((crate, name))
+
+    def prune(self):
+        for file in [*self.antt.values(), *self.rt.values()]:
+            lines = list(file.lines)
+            first = {}
+            for i, unused in self.unused_imports(file):
+                kept = [pair for pair in i.names if pair not in unused]
+                if i.whole:
+                    if not kept:
+                        lines[i.line - 1] = None
+                    continue
+                if i.module in first:
+                    before, names = first[i.module]
+                    lines[i.line - 1] = None
+                    kept = names + [pair for pair in kept if pair not in names]
+                    i = before
+                first[i.module] = (i, kept)
+                words = ", ".join(there if there == here else there + " as " + here for there, here in kept)
+                ghost = file.name.endswith(".rt")
+                line = ("ghost use %s.{%s};" if ghost else "use %s.{%s}") % (i.module, words)
+                lines[i.line - 1] = None if not kept else line if line != i.text else i.text
+            if file.name.endswith(".rt"):
+                seen = set()
+                for line, crate, name in file.code.uses:
+                    if not re.search(r"\b%s\b" % name, file.code.code) or (crate, name) in seen:
+                        lines[line - 1] = None
+                    seen.add((crate, name))
+            text = "\n".join(line for line in lines if line is not None)
+            if text != file.text:
+                file.path.write_text(text)
+                print(file.name)
+
+    # -- 2
+
+    def ends(self):
+        """The names that documents cite: {name} anywhere, {(file, name)} in a place."""
+        names = set()
+        for doc in self.docs:
+            for _, word, _ in cited(doc):
+                names.update(re.split(r"[\s():]+", word))
+        return names
+
+    def check_definitions(self):
+        cited_names = self.ends()
+        ends = {(f, n) for f, n, _ in ENDS}
+        declared = {}  # (file, name) -> declaration; constructors too
+        for file in self.antt.values():
+            for d in file.declarations:
+                declared[file.name, d.name] = d
+                if d.kind == "data":
+                    for part, _ in d.parts:
+                        declared[file.name, part] = d
+
+        def is_end(file, d):
+            short = file.name[len("crates/"):]
+            if file.proof or d.kind == "open" or (short, "*") in ends or (short, d.name) in ends or d.name in cited_names:
+                return True
+            return any(d.name.endswith(name[2:]) for name in cited_names if name.startswith("..-"))
+
+        def scope(file, imports):
+            """[(name here, file, name there)], and {alias of a module: file}"""
+            names, modules = [], {}
+            for i in imports:
+                there = self.module_file(i.module)
+                if there in self.antt:
+                    if i.whole:
+                        modules[i.names[0][1]] = there
+                    else:
+                        names += [(here, there, name) for name, here in i.names]
+            return names, modules
+
+        def used(words, names, modules):
+            for here, there, name in names:
+                if (there, name) in declared and words.use(here):
+                    yield there, declared[there, name]
+            for module, name in words.behind:
+                there = modules.get(module)
+                if (there, name) in declared:
+                    yield there, declared[there, name]
+
+        outside = set()  # declarations that another file's text names
+        users = {}  # declaration -> what it uses
+        roots = []
+        for file in self.antt.values():
+            names, modules = scope(file, file.imports)
+            own = [(n, file.name, n) for f, n in declared if f == file.name]
+            file.own = own
+            for d in file.declarations:
+                users[d] = set()
+                for there, e in used(d.words, names, modules):
+                    users[d].add(e)
+                for _, e in used(d.words, own, {}):
+                    if e is not d:
+                        users[d].add(e)
+                if is_end(file, d):
+                    roots.append(d)
+                    outside.add(d)
+        for file in self.rt.values():
+            names, modules = scope(file, file.code.imports)
+            for _, e in used(file.code.clauses, names, modules):
+                roots.append(e)
+                outside.add(e)
+        for edit in self.edits:
+            crate = edit.path.parent.parent.name
+            for target, _, new in edit_pairs(edit):
+                file = self.antt.get("crates/%s/%s" % (crate, target)) or self.rt.get("crates/%s/%s" % (crate, target))
+                if file:
+                    is_antt = file.name.endswith(".antt")
+                    names, modules = scope(file, file.imports if is_antt else file.code.imports)
+                    for _, e in used(Words(lex(new)), names + (file.own if is_antt else []), modules):
+                        roots.append(e)
+        alive = set()
+        while roots:
+            d = roots.pop()
+            if d not in alive:
+                alive.add(d)
+                roots += users[d]
+        for file in self.antt.values():
+            names, modules = scope(file, file.imports)
+            for d in file.declarations:
+                if d in alive:
+                    outside.update(e for _, e in used(d.words, names, modules))
+        for file in self.antt.values():
+            # what a needed `pub` declaration shows to others has to be `pub` too
+            needed = [d for d in file.declarations if d in outside]
+            shown = set()
+            while needed:
+                d = needed.pop()
+                if d not in shown:
+                    shown.add(d)
+                    needed += [e for _, e in used(d.open_words, file.own, {})]
+            by = {}
+            for d in file.declarations:
+                for e in users[d]:
+                    by.setdefault(e, []).append(d)
+            for d in file.declarations:
+                if d.kind == "open" or file.proof:
+                    continue
+                if d not in alive:
+                    only = any(d in users[e] for e in users if e is not d)
+                    self.find("law", file.name, d.line, "`%s` is used by %s" % (d.name, "nothing but what is unused itself" if only else "nothing"), d.name)
+                elif "pub" in d.marks and d not in shown:
+                    self.find("pub", file.name, d.line, "`%s` is `pub`, and no other file needs it" % d.name, d.name)
+
+    def check_code(self):
+        cited_names = self.ends()
+        for file in self.rt.values():
+            module = file.path.stem
+            for item in file.code.items:
+                if item.entry or item.name == "main" or item.name in cited_names:
+                    continue
+                inside = any(file.code.names(item.name, item.kind, other.text) for other in file.code.items if other is not item)
+                outside = False
+                for other in self.rt.values():
+                    if other is file:
+                        continue
+                    by = module if other.crate == file.crate else file.crate
+                    imported = any(crate.split("::")[-1] == by and name == item.name for _, crate, name in other.code.uses)
+                    if imported and other.code.names(item.name, item.kind) or re.search(r"\b%s::%s\b" % (by, item.name), other.code.code):
+                        outside = True
+                if item.kind == "fn" and item.pub and not outside:
+                    self.find("function", file.name, item.line, "`%s` is `pub`, and %s" % (item.name, "no other crate uses it" if inside else "nothing uses it"), item.name)
+                elif not inside and not outside:
+                    self.find("function", file.name, item.line, "%s `%s` is used by nothing" % (item.kind, item.name), item.name)
+
+    # -- 3
+
+    def check_citations(self):
+        where = {}  # name -> files
+        for file in self.antt.values():
+            for d in file.declarations:
+                for name in [d.name, *(part for part, _ in d.parts)]:
+                    where.setdefault(name, set()).add(file.name)
+        for file in self.antt.values():  # what rt makes of a contract, as in check.Learnt
+            made = {i.names[0][1] for i in file.imports if i.whole and self.module_file(i.module) not in self.antt}
+            for words in file.words:
+                for module, name in words.behind:
+                    if module in made:
+                        where.setdefault(name, set())
+        items, parameters = {}, set()
+        for file in self.rt.values():
+            for item in file.code.items:
+                items.setdefault(item.name, set()).update((file.crate, file.path.stem))
+            parameters.update(re.findall(r"\b(\w+):", file.code.code))
+        labels = {edit.path.stem for edit in self.edits}
+        macros = set()
+        for path in [*self.root.glob("tools/**/*.[ch]"), *self.root.glob("include/*.h")]:
+            macros.update(re.findall(r"\b[A-Z][A-Z_]+\b", path.read_text()))
+        for doc in self.docs:
+            for line, word, place in cited(doc):
+                fault = self.citation_fault(word, where, items, parameters, labels, macros)
+                if fault:
+                    self.find("citation", doc.name, line, "`%s`: %s" % (word, fault), word)
+                elif place and "::" not in word:
+                    files = self.place_files(place)
+                    if files is None:
+                        self.find("citation", doc.name, line, "`%s`: there is no place %s" % (word, place), word)
+                    elif not any(files & where[name] for name in where if name == word or word.startswith("..-") and name.endswith(word[2:])):
+                        self.find("citation", doc.name, line, "`%s` is not in %s" % (word, place), word)
+        for doc in self.docs:
+            self.check_cited_edits(doc)
+
+    def place_files(self, place):
+        """The antt files that a place stands for: scheme/X, crates/scheme/proofs/X.antt, X.antt or a crate."""
+        if place.startswith("crates/"):
+            files = {place}
+        elif place.endswith(".antt"):
+            files = {name for name in self.antt if name.endswith("/" + place)}
+        elif "/" in place:
+            crate, name = place.split("/", 1)
+            files = {"crates/%s/%s/%s.antt" % (crate, part, name) for part in ("specs", "proofs")}
+        else:
+            files = {name for name in self.antt if name.startswith("crates/%s/" % place)}
+        files = {name for name in files if name in self.antt}
+        return files or None
+
+    def citation_fault(self, word, where, items, parameters, labels, macros):
+        """Why a cited word is no name of the repository; None where it is one, or is no name at all."""
+        command = word.split()[0]
+        if re.search(r"/X(\.antt)?$", command):
+            return None  # X stands for any file
+        if "/" in command and re.fullmatch(r"[\w./*-]+", command):
+            return None if list(self.root.glob(command.rstrip("/"))) else "there is no such file"
+        match = re.fullmatch(r"(\w+)::(\w+|\.\.)(\(.*\))?", word)
+        if match:
+            if match[1] in items.get(match[2], ()):
+                return None
+            return "%s has no such function" % match[1]
+        if word in LANGUAGE or " " in word or re.search(r"[&#=+^<>…]", word):
+            return None  # a command, a formula, a word of the language
+        if word.startswith("..-"):
+            return None if any(name.endswith(word[2:]) for name in where) else "no definition ends so"
+        if word in where or word in items or word in self.crates or word in labels or word in parameters or word in macros:
+            return None
+        if (self.root / word).exists() or list(self.root.glob("*/" + word)):
+            return None
+        return "there is no such definition, field, function, crate, file or edit"
+
+    def check_cited_edits(self, doc):
+        """The table under "Must-fail edits": crate/label, and a label alone after one of the same crate."""
+        within = False
+        for number, line in enumerate(doc.lines, 1):
+            if line.startswith("#"):
+                within = "must-fail edits" in line.lower()
+            if not within or not line.startswith("|") or line.startswith("|---"):
+                continue
+            crate = None
+            for cell in line.strip().strip("|").split("|")[1:]:
+                for label in re.findall(r"[\w/]+", cell) if "/" in cell else []:
+                    if "/" in label:
+                        crate, label = label.split("/", 1)
+                    if crate and not (self.root / "crates" / crate / "must-fail" / (label + ".edit")).exists():
+                        self.find("citation", doc.name, number, "there is no edit %s/%s" % (crate, label), label)
+
+    # -- 4, 5, 6
+
+    def check_edits(self):
+        for edit in self.edits:
+            crate = edit.path.parent.parent
+            texts, pairs = {}, 0
+            for target, old, new in edit_pairs(edit):
+                pairs += 1
+                if target not in texts:
+                    path = crate / target
+                    if not path.is_file():
+                        self.find("edit", edit.name, 1, "there is no file %s" % target)
+                        break
+                    texts[target] = path.read_text()
+                count = texts[target].count(old) if old else 0
+                if count != 1:
+                    self.find("edit", edit.name, 1, "its `old:` text stands %s in %s" % ("%d times" % count if count else "nowhere", target))
+                texts[target] = texts[target].replace(old, new, 1)
+            if not pairs:
+                self.find("edit", edit.name, 1, "it has no `old:` and `new:`")
+
+    def check_lengths(self):
+        self.long_lines = 0
+        for path in sorted((self.root / "crates").rglob("*")):
+            name = str(path.relative_to(self.root))
+            parts = path.relative_to(self.root / "crates").parts
+            if not path.is_file() or parts[1] in ("stdout", "stdin", "args", "data"):
+                continue
+            lines = path.read_text().split("\n")
+            count = len(lines) - (lines[-1] == "")
+            if count > MOST_LINES:
+                self.find("length", name, MOST_LINES + 1, "%d lines, and %d are the most" % (count, MOST_LINES))
+            if path.suffix in (".antt", ".rt"):
+                for number, line in enumerate(lines, 1):
+                    self.long_lines += len(line) > LONG_LINE
+                    if len(line) > LONGEST_LINE:
+                        self.find("width", name, number, "a line of %d characters, and %d are the most" % (len(line), LONGEST_LINE))
+
+    def check_index(self):
+        for path in sorted((self.root / "crates").glob("*/proofs/Lib.antt")):
+            lines = path.read_text().split("\n")
+            modules = [i for i, line in enumerate(lines) if line.startswith("pub mod ")]
+            if len(modules) > 2 and not any(line.startswith("--") for line in lines[:modules[0]]):
+                self.find("index", str(path.relative_to(self.root)), 1, "%d modules, and no comment before the first that says what they are" % len(modules))
+
+    def check(self):
+        self.check_imports()
+        self.check_definitions()
+        self.check_code()
+        self.check_citations()
+        self.check_edits()
+        self.check_lengths()
+        self.check_index()
+        self.findings.sort(key=lambda f: (f[1], f[2], f[4]))
+        return self.findings
+
+
+def edit_pairs(edit):
+    """(file, old, new) of a must-fail edit, as `rt must-fail` reads it."""
+    target, old = "", ""
+    for line in edit.lines:
+        if line.startswith("file: "):
+            target = line[6:]
+        elif line.startswith("old: "):
+            old = line[5:]
+        elif line.startswith("new:"):
+            yield target, old, line[5:]
+            old = ""
+
+
+PLACE = r"(?:crates/[\w/]+\.antt|\w+\.antt|[a-z_]+/[A-Z]\w*|[a-z_]+(?=\)))"
+
+
+def cited(doc):
+    """(line, word, place or None) for each word in backticks. A place stands in brackets after a word or a list of
+    words (`a`, `b` (scheme/X)), after a comma within brackets (`a`, scheme/X), or after "in" (`a` in scheme/X)."""
+    fenced = False
+    for number, line in enumerate(doc.lines, 1):
+        if line.startswith("```"):
+            fenced = not fenced
+        if fenced or line.startswith("    "):
+            continue
+        words = list(re.finditer(r"`([^`]+)`", line))
+        places = [None] * len(words)
+        for i, word in enumerate(words):
+            rest = line[word.end():]
+            match = re.match(r" \((" + PLACE + r")[,)]", rest) or re.match(r" in ([a-z_]+/[A-Z]\w*|crates/[\w/]+\.antt)", rest)
+            if not match and "(" in line[:word.start()].rsplit(")", 1)[-1]:
+                match = re.match(r", ([a-z_]+/[A-Z]\w*|crates/[\w/]+\.antt)", rest)
+            if match:
+                j = i
+                while True:
+                    places[j] = match[1]
+                    if j == 0 or not re.fullmatch(r", | and |, and ", line[words[j - 1].end():words[j].start()]) or places[j - 1]:
+                        break
+                    j -= 1
+        for word, place in zip(words, places):
+            yield number, word[1], place
+
+
+def main():
+    parser = argparse.ArgumentParser(description=__doc__, formatter_class=argparse.RawDescriptionHelpFormatter)
+    parser.add_argument("--list-unused", action="store_true", help="unused names alone, for machines")
+    parser.add_argument("--prune", action="store_true", help="take unused names out of `use` lines")
+    parser.add_argument("--selftest", action="store_true", help="test these checks")
+    given = parser.parse_args()
+    repository = Repository(pathlib.Path(__file__).resolve().parent.parent)
+    if given.prune:
+        repository.prune()
+        return 0
+    findings = repository.check()
+    if given.list_unused:
+        for kind, file, line, name, _ in findings:
+            if kind in ("import", "twice", "law", "pub", "function"):
+                print(kind, file, line, name, sep="\t")
+        return 0
+    for _, file, line, _, what in findings:
+        print("%s:%d: %s" % (file, line, what))
+    print("house: %d findings; %d lines over %d characters" % (len(findings), repository.long_lines, LONG_LINE))
+    return 1 if findings else 0
+
+
+if __name__ == "__main__":
+    sys.exit(main())
