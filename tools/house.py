@@ -78,27 +78,48 @@ def is_name(token):
 
 
 class Words:
-    """The names that a list of tokens uses: bare ones, and ones behind a module's name. Labels of records and of
-    implicit arguments, fields behind a dot, and binders are none."""
+    """The names that antt text uses: bare ones, and ones behind a module's name. No uses are labels of records and of
+    implicit arguments, fields behind a dot, binders, and what a binder in force hides."""
 
-    def __init__(self, tokens):
-        self.bare, self.behind, self.fields = set(), set(), set()
+    def __init__(self, tokens=(), bound=()):
+        self.bare, self.behind = set(), set()
+        self.add(tokens, bound)
+
+    def add(self, tokens, bound=()):
+        """`bound`: names that are bound around the tokens."""
         binders = binder_places(tokens)
+        scopes = [set(bound)]  # the bracket's own binders are in the last one, and those around it before
+        closing = []  # what (x y : A) binds behind its closing bracket
         for i, token in enumerate(tokens):
-            if not is_name(token) or i in binders:
-                continue
-            before = tokens[i - 1] if i else None
-            after = tokens[i + 1].text if i + 1 < len(tokens) else ""
-            if before and before.text == "." and before.end == token.start:
-                self.fields.add(token.text)
-                if i > 1 and tokens[i - 2].end == before.start:
-                    self.behind.add((tokens[i - 2].text, token.text))
-            elif before and before.text in "{;" and after == "=":
-                self.fields.add(token.text)
-            else:
-                self.bare.add(token.text)
-                if "_" in token.text:
-                    self.bare.update(part for part in token.text.split("_") if part)
+            text = token.text
+            if text in "({":
+                group = []
+                while i + 1 + len(group) in binders:
+                    group.append(tokens[i + 1 + len(group)].text)
+                closing.append(group)
+                scopes.append(set())
+            elif text in ")}":
+                if closing:
+                    scopes.pop()
+                    scopes[-1].update(closing.pop())
+            elif text in ",;":
+                if closing:
+                    scopes[-1].clear()
+            elif i in binders:
+                if not closing or text not in closing[-1]:
+                    scopes[-1].add(text)
+            elif is_name(token):
+                before = tokens[i - 1] if i else None
+                after = tokens[i + 1].text if i + 1 < len(tokens) else ""
+                if before and before.text == "." and before.end == token.start:
+                    if i > 1 and tokens[i - 2].end == before.start:
+                        self.behind.add((tokens[i - 2].text, text))
+                elif before and before.text in "{;" and after == "=":
+                    pass
+                elif not any(text in scope for scope in scopes):
+                    self.bare.add(text)
+                    if "_" in text:
+                        self.bare.update(part for part in text.split("_") if part)
 
     def use(self, name):
         """An operator is used by its name, or by its parts: ≡ for _≡_; `do` uses _>>=_ and _>>_."""
@@ -118,25 +139,65 @@ def binder_places(tokens):
                 j += 1
             if j < len(tokens) and tokens[j].text == ("." if token.text == "λ" else ":"):
                 places.update(range(i + 1, j))
-        elif token.text == "let" and j < len(tokens):
+        elif token.text == "let" and j < len(tokens) and is_name(tokens[j]):
             places.add(j)
     return places
 
 
+def bound_by(tokens):
+    """The names that parameters (x y : A) bind."""
+    return {tokens[i].text for i in binder_places(tokens)}
+
+
 class Declaration:
-    def __init__(self, name, kind, marks, line, head):
+    """head: the signature and the parameters of the blocks around; body: `unfolding` lines and clauses, one by one;
+    parts: constructors, fields."""
+
+    def __init__(self, name, kind, marks, line, around, head):
         self.name, self.kind, self.marks, self.line = name, kind, marks, line
-        self.head, self.body, self.parts = head, [], []  # parts: constructors, fields
+        self.around, self.head, self.body, self.parts = list(around), head, [], []
 
     @property
     def open(self):
         """Whether others see its body."""
         return bool(self.marks & {"abbrev", "unfoldable"}) or self.kind in ("data", "record", "ruleset")
 
-    def read(self):
-        self.in_head = Words(self.head)
-        self.words = Words(self.head + self.body)
-        self.open_words = self.words if self.open else self.in_head
+    def read(self, constructors):
+        around = bound_by(self.around)
+        self.words = Words(self.around)
+        self.words.add(self.head, around)
+        shown = Words(self.around)
+        shown.add(self.head, around)
+        if self.kind in ("data", "record"):
+            around = around | bound_by(self.head)
+        for item in self.body:
+            read_clause(self.words, item, around, constructors)
+        self.shown = self.words if self.open else shown
+
+
+def read_clause(words, item, bound, constructors):
+    """A clause `f x y = body where helpers`: x and y hide what is spelled so, unless they are constructors, and so do
+    the helpers' names."""
+    sign = at_depth_0(item, ("=",)) if item[0].text != "unfolding" else None
+    if sign is None:
+        words.add(item, bound)
+        return
+    left = {token.text for token in item[1:sign] if is_name(token)}
+    words.add(item[:sign], bound | (left - constructors))
+    bound = bound | (left - constructors)
+    where = at_depth_0(item[sign:], ("where",))
+    helpers = items(item[sign + where + 1:]) if where is not None else []
+    signed = []
+    for helper in helpers:
+        colon = at_depth_0(helper, (":", "="))
+        signed.append(colon is not None and helper[colon].text == ":" and helper[0].text != "unfolding")
+    bound = bound | {helper[0].text for helper, has in zip(helpers, signed) if has}
+    words.add(item[sign + 1:] if where is None else item[sign + 1:sign + where], bound)
+    for helper, has in zip(helpers, signed):
+        if has:
+            words.add(helper[1:], bound)
+        else:
+            read_clause(words, helper, bound, constructors)
 
 
 def items(tokens):
@@ -176,28 +237,25 @@ def declarations(tokens, around=()):
             pass
         elif word in ("data", "record"):
             where = at_depth_0(item, ("where",))
-            d = Declaration(words[i + 1], word, marks, item[i].line, list(around) + item[i + 2:where])
+            d = Declaration(words[i + 1], word, marks, item[i].line, around, item[i + 2:where])
             for part in items(item[where + 1:]) if where is not None and where + 1 < len(item) else []:
                 if part[0].text == "deriving":
                     d.parts.append((part[-1].text, part[-1].line))
                     continue
                 colon = at_depth_0(part, (":",)) or 0
                 d.parts += [(token.text, token.line) for token in part[:colon] if token.text != "pub"]
-                d.body += part[colon + 1:]
+                d.body.append(part[colon + 1:])
             found.append(d)
         elif word == "ruleset":
-            d = Declaration(words[i + 1], word, marks, item[i].line, list(around))
-            d.body = item[i + 3:]
-            found.append(d)
+            found.append(Declaration(words[i + 1], word, marks, item[i].line, around, item[i + 3:]))
         elif word == "open":
-            d = Declaration("open", word, marks, item[i].line, list(around) + item[i + 1:])
-            found.append(d)
+            found.append(Declaration("open", word, marks, item[i].line, around, item[i + 1:]))
         else:
             sign = at_depth_0(item, (":", "="))
             if word != "unfolding" and sign is not None and words[sign] == ":":
-                found.append(Declaration(word, "law", marks, item[i].line, list(around) + item[sign + 1:]))
+                found.append(Declaration(word, "law", marks, item[i].line, around, item[sign + 1:]))
             elif found:
-                found[-1].body += item[1:] if word in ("unfolding", found[-1].name) else item
+                found[-1].body.append(item)
     return found
 
 
@@ -318,11 +376,15 @@ class Repository:
                 tokens = lex(file.text)
                 file.imports = imports_of(file.lines, ghost=False)
                 file.declarations = declarations(tokens)
-                for d in file.declarations:
-                    d.read()
-                file.words = [d.words for d in file.declarations]
                 file.proof = path.name == "Proof.antt"
                 self.antt[file.name] = file
+        constructors = {part for file in self.antt.values() for d in file.declarations if d.kind == "data" for part, _ in d.parts}
+        for file in self.antt.values():
+            foreign = {here for i in file.imports if self.module_file(i.module) not in self.antt for _, here in i.names}
+            known = {part for name in constructors | foreign for part in [name, *name.split("_")]}
+            for d in file.declarations:
+                d.read(known)
+            file.words = [d.words for d in file.declarations]
         for path in sorted(crates.glob("*/src/**/*.rt")):
             file = File(self.root, path)
             file.code = Code(file.text)
@@ -505,7 +567,7 @@ class Repository:
                 d = needed.pop()
                 if d not in shown:
                     shown.add(d)
-                    needed += [e for _, e in used(d.open_words, file.own, {})]
+                    needed += [e for _, e in used(d.shown, file.own, {})]
             by = {}
             for d in file.declarations:
                 for e in users[d]:
