@@ -438,7 +438,7 @@ class Repository:
                     self.find("twice", file.name, line, "a second `use` line for %s::%s" % (crate, name), name)
                 seen.add((crate, name))
 
-    def prune(self):
+    def prune(self, quiet=False):
         for file in [*self.antt.values(), *self.rt.values()]:
             lines = list(file.lines)
             first = {}
@@ -467,12 +467,13 @@ class Repository:
             text = "\n".join(line for line in lines if line is not None)
             if text != file.text:
                 file.path.write_text(text)
-                print(file.name)
+                if not quiet:
+                    print(file.name)
 
     # -- 2
 
     def ends(self):
-        """The names that documents cite: {name} anywhere, {(file, name)} in a place."""
+        """The names that documents cite."""
         names = set()
         for doc in self.docs:
             for _, word, _ in cited(doc):
@@ -492,7 +493,7 @@ class Repository:
 
         def is_end(file, d):
             short = file.name[len("crates/"):]
-            if file.proof or d.kind == "open" or (short, "*") in ends or (short, d.name) in ends or d.name in cited_names:
+            if file.proof and d.name.endswith("-spec") or d.kind == "open" or (short, "*") in ends or (short, d.name) in ends or d.name in cited_names:
                 return True
             return any(d.name.endswith(name[2:]) for name in cited_names if name.startswith("..-"))
 
@@ -573,7 +574,7 @@ class Repository:
                 for e in users[d]:
                     by.setdefault(e, []).append(d)
             for d in file.declarations:
-                if d.kind == "open" or file.proof:
+                if d.kind == "open":
                     continue
                 if d not in alive:
                     only = any(d in users[e] for e in users if e is not d)
@@ -791,12 +792,101 @@ def cited(doc):
             yield number, word[1], place
 
 
+# ---- the self-test
+
+SAMPLE = {  # a small repository without a finding
+    "README.md": "Read `docs/PROMISES.md` and run `tools/house.py --prune`; `one` is the crate.\n",
+    "docs/PROMISES.md": "## Demands\n\n`twice` and `Even` (one/Sets), `half-even` (crates/one/proofs/Halves.antt), `one::double`.\n\n"
+                        "## Must-fail edits\n\n| Mistake | Edit of code | Edit of a definition |\n|---|---|---|\n| a sum | one/three_times, four_times | |\n",
+    "docs/DECISIONS.md": "`..-even` are laws; the field `value` (one/Sets) is a number, `n + n` a formula.\n",
+    "tools/house.py": "",
+    "crates/one/specs/Lib.antt": "pub mod Sets\n",
+    "crates/one/specs/Sets.antt": "-- Sets.\nuse Prim.Native.Nat.{ℕ, _+_}\n\nunfoldable pub twice : ℕ → ℕ\ntwice n = n + n\n\n"
+                                  "pub record Even (n : ℕ) : Type 0 where\n  pub value : ℕ\n\npub data Way : Type 0 where\n  up down : Way\n",
+    "crates/one/proofs/Lib.antt": "-- Halves: laws of halves.\npub mod Halves\npub mod Ways\npub mod More\n",
+    "crates/one/proofs/Halves.antt": "use Prim.Native.Nat.{ℕ, _+_}\nuse Rattle.one.specs.Sets.{twice, Even}\n\n"
+                                     "module _ (n : ℕ)\n    (m : ℕ) where\n  helper : Even (twice n) → ℕ\n  unfolding twice\n  helper e = go n\n    where\n"
+                                     "      go : ℕ → ℕ\n      go k = k + n\n\n  pub half-even : Even (twice n) → ℕ\n  half-even e = helper e\n",
+    "crates/one/proofs/Ways.antt": "use Rattle.one.specs.Sets.{Way, up, down}\nuse Rattle.one.proofs.Halves as H\n\n"
+                                   "pub turned : Way → Way\nturned up = down\nturned down = up\n\npub both : H.half-even\nboth = H.half-even\n",
+    "crates/one/proofs/More.antt": "",
+    "crates/one/proofs/double/Proof.antt": "use Rattle.one.proofs.Ways.{turned, both as two}\n\nlocal : turned\nlocal = two\n\npub double-spec : local\ndouble-spec = local\n",
+    "crates/one/src/lib.rt": "ghost use Prim.Native.Nat.{_<_};\nghost use Rattle.one.specs.Sets.{twice};\nuse two::Pair;\n\nconst LIMIT: u32 = 4; // x - y\n\n"
+                             "fn small(n: u32) -> bool {\n    n < LIMIT\n}\n\n#[no_mangle]\npub extern \"C\" fn double(n: u32, p: Pair) -> u32\n    requires { ⌜ n < 5 ⌝ }\n"
+                             "    ensures { λ r. ⌜ r ≡ twice n ⌝ }\n{\n    if small(n) { return n + n; }\n    n + n\n}\n",
+    "crates/one/must-fail/three_times.edit": "Three times.\nfile: src/lib.rt\nold:     if small(n) { return n + n; }\nnew:     if small(n) { return n; }\n",
+    "crates/one/must-fail/four_times.edit": "file: specs/Sets.antt\nold: twice n = n + n\nnew: twice n = n\n",
+}
+
+BREAKS = [  # what is broken, file, old text, new text, the finding
+    ("an unused import", "crates/one/specs/Sets.antt", "{ℕ, _+_}", "{ℕ, _+_, _-_}", "`_-_` is imported from Prim.Native.Nat and not used"),
+    ("an import that a variable hides", "crates/one/proofs/Halves.antt", "{twice, Even}", "{twice, Even, k}", "`k` is imported from Rattle.one.specs.Sets and not used"),
+    ("an unused module", "crates/one/specs/Sets.antt", "-- Sets.\n", "use Prim.Native.Nat as N\n", "`N` is imported from Prim.Native.Nat and not used"),
+    ("an import that only code and comments name", "crates/one/src/lib.rt", "{_<_}", "{_<_, _+_, _-_}", "`_+_` is imported"),
+    ("an unused import of code", "crates/one/src/lib.rt", "use two::Pair;", "use two::Pair;\nuse two::other;", "`other` is imported from two and not used"),
+    ("two lines for a module", "crates/one/specs/Sets.antt", "{ℕ, _+_}", "{ℕ}\nuse Prim.Native.Nat.{_+_}", "a second `use` line for Prim.Native.Nat"),
+    ("an unused law", "crates/one/proofs/Ways.antt", "pub both", "unused : Way\nunused = up\n\npub both", "`unused` is used by nothing"),
+    ("an unused law in a block", "crates/one/proofs/Halves.antt", "  pub half", "  unused : ℕ\n  unused = n\n\n  pub half", "`unused` is used by nothing"),
+    ("a law that its own proof alone uses", "crates/one/proofs/Ways.antt", "pub both", "again : Way\nagain = again\n\npub both", "`again` is used by nothing"),
+    ("a law whose one user goes", "crates/one/proofs/Ways.antt", "H.half-even\nboth = H.half-even", "Way\nboth = up", "`H` is imported"),
+    ("an unused law of a proof", "crates/one/proofs/double/Proof.antt", "\nlocal :", "\nidle : turned\nidle = two\n\nlocal :", "`idle` is used by nothing"),
+    ("a needless pub", "crates/one/proofs/Halves.antt", "  helper :", "  pub helper :", "`helper` is `pub`, and no other file needs it"),
+    ("an unused function", "crates/one/src/lib.rt", "fn small(", "fn idle(n: u32) -> u32 {\n    n\n}\n\nfn small(", "fn `idle` is used by nothing"),
+    ("a needless pub of a function", "crates/one/src/lib.rt", "fn small(", "pub fn small(", "`small` is `pub`, and no other crate uses it"),
+    ("an unused constant", "crates/one/src/lib.rt", "n < LIMIT", "n < 4", "const `LIMIT` is used by nothing"),
+    ("a cited name that is not there", "docs/DECISIONS.md", "`value`", "`worth`", "`worth`: there is no such definition"),
+    ("a cited function that is not there", "docs/PROMISES.md", "one::double", "one::triple", "one has no such function"),
+    ("a cited file that is not there", "README.md", "docs/PROMISES.md", "docs/PROMISE.md", "there is no such file"),
+    ("a wrong place", "docs/PROMISES.md", "`Even` (one/Sets)", "`Even` (one/Halves)", "`Even` is not in one/Halves"),
+    ("a wrong place of a list", "docs/PROMISES.md", "`Even` (one/Sets)", "`Even` (one/Halves)", "`twice` is not in one/Halves"),
+    ("a place that is not there", "docs/PROMISES.md", "(one/Sets)", "(one/Nowhere)", "there is no place one/Nowhere"),
+    ("a cited edit that is not there", "docs/PROMISES.md", "one/three_times", "one/five_times", "there is no edit one/five_times"),
+    ("a second cited edit that is not there", "docs/PROMISES.md", ", four_times", ", five_times", "there is no edit one/five_times"),
+    ("an old text that stands twice", "crates/one/must-fail/three_times.edit", "old:     if small(n) { return n + n; }", "old: n + n", "its `old:` text stands 2 times"),
+    ("an old text that is not there", "crates/one/must-fail/four_times.edit", "old: twice", "old: thrice", "its `old:` text stands nowhere"),
+    ("a file of 501 lines", "crates/one/proofs/More.antt", "", "\n" * 501, "501 lines, and 500 are the most"),
+    ("a line of 401 characters", "crates/one/proofs/More.antt", "", "-- " + "x" * 398, "a line of 401 characters"),
+    ("no index of modules", "crates/one/proofs/Lib.antt", "-- Halves: laws of halves.\n", "", "3 modules, and no comment"),
+]
+
+
+def selftest():
+    faults = 0
+    with tempfile.TemporaryDirectory() as root:
+        root = pathlib.Path(root)
+
+        def put(broken=None, old="", new=""):
+            for name, text in SAMPLE.items():
+                (root / name).parent.mkdir(parents=True, exist_ok=True)
+                (root / name).write_text(text.replace(old, new, 1) if name == broken else text)
+
+        put()
+        for _, file, line, _, what in Repository(root).check():
+            print("house self-test: found where nothing is broken: %s:%d: %s" % (file, line, what))
+            faults += 1
+        for broken, file, old, new, expected in BREAKS:
+            assert old in SAMPLE[file], broken
+            put(file, old, new)
+            if not any(expected in what for _, _, _, _, what in Repository(root).check()):
+                print("house self-test: not found: %s" % broken)
+                faults += 1
+        put("crates/one/specs/Sets.antt", "{ℕ, _+_}", "{_-_, ℕ}\nuse lib.Seq.{paste}\nuse Prim.Native.Nat.{_+_, ℕ}")
+        Repository(root).prune(quiet=True)
+        if (root / "crates/one/specs/Sets.antt").read_text() != SAMPLE["crates/one/specs/Sets.antt"]:
+            print("house self-test: --prune leaves something else")
+            faults += 1
+    print("house self-test: %d breaks, %d faults" % (len(BREAKS), faults))
+    return 1 if faults else 0
+
+
 def main():
     parser = argparse.ArgumentParser(description=__doc__, formatter_class=argparse.RawDescriptionHelpFormatter)
     parser.add_argument("--list-unused", action="store_true", help="unused names alone, for machines")
     parser.add_argument("--prune", action="store_true", help="take unused names out of `use` lines")
     parser.add_argument("--selftest", action="store_true", help="test these checks")
     given = parser.parse_args()
+    if given.selftest:
+        return selftest()
     repository = Repository(pathlib.Path(__file__).resolve().parent.parent)
     if given.prune:
         repository.prune()
