@@ -11,7 +11,7 @@
    its file. Ends are contracts, theorems `..-spec`, what a must-fail edit puts in, what README.md, docs/PROMISES.md
    or docs/DECISIONS.md cite, and ENDS below. The same for functions, types and constants of .rt files.
 3. What these three cite in backticks exists, and in the place that they name; so do the must-fail edits.
-4. What a must-fail edit replaces stands once in its file.
+4. What a must-fail edit replaces stands once in its file, and the names that it puts in are to be had there.
 5. No file under crates/ has over 500 lines, stored data aside; no line of .rt and .antt files over 400 characters.
 6. A crate's proofs/Lib.antt with over two modules says first what they are.
 """
@@ -36,8 +36,7 @@ LANGUAGE = set("rt requires ensures usize u8 u32 u64 &mut main pub use".split())
 
 # ---- antt
 
-NAME = r"[^\s(){}.;,@\"«»]+"
-LEXEME = re.compile(r"(?P<space>\s+)|(?P<text>\"(?:\\.|[^\"\\])*\")|«(?P<escaped>[^»]*)»|(?P<name>" + NAME + r")|(?P<mark>.)", re.S)
+LEXEME = re.compile(r"""(?P<skipped>\s+|--[^\n]*|\{-.*?-\}|"(?:\\.|[^"\\])*")|«(?P<escaped>[^»]*)»|(?P<name>[^\s(){}.;,@"«»]+)|(?P<mark>.)""", re.S)
 MARKS = {"unfoldable", "abbrev", "pub", "axiom"}
 
 
@@ -49,27 +48,15 @@ class Token:
         self.line, self.column, self.first = line, column, first  # first: the first of its line
 
 
-def lex(text, line=1):
+def lex(text):
     """The tokens of an antt text: a name is a run of characters other than spaces and ( ) { } . ; , @ " « »."""
-    tokens, at, begin, last = [], 0, 0, 0
-    while at < len(text):
-        if text.startswith("{-", at):
-            end = text.find("-}", at)
-            end = len(text) if end < 0 else end + 2
-        elif text.startswith("--", at):
-            end = text.find("\n", at)
-            end = len(text) if end < 0 else end
-        else:
-            found = LEXEME.match(text, at)
-            end = found.end()
-            word = found["escaped"] or found["name"] or found["mark"]
-            if word:
-                tokens.append(Token(word, at, end, line, at - begin, line != last))
-                last = line
-        lines = text.count("\n", at, end)
-        if lines:
-            line, begin = line + lines, text.rfind("\n", at, end) + 1
-        at = end
+    tokens, line, begin, first = [], 1, 0, True
+    for found in LEXEME.finditer(text):
+        if found.lastgroup != "skipped":
+            tokens.append(Token(found[found.lastgroup], found.start(), found.end(), line, found.start() - begin, first))
+            first = False
+        elif "\n" in found[0]:
+            line, begin, first = line + found[0].count("\n"), found.start() + found[0].rindex("\n") + 1, True
     return tokens
 
 
@@ -122,11 +109,17 @@ class Words:
                         self.bare.update(part for part in text.split("_") if part)
 
     def use(self, name):
-        """An operator is used by its name, or by its parts: ≡ for _≡_; `do` uses _>>=_ and _>>_."""
-        if name in self.bare or (name in ("_>>=_", "_>>_") and "do" in self.bare):
-            return True
-        parts = [part for part in name.split("_") if part]
-        return "_" in name and bool(parts) and all(part in self.bare for part in parts)
+        return used_in(self.bare, name)
+
+
+def used_in(words, name):
+    """An operator is used by its name, or by its parts: ≡ for _≡_; `do` uses _>>=_ and _>>_."""
+    if name in words or "_" not in name:
+        return name in words
+    if name in ("_>>=_", "_>>_") and "do" in words:
+        return True
+    parts = [part for part in name.split("_") if part]
+    return bool(parts) and all(part in words for part in parts)
 
 
 def binder_places(tokens):
@@ -346,11 +339,21 @@ class Code:
                 entry = line.startswith("#[no_mangle]")
             if self.items:
                 self.items[-1].text += line + "\n"
+        self.words = CodeWords(self.code)
+        for item in self.items:
+            item.words = CodeWords(item.text)
 
-    def names(self, name, kind, of=None):
-        """Whether the text `of` (all of the code without it) names an item."""
-        text = self.code if of is None else of
-        return bool(re.search(r"\b%s\s*(?:\(|::<)|::%s\b|\b%s\b(?=\s*[,;)])" % ((re.escape(name),) * 3) if kind == "fn" else r"\b%s\b" % re.escape(name), text))
+
+class CodeWords:
+    """The names in code: called ones (f of f(..)), those behind a name (a::b), and all."""
+
+    def __init__(self, text):
+        self.called = set(re.findall(r"(?<![.\w])(\w+)\s*\(", text))
+        self.behind = set(re.findall(r"(\w+)::(?=(\w+))", text))
+        self.all = set(re.findall(r"(?<![.\w])\w+", text))
+
+    def use(self, item):
+        return item.name in (self.called if item.kind == "fn" else self.all)
 
 
 # ---- the repository
@@ -391,10 +394,24 @@ class Repository:
             file.crate = path.relative_to(crates).parts[0]
             self.rt[file.name] = file
         self.edits = [File(self.root, path) for path in sorted(crates.glob("*/must-fail/*.edit"))]
+        for file in [*self.antt.values(), *self.rt.values()]:
+            file.edited, file.edited_code = Words(), set()  # what must-fail edits put in
+        for edit in self.edits:
+            edit.crate = edit.path.parent.parent
+            for target, _, new in edit_pairs(edit):
+                file = self.file_at(edit.crate / target)
+                if file and (file.name in self.antt or CLAUSE.search(new)):
+                    file.edited.add(lex(new))
+                elif file:
+                    file.edited_code |= CodeWords(new).all
         self.docs = [File(self.root, self.root / name) for name in DOCS]
 
     def find(self, kind, file, line, what, name=""):
         self.findings.append((kind, file, line, name, what))
+
+    def file_at(self, path):
+        name = str(path.relative_to(self.root))
+        return self.antt.get(name) or self.rt.get(name)
 
     def module_file(self, module):
         """crates/C/specs/X.antt for Rattle.C.specs.X and Rattle.C.specs.X."""
@@ -403,21 +420,21 @@ class Repository:
 
     # -- 1
 
-    def used_names(self, file):
-        """A test for the names of an antt file: whether its declarations use one that a `use` line brings."""
-        return lambda name, whole: any(any(m == name for m, _ in w.behind) if whole else w.use(name) or any(m == name for m, _ in w.behind) for w in file.words)
-
     def unused_imports(self, file):
-        """(import, [(name there, name here)]) for an antt or .rt file."""
-        if file.name.endswith(".antt"):
-            used, imports = self.used_names(file), file.imports
-        else:
-            clauses, imports = file.code.clauses, file.code.imports
-            used = lambda name, whole: clauses.use(name)
-        through = {i.module.split(".")[0] for i in imports}  # use c.M as Q, then use Q.{x}
+        """(import, [(name there, name here)]) of an antt or .rt file. What a must-fail edit puts in has to be in scope."""
+        is_antt = file.name.endswith(".antt")
+        words = [file.edited, *(file.words if is_antt else [file.code.clauses])]
+        bare = set().union(*(w.bare for w in words))
+        modules = {module for w in words for module, _ in w.behind}
+        imports = file.imports if is_antt else file.code.imports
+        modules |= {i.module.split(".")[0] for i in imports}  # use c.M as Q, then use Q.{x}
         for i in imports:
             if not i.passed_on:
-                yield i, [pair for pair in i.names if not used(pair[1], i.whole) and not (i.whole and pair[1] in through)]
+                yield i, [pair for pair in i.names if pair[1] not in modules and (i.whole or not used_in(bare, pair[1]))]
+
+    def unused_uses(self, file):
+        """[(line, crate, name)] of the `use` lines of code."""
+        return [use for use in file.code.uses if use[2] not in file.code.words.all and use[2] not in file.edited_code]
 
     def check_imports(self):
         for file in [*self.antt.values(), *self.rt.values()]:
@@ -431,9 +448,9 @@ class Repository:
                     modules.setdefault(i.module, i.line)
         for file in self.rt.values():
             seen = set()
+            for line, crate, name in self.unused_uses(file):
+                self.find("import", file.name, line, "`%s` is imported from %s and not used" % (name, crate), name)
             for line, crate, name in file.code.uses:
-                if not re.search(r"\b%s\b" % name, file.code.code):
-                    self.find("import", file.name, line, "`%s` is imported from %s and not used" % (name, crate), name)
                 if (crate, name) in seen:
                     self.find("twice", file.name, line, "a second `use` line for %s::%s" % (crate, name), name)
                 seen.add((crate, name))
@@ -459,11 +476,11 @@ class Repository:
                 line = ("ghost use %s.{%s};" if ghost else "use %s.{%s}") % (i.module, words)
                 lines[i.line - 1] = None if not kept else line if line != i.text else i.text
             if file.name.endswith(".rt"):
-                seen = set()
-                for line, crate, name in file.code.uses:
-                    if not re.search(r"\b%s\b" % name, file.code.code) or (crate, name) in seen:
-                        lines[line - 1] = None
-                    seen.add((crate, name))
+                unused, seen = self.unused_uses(file), set()
+                for use in file.code.uses:
+                    if use in unused or use[1:] in seen:
+                        lines[use[0] - 1] = None
+                    seen.add(use[1:])
             text = "\n".join(line for line in lines if line is not None)
             if text != file.text:
                 file.path.write_text(text)
@@ -483,13 +500,13 @@ class Repository:
     def check_definitions(self):
         cited_names = self.ends()
         ends = {(f, n) for f, n, _ in ENDS}
-        declared = {}  # (file, name) -> declaration; constructors too
+        declared = {}  # (file, name) -> declaration; a constructor stands for its type
         for file in self.antt.values():
+            file.own = []
             for d in file.declarations:
-                declared[file.name, d.name] = d
-                if d.kind == "data":
-                    for part, _ in d.parts:
-                        declared[file.name, part] = d
+                for name in [d.name, *(part for part, _ in d.parts if d.kind == "data")]:
+                    declared[file.name, name] = d
+                    file.own.append((name, file.name, name))
 
         def is_end(file, d):
             short = file.name[len("crates/"):]
@@ -523,15 +540,9 @@ class Repository:
         roots = []
         for file in self.antt.values():
             names, modules = scope(file, file.imports)
-            own = [(n, file.name, n) for f, n in declared if f == file.name]
-            file.own = own
             for d in file.declarations:
-                users[d] = set()
-                for there, e in used(d.words, names, modules):
-                    users[d].add(e)
-                for _, e in used(d.words, own, {}):
-                    if e is not d:
-                        users[d].add(e)
+                users[d] = {e for _, e in used(d.words, names, modules)}
+                users[d].update(e for _, e in used(d.words, file.own, {}) if e is not d)
                 if is_end(file, d):
                     roots.append(d)
                     outside.add(d)
@@ -540,15 +551,10 @@ class Repository:
             for _, e in used(file.code.clauses, names, modules):
                 roots.append(e)
                 outside.add(e)
-        for edit in self.edits:
-            crate = edit.path.parent.parent.name
-            for target, _, new in edit_pairs(edit):
-                file = self.antt.get("crates/%s/%s" % (crate, target)) or self.rt.get("crates/%s/%s" % (crate, target))
-                if file:
-                    is_antt = file.name.endswith(".antt")
-                    names, modules = scope(file, file.imports if is_antt else file.code.imports)
-                    for _, e in used(Words(lex(new)), names + (file.own if is_antt else []), modules):
-                        roots.append(e)
+        for file in [*self.antt.values(), *self.rt.values()]:
+            is_antt = file.name.endswith(".antt")
+            names, modules = scope(file, file.imports if is_antt else file.code.imports)
+            roots += [e for _, e in used(file.edited, names + (file.own if is_antt else []), modules)]
         alive = set()
         while roots:
             d = roots.pop()
@@ -569,10 +575,6 @@ class Repository:
                 if d not in shown:
                     shown.add(d)
                     needed += [e for _, e in used(d.shown, file.own, {})]
-            by = {}
-            for d in file.declarations:
-                for e in users[d]:
-                    by.setdefault(e, []).append(d)
             for d in file.declarations:
                 if d.kind == "open":
                     continue
@@ -585,18 +587,15 @@ class Repository:
     def check_code(self):
         cited_names = self.ends()
         for file in self.rt.values():
-            module = file.path.stem
             for item in file.code.items:
                 if item.entry or item.name == "main" or item.name in cited_names:
                     continue
-                inside = any(file.code.names(item.name, item.kind, other.text) for other in file.code.items if other is not item)
+                inside = any(other.words.use(item) for other in file.code.items if other is not item)
                 outside = False
                 for other in self.rt.values():
-                    if other is file:
-                        continue
-                    by = module if other.crate == file.crate else file.crate
+                    by = file.path.stem if other.crate == file.crate else file.crate
                     imported = any(crate.split("::")[-1] == by and name == item.name for _, crate, name in other.code.uses)
-                    if imported and other.code.names(item.name, item.kind) or re.search(r"\b%s::%s\b" % (by, item.name), other.code.code):
+                    if other is not file and (imported and other.code.words.use(item) or (by, item.name) in other.code.words.behind):
                         outside = True
                 if item.kind == "fn" and item.pub and not outside:
                     self.find("function", file.name, item.line, "`%s` is `pub`, and %s" % (item.name, "no other crate uses it" if inside else "nothing uses it"), item.name)
@@ -672,7 +671,7 @@ class Repository:
             return None if any(name.endswith(word[2:]) for name in where) else "no definition ends so"
         if word in where or word in items or word in self.crates or word in labels or word in parameters or word in macros:
             return None
-        if (self.root / word).exists() or list(self.root.glob("*/" + word)):
+        if (self.root / word).exists() or list(self.root.glob("*/" + word)) or any(name.endswith("/" + word) for name in [*self.antt, *self.rt]):
             return None
         return "there is no such definition, field, function, crate, file or edit"
 
@@ -696,12 +695,11 @@ class Repository:
 
     def check_edits(self):
         for edit in self.edits:
-            crate = edit.path.parent.parent
             texts, pairs = {}, 0
             for target, old, new in edit_pairs(edit):
                 pairs += 1
                 if target not in texts:
-                    path = crate / target
+                    path = edit.crate / target
                     if not path.is_file():
                         self.find("edit", edit.name, 1, "there is no file %s" % target)
                         break
@@ -710,6 +708,12 @@ class Repository:
                 if count != 1:
                     self.find("edit", edit.name, 1, "its `old:` text stands %s in %s" % ("%d times" % count if count else "nowhere", target))
                 texts[target] = texts[target].replace(old, new, 1)
+            for target, _, new in edit_pairs(edit):  # refused for want of a name, it would say nothing
+                if target in texts and target.endswith(".antt"):
+                    rest = {part for token in lex(texts[target].replace(new, "", 1)) for part in [token.text, *token.text.split("_")]}
+                    for name in sorted(Words(lex(new)).bare - rest):
+                        if not name[0].isdigit() and not new.startswith("use "):
+                            self.find("edit", edit.name, 1, "it puts in `%s`, which is not in %s" % (name, target))
             if not pairs:
                 self.find("edit", edit.name, 1, "it has no `old:` and `new:`")
 
@@ -844,6 +848,7 @@ BREAKS = [  # what is broken, file, old text, new text, the finding
     ("a second cited edit that is not there", "docs/PROMISES.md", ", four_times", ", five_times", "there is no edit one/five_times"),
     ("an old text that stands twice", "crates/one/must-fail/three_times.edit", "old:     if small(n) { return n + n; }", "old: n + n", "its `old:` text stands 2 times"),
     ("an old text that is not there", "crates/one/must-fail/four_times.edit", "old: twice", "old: thrice", "its `old:` text stands nowhere"),
+    ("an edit with a name that is not there", "crates/one/must-fail/four_times.edit", "new: twice n = n", "new: twice n = n - n", "it puts in `-`"),
     ("a file of 501 lines", "crates/one/proofs/More.antt", "", "\n" * 501, "501 lines, and 500 are the most"),
     ("a line of 401 characters", "crates/one/proofs/More.antt", "", "-- " + "x" * 398, "a line of 401 characters"),
     ("no index of modules", "crates/one/proofs/Lib.antt", "-- Halves: laws of halves.\n", "", "3 modules, and no comment"),
