@@ -708,11 +708,12 @@ class Repository:
                 if count != 1:
                     self.find("edit", edit.name, 1, "its `old:` text stands %s in %s" % ("%d times" % count if count else "nowhere", target))
                 texts[target] = texts[target].replace(old, new, 1)
-            for target, _, new in edit_pairs(edit):  # refused for want of a name, it would say nothing
-                if target in texts and target.endswith(".antt"):
-                    rest = {part for token in lex(texts[target].replace(new, "", 1)) for part in [token.text, *token.text.split("_")]}
-                    for name in sorted(Words(lex(new)).bare - rest):
-                        if not name[0].isdigit() and not new.startswith("use "):
+            for target, old, new in edit_pairs(edit):  # refused for want of a name, it would say nothing
+                if target in texts and target.endswith(".antt") and not new.startswith("use "):
+                    there = lex(old + " = λ\n" + texts[target].replace(new, "", 1))
+                    there = {part for token in there for part in [token.text, *token.text.split("_")]}
+                    for name in sorted(Words(lex(new)).bare - there):
+                        if not name[0].isdigit():
                             self.find("edit", edit.name, 1, "it puts in `%s`, which is not in %s" % (name, target))
             if not pairs:
                 self.find("edit", edit.name, 1, "it has no `old:` and `new:`")
