@@ -1,5 +1,4 @@
 // Commits that are refused for sizes, lengths and words, in the order of the committer's tests: 1 2 3.
-use super::calls::commit_front;
 use super::inputs::COEFFICIENTS;
 use super::inputs::MASKS;
 use super::inputs::NONCES;
@@ -15,12 +14,10 @@ use super::sizes::Lengths;
 use super::sizes::shape;
 use super::sizes::shorter;
 use super::small::NONE;
+use super::small::commit_small;
 use super::small::print_same;
 use super::small::small;
-use super::small::small_coefficients;
 use super::small::small_lengths;
-use super::small::small_masks;
-use super::small::small_tails;
 use commitment::Shape;
 use commitment::put_bytes;
 
@@ -36,23 +33,10 @@ fn written_digest(table: &[u32], tree: &[u8]) -> [u8; 32] {
 
 // Commits with these sizes and lengths, and the last word of one slice made q.
 fn print_attempt(s: Shape, n: Lengths, spoiled: usize) {
-    let coefficients = small_coefficients(spoiled);
-    let tails = small_tails(spoiled);
-    let masks = small_masks(spoiled);
-    let nonces = filled_bytes(NONCES);
     let mut table = filled_words(TABLE);
     let mut tree = filled_bytes(TREE);
     let before = written_digest(&table, &tree);
-    let v = commit_front(
-        s,
-        n,
-        &coefficients,
-        &tails,
-        &masks,
-        &nonces,
-        &mut table,
-        &mut tree,
-    );
+    let v = commit_small(s, n, spoiled, &mut table, &mut tree);
     print_sizes(s);
     print_number(b" commit ", v as u64);
     print_same(before, written_digest(&table, &tree));

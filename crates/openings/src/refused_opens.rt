@@ -1,5 +1,4 @@
 // Openings that are refused, in the order of the opener's tests: 6 5 1 6 3 4 2 3 8. The reply's length is asked for before each.
-use super::calls::commit_front;
 use super::calls::front_bytes;
 use super::calls::open_front;
 use super::inputs::COEFFICIENTS;
@@ -20,6 +19,7 @@ use super::questions::put_question;
 use super::sizes::Lengths;
 use super::sizes::shorter;
 use super::small::NONE;
+use super::small::commit_small;
 use super::small::print_same;
 use super::small::small;
 use super::small::small_coefficients;
@@ -37,13 +37,14 @@ const REPLY_BOUND: usize = 272;
 // No byte is raised at a place beyond all buffers.
 const NOWHERE: usize = 65536;
 
+// An opening at the small sizes with something wrong: a byte of the question or the tree is raised by 1, the last word of one slice is made q.
 struct Attempt {
     lengths: Lengths,
     reply_length: usize,
     asked: Asked,
-    question_at: usize, // the byte of the question that is raised by 1
-    tree_at: usize, // that of the tree, after the question is made
-    spoiled: usize, // the slice whose last word is made q
+    question_at: usize,
+    tree_at: usize,
+    spoiled: usize,
 }
 
 fn sound_question() -> Asked {
@@ -73,23 +74,6 @@ fn raise(bytes: &mut [u8], at: usize) {
     if at < bytes.len() {
         bytes[at] = next_byte(bytes[at]);
     }
-}
-
-fn commit_small(table: &mut [u32], tree: &mut [u8]) {
-    let coefficients = small_coefficients(NONE);
-    let tails = small_tails(NONE);
-    let masks = small_masks(NONE);
-    let nonces = filled_bytes(NONCES);
-    commit_front(
-        small(),
-        small_lengths(),
-        &coefficients,
-        &tails,
-        &masks,
-        &nonces,
-        table,
-        tree,
-    );
 }
 
 fn number_of(answer: Opened) -> u64 {
@@ -124,13 +108,13 @@ fn print_open(a: Attempt, question: &[u8], table: &[u32], tree: &[u8]) {
     print_same(before, sponge::digest(&reply));
 }
 
-// Commits, asks, makes what is to be wrong wrong, and opens.
+// Commits, asks, makes what is lent wrong, and opens.
 fn print_attempt(a: Attempt) {
     let n = small_lengths();
     let mut table = filled_words(TABLE);
     let mut tree = filled_bytes(TREE);
     let mut question = io::buffer();
-    commit_small(&mut table, &mut tree);
+    commit_small(small(), n, NONE, &mut table, &mut tree);
     put_question(small(), a.asked, front_bytes(&tree, n.tree), &mut question);
     raise(&mut question, a.question_at);
     raise(&mut tree, a.tree_at);

@@ -1,8 +1,11 @@
-// The sizes at which calls are refused, and inputs for them with one word that is no element.
+// The sizes at which calls are refused, and inputs for them in which one word can be no element.
+use super::calls::commit_front;
 use super::inputs::COEFFICIENTS;
 use super::inputs::MASKS;
+use super::inputs::NONCES;
 use super::inputs::Q;
 use super::inputs::TAILS;
+use super::inputs::filled_bytes;
 use super::inputs::filled_words;
 use super::printing::print;
 use super::sizes::Lengths;
@@ -49,6 +52,21 @@ pub fn small_tails(spoiled: usize) -> [u32; 16384] {
 
 pub fn small_masks(spoiled: usize) -> [u32; 16384] {
     spoiled_words(MASKS, 7, spoiled)
+}
+
+// Commits with the last word of one slice made q.
+pub fn commit_small(
+    s: Shape,
+    n: Lengths,
+    spoiled: usize,
+    table: &mut [u32],
+    tree: &mut [u8],
+) -> u32 {
+    let coefficients = small_coefficients(spoiled);
+    let tails = small_tails(spoiled);
+    let masks = small_masks(spoiled);
+    let nonces = filled_bytes(NONCES);
+    commit_front(s, n, &coefficients, &tails, &masks, &nonces, table, tree)
 }
 
 // Whether what may be written is as before, by digests.
