@@ -4,7 +4,7 @@
     tools/stored_openings.py            writes it
     tools/stored_openings.py --check    makes it anew and compares it with what is stored
 
-Nothing here runs the proved program: the inputs are made by the rules that crates/openings/src/main.rt states, every outcome
+Nothing here runs the proved program: the inputs are made by the rules that crates/openings/src/inputs.rt states, every outcome
 is what reference/smallwood.py says, and each reply is checked by it. Each refusal also has the number that its construction gives.
 """
 

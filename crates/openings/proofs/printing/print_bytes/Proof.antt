@@ -1,10 +1,10 @@
--- `openings::print_bytes` is safe and ends.
+-- `openings::printing::print_bytes` is safe and ends.
 use borrow.Author.Needs.{needs}
 use lib.ListN.{length}
 use Prim.Native.Nat.{_-_, _≤_}
 use mathlib.Core.Path.{_≡_}
-use Rattle.openings.proofs.print_bytes.Statement.{statement}
-use Rattle.openings.proofs.print_bytes.Tie as tie
+use Rattle.openings.proofs.printing.print_bytes.Statement.{statement}
+use Rattle.openings.proofs.printing.print_bytes.Tie as tie
 
 abbrev Inv-loop : tie.InvT-loop
 Inv-loop name bytes i₀ t4 i-end i = (i ≤ i-end) × (i-end ≡ length bytes)

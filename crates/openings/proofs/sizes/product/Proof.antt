@@ -1,9 +1,9 @@
--- `openings::product` meets its contract.
+-- `openings::sizes::product` meets its contract.
 use Prim.Native.Nat.{_*_, _%_, _≤_}
 use native.Mathlib.Nat.{mul-le-mul}
 use native.Mathlib.Omega.{arith}
-use Rattle.openings.proofs.product.Statement.{statement}
-use Rattle.openings.proofs.product.Tie as tie
+use Rattle.openings.proofs.sizes.product.Statement.{statement}
+use Rattle.openings.proofs.sizes.product.Tie as tie
 
 mul-result : tie.Need-mul-result
 mul-result c =

@@ -1,22 +1,22 @@
--- `openings::fill_points` is safe and ends.
+-- `openings::inputs::fill_words` is safe and ends.
 use borrow.Author.Needs.{needs}
 use lib.ListN.{length}
 use Prim.Native.Nat.{_-_, _≤_}
 use mathlib.Core.Path.{_≡_}
-use Rattle.openings.proofs.fill_points.Statement.{statement}
-use Rattle.openings.proofs.fill_points.Tie as tie
+use Rattle.openings.proofs.inputs.fill_words.Statement.{statement}
+use Rattle.openings.proofs.inputs.fill_words.Tie as tie
 
 abbrev Inv-loop : tie.InvT-loop
-Inv-loop out₀ k₀ k-end out k = (k ≤ k-end) × (k-end ≡ length out₀) × (length out ≡ length out₀)
+Inv-loop tag out₀ i₀ i-end out i = (i ≤ i-end) × (i-end ≡ length out₀) × (length out ≡ length out₀)
 
 abbrev μ-loop : tie.MeasureT-loop
-μ-loop out₀ k₀ k-end out k = k-end - k
+μ-loop tag out₀ i₀ i-end out i = i-end - i
 
 loop-holds : tie.Need-loop-holds Inv-loop μ-loop
 loop-holds c = search needs
 
-point-of-requires : tie.Need-point-of-requires Inv-loop μ-loop
-point-of-requires c κs = search needs
+word-of-requires : tie.Need-word-of-requires Inv-loop μ-loop
+word-of-requires c κs = search needs
 
 mul-out : tie.Need-mul-out Inv-loop μ-loop
 mul-out c = search needs
@@ -24,8 +24,8 @@ mul-out c = search needs
 slice-write-out : tie.Need-slice-write-out Inv-loop μ-loop
 slice-write-out c = search needs
 
-add-k : tie.Need-add-k Inv-loop μ-loop
-add-k c = search needs
+add-i : tie.Need-add-i Inv-loop μ-loop
+add-i c = search needs
 
 loop-less : tie.Need-loop-less Inv-loop μ-loop
 loop-less c = search needs
@@ -39,17 +39,17 @@ same-length c = search needs
 returns : tie.Need-returns Inv-loop μ-loop
 returns c = search needs
 
-pub fill-points-spec : {M : Type 1} → statement M
-fill-points-spec =
+pub fill-words-spec : {M : Type 1} → statement M
+fill-words-spec =
     tie.close
     (tie.spec
     Inv-loop
     μ-loop
     loop-holds
-    point-of-requires
+    word-of-requires
     mul-out
     slice-write-out
-    add-k
+    add-i
     loop-less
     loop-again
     same-length

@@ -1,11 +1,11 @@
--- `openings::fill_indices` is safe and ends.
+-- `openings::questions::put_indices` is safe and ends.
 use borrow.Author.Needs.{needs}
 use lib.ListN.{length, length-set}
 use native.Mathlib.Omega.{arith}
 use Prim.Native.Nat.{_-_, _≤_, _*_}
 use mathlib.Core.Path.{_≡_}
-use Rattle.openings.proofs.fill_indices.Statement.{statement}
-use Rattle.openings.proofs.fill_indices.Tie as tie
+use Rattle.openings.proofs.questions.put_indices.Statement.{statement}
+use Rattle.openings.proofs.questions.put_indices.Tie as tie
 
 abbrev Inv-loop : tie.InvT-loop
 Inv-loop first step out₀ n k₀ out k = (k ≤ n) × (2 * n ≤ length out₀) × (length out ≡ length out₀)
@@ -58,8 +58,8 @@ same-length c = search needs
 returns : tie.Need-returns Inv-loop μ-loop
 returns c = search needs
 
-pub fill-indices-spec : {M : Type 1} → statement M
-fill-indices-spec =
+pub put-indices-spec : {M : Type 1} → statement M
+put-indices-spec =
     tie.close
     (tie.spec
     Inv-loop

@@ -1,10 +1,10 @@
--- `openings::fill_bytes` is safe and ends.
+-- `openings::inputs::fill_bytes` is safe and ends.
 use borrow.Author.Needs.{needs}
 use lib.ListN.{length}
 use Prim.Native.Nat.{_-_, _≤_}
 use mathlib.Core.Path.{_≡_}
-use Rattle.openings.proofs.fill_bytes.Statement.{statement}
-use Rattle.openings.proofs.fill_bytes.Tie as tie
+use Rattle.openings.proofs.inputs.fill_bytes.Statement.{statement}
+use Rattle.openings.proofs.inputs.fill_bytes.Tie as tie
 
 abbrev Inv-loop : tie.InvT-loop
 Inv-loop tag out₀ i₀ i-end out i = (i ≤ i-end) × (i-end ≡ length out₀) × (length out ≡ length out₀)

@@ -1,0 +1,76 @@
+// Digests, and what is printed.
+use super::calls::front_bytes;
+use super::calls::front_words;
+use commitment::Shape;
+use codec::put_words;
+use libc::STDOUT_FILENO;
+use planner::Planned;
+use planner::reply_length;
+
+// Room for the largest table as bytes.
+fn blank_bytes() -> [u8; 1114112] {
+    [0u8; 1114112]
+}
+
+// The digest of words as bytes.
+pub fn word_digest(words: &[u32]) -> [u8; 32] {
+    let front = front_words(words, 278528);
+    let end = 4 * front.len();
+    let mut bytes = blank_bytes();
+    put_words(&mut bytes, 0, front);
+    sponge::digest(front_bytes(&bytes, end))
+}
+
+fn wide(b: u8) -> u64 {
+    b as u64
+}
+
+pub fn print(text: &[u8]) {
+    io::write_all(STDOUT_FILENO, text);
+}
+
+pub fn print_bytes(name: &[u8], bytes: &[u8]) {
+    print(name);
+    for i in 0..bytes.len() {
+        io::print_hex(STDOUT_FILENO, wide(bytes[i]), 2);
+    }
+    print(b"\n");
+}
+
+pub fn print_number(name: &[u8], n: u64) {
+    print(name);
+    io::print_decimal(STDOUT_FILENO, n);
+}
+
+pub fn print_sizes(s: Shape) {
+    print_number(b"h ", s.h as u64);
+    print_number(b" mu ", s.mu as u64);
+    print_number(b" nu ", s.nu as u64);
+    print_number(b" w ", s.w as u64);
+    print_number(b" l ", s.l as u64);
+    print_number(b" eta ", s.eta as u64);
+}
+
+pub fn print_digest(name: &[u8], bytes: &[u8]) {
+    let d = sponge::digest(bytes);
+    print_bytes(name, &d);
+}
+
+pub fn print_word_digest(name: &[u8], words: &[u32]) {
+    let d = word_digest(words);
+    print_bytes(name, &d);
+}
+
+// Asks for the length of the reply to a question: prints the number, and with 0 the length. Returns the length, or 0.
+pub fn print_reply_length(question: &[u8]) -> usize {
+    match reply_length(question) {
+        Planned::Length(n) => {
+            print_number(b"size 0 ", n as u64);
+            n
+        }
+        Planned::Refused(v) => {
+            print_number(b"size ", v as u64);
+            0
+        }
+    }
+}

@@ -1,0 +1,83 @@
+// Commits that are refused for sizes, lengths and words, in the order of the committer's tests: 1 2 3.
+use super::inputs::COEFFICIENTS;
+use super::inputs::MASKS;
+use super::inputs::NONCES;
+use super::inputs::TABLE;
+use super::inputs::TAILS;
+use super::inputs::TREE;
+use super::inputs::filled_bytes;
+use super::inputs::filled_words;
+use super::printing::print_number;
+use super::printing::print_sizes;
+use super::printing::word_digest;
+use super::sizes::Lengths;
+use super::sizes::shape;
+use super::sizes::shorter;
+use super::small::NONE;
+use super::small::commit_small;
+use super::small::print_same;
+use super::small::small;
+use super::small::small_lengths;
+use commitment::Shape;
+use codec::put_bytes;
+
+// One digest of all that committing may write.
+fn written_digest(table: &[u32], tree: &[u8]) -> [u8; 32] {
+    let mut both = [0u8; 64];
+    let t = word_digest(table);
+    put_bytes(&mut both, 0, &t);
+    let d = sponge::digest(tree);
+    put_bytes(&mut both, 32, &d);
+    sponge::digest(&both)
+}
+
+// Commits with these sizes and lengths, and the last word of one slice made q.
+fn print_attempt(s: Shape, n: Lengths, spoiled: usize) {
+    let mut table = filled_words(TABLE);
+    let mut tree = filled_bytes(TREE);
+    let before = written_digest(&table, &tree);
+    let v = commit_small(s, n, spoiled, &mut table, &mut tree);
+    print_sizes(s);
+    print_number(b" commit ", v as u64);
+    print_same(before, written_digest(&table, &tree));
+}
+
+fn with_sizes(s: Shape) {
+    print_attempt(s, small_lengths(), NONE);
+}
+
+fn with_shorter(slice: usize) {
+    print_attempt(small(), shorter(small_lengths(), slice), NONE);
+}
+
+fn with_spoiled(slice: usize) {
+    print_attempt(small(), small_lengths(), slice);
+}
+
+pub fn print_refused_commits() {
+    with_sizes(shape(0, 2, 1, 2, 2, 2));
+    with_sizes(shape(13, 2, 1, 2, 2, 2));
+    with_sizes(shape(2, 0, 1, 2, 2, 2));
+    with_sizes(shape(2, 65, 1, 2, 2, 2));
+    with_sizes(shape(2, 2, 0, 2, 2, 2));
+    with_sizes(shape(2, 2, 257, 2, 2, 2));
+    with_sizes(shape(2, 2, 1, 0, 2, 2));
+    with_sizes(shape(2, 2, 1, 257, 2, 2));
+    with_sizes(shape(12, 2, 16, 17, 2, 2));
+    with_sizes(shape(2, 2, 1, 2, 0, 2));
+    with_sizes(shape(12, 2, 1, 2, 65, 2));
+    with_sizes(shape(2, 2, 1, 2, 2, 0));
+    with_sizes(shape(2, 2, 1, 2, 2, 5));
+    with_sizes(shape(2, 2, 1, 2, 3, 2));
+    with_shorter(COEFFICIENTS);
+    with_shorter(TAILS);
+    with_shorter(MASKS);
+    with_shorter(NONCES);
+    with_shorter(TABLE);
+    with_shorter(TREE);
+    with_spoiled(COEFFICIENTS);
+    with_spoiled(TAILS);
+    with_spoiled(MASKS);
+    // Nothing wrong: accepted, and changed.
+    with_spoiled(NONE);
+}
