@@ -24,7 +24,7 @@ use Rattle.scheme.specs.Sizes.{leafPoint}
 use Rattle.lists.specs.Rows.{rowsOf, row-at, length-rows}
 use Rattle.opened.specs.Powers.{powersAt}
 use Rattle.opened.proofs.Powers.{dot-row}
-use Rattle.evaluation_test.specs.Evaluation.{weighedRow, weighedAt, weighedAll, weighedLeaf, evaluatedAt, evaluatedLeaf}
+use Rattle.evaluation_test.specs.Evaluation.{Fits, weighedRow, weighedAt, weighedAll, weighedLeaf, evaluatedAt, evaluatedLeaf}
 
 -- the code's two sides at one point
 pub sides : (m : ℕ) (inverses weights weighed scales rows lefts sums : List ℕ) (p total : ℕ) (r : Bool) → p < m → length inverses ≡ length weights
@@ -120,8 +120,8 @@ pub rooms-do : (leaves width μ at size : ℕ) (points answers indices reply sca
     × (width * length points ≤ length answers) × (4 * μ ≤ size) × (at + size * length indices ≤ length reply)
     → width ≤ length weights → width ≤ length products → width ≤ length room → μ ≤ length rows → μ * length points ≤ length scales
     → (length points ≤ 8) × (0 < leaves) × (leaves ≤ 4096) × Below leaves indices × (length indices ≤ 64) × (0 < length (take (width - 0) weights)) × (length (take (width - 0) weights) ≤ tableSize)
-    × (length (take (μ - 0) rows) ≤ 64) × (length (take (width - 0) weights) * length points ≤ length answers) × (length (take (μ - 0) rows) * length points ≤ length scales)
-    × (4 * length (take (μ - 0) rows) ≤ size) × (at + size * length indices ≤ length reply) × (length (take (width - 0) products) ≡ length (take (width - 0) weights)) × (length (take (width - 0) room) ≡ length (take (width - 0) weights))
+    × (length (take (μ - 0) rows) ≤ 64)
+    × Fits (length points) (take (width - 0) weights) answers (take (μ - 0) rows) scales at size indices reply (take (width - 0) products) (take (width - 0) room)
 rooms-do leaves width μ at size points answers indices reply scales weights rows products room h w p r m t =
     let wide : width ≡ length (take (width - 0) weights) = sym (front-length width weights w) in
     let leaf : μ ≡ length (take (μ - 0) rows) = sym (front-length μ rows m) in (
@@ -133,10 +133,12 @@ rooms-do leaves width μ at size points answers indices reply scales weights row
       subst (λ (k : ℕ). 0 < k) wide (h .4),
       subst (λ (k : ℕ). k ≤ tableSize) wide (h .5),
       subst (λ (k : ℕ). k ≤ 64) leaf (h .6),
-      subst (λ (k : ℕ). k * length points ≤ length answers) wide (h .8),
-      subst (λ (k : ℕ). k * length points ≤ length scales) leaf t,
-      subst (λ (k : ℕ). 4 * k ≤ size) leaf (h .9),
-      h .10,
-      front-length width products p ∙ wide,
-      front-length width room r ∙ wide,
+      (
+        subst (λ (k : ℕ). k * length points ≤ length answers) wide (h .8),
+        subst (λ (k : ℕ). k * length points ≤ length scales) leaf t,
+        subst (λ (k : ℕ). 4 * k ≤ size) leaf (h .9),
+        h .10,
+        front-length width products p ∙ wide,
+        front-length width room r ∙ wide,
+      ),
     )

@@ -1,9 +1,11 @@
 -- The test of evaluation answers at opened leaves, on words: answers stand in flat lists, one after the other.
+use mathlib.Core.Path.{_≡_}
 use mathlib.Core.Bool.{Bool}
 use mathlib.Core.List.{List}
-use Prim.Native.Nat.{ℕ, _-_}
+use Prim.Native.Nat.{ℕ, _+_, _-_, _*_, _≤_}
 use lib.Dec.{eqb}
 use lib.ListN.{length, getD}
+use Rattle.lists.specs.Bytes.{Bytes}
 use Rattle.lists.specs.Range.{upFrom}
 use Rattle.lists.specs.Pieces.{piece}
 use Rattle.lists.specs.Tests.{each}
@@ -39,3 +41,9 @@ evaluatedAt first width points answers x rows p = eqb (evalN (interpN (upFrom fi
 -- all answers agree with opened leaf a, whose row values are `rows a`
 unfoldable pub evaluatedLeaf : ℕ → ℕ → List ℕ → List ℕ → List ℕ → (ℕ → List ℕ) → ℕ → Bool
 evaluatedLeaf first width points answers indices rows a = each (length points) (evaluatedAt first width points answers (leafPoint (getD indices a 0)) (rows a))
+
+-- what the walks are lent fits together: a weighed answer and a row of powers for each of m points, records of `size` bytes from `at` on for all indices, and room
+abbrev pub Fits : ℕ → List ℕ → List ℕ → List ℕ → List ℕ → ℕ → ℕ → List ℕ → Bytes → List ℕ → List ℕ → Type 0
+Fits m weights weighed rows scales at size indices reply products room =
+    (length weights * m ≤ length weighed) × (length rows * m ≤ length scales) × (4 * length rows ≤ size) × (at + size * length indices ≤ length reply)
+    × (length products ≡ length weights) × (length room ≡ length weights)

@@ -15,7 +15,7 @@ ghost use Rattle.algebra.specs.Table.{tableSize};
 ghost use Rattle.algebra.specs.Inverse.{invN};
 ghost use Rattle.opened.specs.Records.{recordWordsAt};
 ghost use Rattle.lists.specs.Rows.{rowsOf};
-ghost use Rattle.evaluation_test.specs.Evaluation.{weighedRow, weighedAt, weighedAll, weighedLeaf, evaluatedLeaf};
+ghost use Rattle.evaluation_test.specs.Evaluation.{Fits, weighedRow, weighedAt, weighedAll, weighedLeaf, evaluatedLeaf};
 use field::Element;
 use opened::fill_powers;
 use opened::opened_point;
@@ -104,7 +104,7 @@ fn evaluation_walk(
     products: &mut [u32],
     room: &mut [u32],
 ) -> bool
-    requires { ⌜ (m ≤ 8) × (first ≤ 65536) × Below first (now indices) × (length (now indices) ≤ 64) × Filled invN (now table) 1 (length (now table)) × (length (now weights) ≤ 65536) × (length (now rows) ≤ 65536) × (length (now weights) * m ≤ length (now weighed)) × (length (now rows) * m ≤ length (now scales)) × (4 * length (now rows) ≤ size) × (at + size * length (now indices) ≤ length (now reply)) × (length (now products) ≡ length (now weights)) × (length (now room) ≡ length (now weights)) ⌝ }
+    requires { ⌜ (m ≤ 8) × (first ≤ 65536) × Below first (now indices) × (length (now indices) ≤ 64) × Filled invN (now table) 1 (length (now table)) × (length (now weights) ≤ 65536) × (length (now rows) ≤ 65536) × Fits m (now weights) (now weighed) (now rows) (now scales) at size (now indices) (now reply) (now products) (now room) ⌝ }
     ensures { λ r. ⌜ r ≡ each (length (now (indices .entry))) (weighedLeaf m first (now (weights .entry)) (now (weighed .entry)) (now (scales .entry)) (now (indices .entry)) (recordWordsAt at size (length (now (rows .entry))) (now (reply .entry)))) ⌝ }
 {
     for a in 0..indices.len() {
@@ -159,7 +159,7 @@ fn tabled_walk(
     products: &mut [u32],
     room: &mut [u32],
 ) -> bool
-    requires { ⌜ (m ≤ 8) × (first ≤ 65536) × Below first (now indices) × (length (now indices) ≤ 64) × (2 ≤ length (now table)) × (length (now table) ≤ 65536) × (length (now weights) ≤ 65536) × (length (now rows) ≤ 65536) × (length (now weights) * m ≤ length (now weighed)) × (length (now rows) * m ≤ length (now scales)) × (4 * length (now rows) ≤ size) × (at + size * length (now indices) ≤ length (now reply)) × (length (now products) ≡ length (now weights)) × (length (now room) ≡ length (now weights)) ⌝ }
+    requires { ⌜ (m ≤ 8) × (first ≤ 65536) × Below first (now indices) × (length (now indices) ≤ 64) × (2 ≤ length (now table)) × (length (now table) ≤ 65536) × (length (now weights) ≤ 65536) × (length (now rows) ≤ 65536) × Fits m (now weights) (now weighed) (now rows) (now scales) at size (now indices) (now reply) (now products) (now room) ⌝ }
     ensures { λ r. ⌜ r ≡ each (length (now (indices .entry))) (weighedLeaf m first (now (weights .entry)) (now (weighed .entry)) (now (scales .entry)) (now (indices .entry)) (recordWordsAt at size (length (now (rows .entry))) (now (reply .entry)))) ⌝ }
 {
     barycentric::inverses(table);
@@ -204,7 +204,7 @@ fn choosing_walk(
     products: &mut [u32],
     room: &mut [u32],
 ) -> bool
-    requires { ⌜ (m ≤ 8) × (0 < first) × (first ≤ 4096) × Below first (now indices) × (length (now indices) ≤ 64) × (0 < length (now weights)) × (length (now weights) ≤ 320) × (length (now rows) ≤ 65536) × (length (now weights) * m ≤ length (now weighed)) × (length (now rows) * m ≤ length (now scales)) × (4 * length (now rows) ≤ size) × (at + size * length (now indices) ≤ length (now reply)) × (length (now products) ≡ length (now weights)) × (length (now room) ≡ length (now weights)) ⌝ }
+    requires { ⌜ (m ≤ 8) × (0 < first) × (first ≤ 4096) × Below first (now indices) × (length (now indices) ≤ 64) × (0 < length (now weights)) × (length (now weights) ≤ 320) × (length (now rows) ≤ 65536) × Fits m (now weights) (now weighed) (now rows) (now scales) at size (now indices) (now reply) (now products) (now room) ⌝ }
     ensures { λ r. ⌜ r ≡ each (length (now (indices .entry))) (weighedLeaf m first (now (weights .entry)) (now (weighed .entry)) (now (scales .entry)) (now (indices .entry)) (recordWordsAt at size (length (now (rows .entry))) (now (reply .entry)))) ⌝ }
 {
     let n = table_length(first, weights.len(), indices.len());
@@ -275,7 +275,7 @@ fn evaluation_in(
     products: &mut [u32],
     room: &mut [u32],
 ) -> bool
-    requires { ⌜ (length (now points) ≤ 8) × (0 < leaves) × (leaves ≤ 4096) × Below leaves (now indices) × (length (now indices) ≤ 64) × (0 < length (now weights)) × (length (now weights) ≤ tableSize) × (length (now rows) ≤ 64) × (length (now weights) * length (now points) ≤ length (now answers)) × (length (now rows) * length (now points) ≤ length (now scales)) × (4 * length (now rows) ≤ size) × (at + size * length (now indices) ≤ length (now reply)) × (length (now products) ≡ length (now weights)) × (length (now room) ≡ length (now weights)) ⌝ }
+    requires { ⌜ (length (now points) ≤ 8) × (0 < leaves) × (leaves ≤ 4096) × Below leaves (now indices) × (length (now indices) ≤ 64) × (0 < length (now weights)) × (length (now weights) ≤ tableSize) × (length (now rows) ≤ 64) × Fits (length (now points)) (now weights) (now answers) (now rows) (now scales) at size (now indices) (now reply) (now products) (now room) ⌝ }
     ensures { λ r. ⌜ r ≡ each (length (now (indices .entry))) (evaluatedLeaf leaves (length (now (weights .entry))) (now (points .entry)) (now (answers .entry)) (now (indices .entry)) (recordWordsAt at size (length (now (rows .entry))) (now (reply .entry)))) ⌝ }
 {
     let m = points.len();

@@ -1,3 +1,7 @@
+-- What committer and opener are lent.
+
+-- its tests
 pub mod Measures
-pub mod Rows
+-- where the elements of a row stand in it
 pub mod Strides
+pub mod Rows

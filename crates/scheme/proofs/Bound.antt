@@ -1,5 +1,5 @@
 -- Two accepted calls under one root and one depth have the same record at a leaf that both open, where no two strings that they hash share a digest.
--- Assumes nothing: that no two do is a hypothesis.
+-- That no two do is a hypothesis.
 use mathlib.Core.Path.{_≡_, refl, sym, ap, _∙_, subst}
 use mathlib.Core.Bool.{Bool}
 use mathlib.Core.List.{List, [], _∷_, _++_, map, List·Memᴰ as Mem, List·Memᴰ·tail as there}

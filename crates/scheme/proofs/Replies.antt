@@ -1,5 +1,5 @@
 -- Collected replies: exactly one list of rows takes the opened values, and every evaluation answer accepted at enough leaves gives the true values.
--- Assumes nothing: that no two different strings hashed share a digest is a hypothesis of the claim.
+-- That no two different strings hashed share a digest is a hypothesis of the claim.
 use mathlib.Core.Path.{_≡_, refl, sym, ap, ap₂, _∙_, subst}
 use mathlib.Core.List.{List, [], _∷_, map, List·Memᴰ as Mem, List·Memᴰ·head as here}
 use Prim.Native.Nat.{ℕ, zero, suc, _+_, _-_, _*_, _≤_, _<_}

@@ -43,7 +43,7 @@ valueLines m w values = flatten (map (λ p. flatten (map (λ i. valueLine p i (g
 
 -- `verdict `, the number, a line end; after verdict 0 a line for each point and polynomial
 unfoldable pub text : ℕ → Bytes → Bytes
-text v rows = (0x76 ∷ 0x65 ∷ 0x72 ∷ 0x64 ∷ 0x69 ∷ 0x63 ∷ 0x74 ∷ 32 ∷ []) ++ (decimal v ++ (10 ∷ pick (eqb v 0) rows []))
+text v rows = (0x76 ∷ 0x65 ∷ 0x72 ∷ 0x64 ∷ 0x69 ∷ 0x63 ∷ 0x74 ∷ 0x20 ∷ []) ++ (decimal v ++ (0x0A ∷ pick (eqb v 0) rows []))
 
 unfoldable pub printed : Bytes → Bytes
 printed input =

@@ -20,7 +20,7 @@ pub record Sizes : Type 0 where
 abbrev pub sizesOf : ℕ → ℕ → ℕ → ℕ → ℕ → ℕ → Sizes
 sizesOf h μ ν w ℓ η = record { h = h; μ = μ; ν = ν; w = w; ℓ = ℓ; η = η }
 
--- the children of a node of the tree, the levels below its root, and what a node's string begins with
+-- the children of a node of the tree, the levels below its root, and what a node's string begins with: a function of the sizes each, so that one place says it
 abbrev pub arity : Sizes → ℕ
 arity s = 2
 
