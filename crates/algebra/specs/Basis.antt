@@ -51,7 +51,9 @@ unfolding dot
 dot-ext [] [] l h = refl
 dot-ext [] (c ∷ cs) l h = absurd (suc-ne-zero _ (sym l))
 dot-ext (b ∷ bs) [] l h = absurd (suc-ne-zero _ l)
-dot-ext (b ∷ bs) (c ∷ cs) l h = ap₂ (λ (k : K) (t : List K). k ∷ t) (head b c bs cs (h (𝟏 ∷ replicate (length bs) 𝟎) (ap suc (length-replicate (length bs) 𝟎)))) (dot-ext bs cs (suc-inj l) (λ (ys : List K) (e : length ys ≡ length bs). tail b c ys bs cs (h (𝟎 ∷ ys) (ap suc e))))
+dot-ext (b ∷ bs) (c ∷ cs) l h =
+    ap₂ (λ (k : K) (t : List K). k ∷ t) (head b c bs cs (h (𝟏 ∷ replicate (length bs) 𝟎) (ap suc (length-replicate (length bs) 𝟎))))
+    (dot-ext bs cs (suc-inj l) (λ (ys : List K) (e : length ys ≡ length bs). tail b c ys bs cs (h (𝟎 ∷ ys) (ap suc e))))
   where
     one : (b : K) → 𝟏 ⊗ b ⊕ 𝟎 ≡ b
     one b = rw (← dv b) (simp ring (dif-path _ _ _ _ (omega arith)))

@@ -18,7 +18,7 @@ use Rattle.algebra.specs.Table.{tableSize}
 use Rattle.algebra.specs.Pairs.{pointsEnd}
 use Rattle.algebra.specs.Sums.{sumsOf, sums-powersN}
 use Rattle.algebra.specs.Dot.{accumulateN, accumulateN-at, length-accumulateN}
-use Rattle.algebra.specs.Numbers.{evalN, valuesAtN, interpN, interpN-below, interpN-length, interpN-values, Elements, Polys}
+use Rattle.algebra.specs.Numbers.{evalN, valuesAtN, interpN, interpN-values, Elements, Polys}
 use Rattle.algebra.specs.Values.{interp-polys}
 use Rattle.algebra.specs.Batch.{columnN, honestN}
 use Rattle.scheme.specs.Layers.{combination}
@@ -111,7 +111,7 @@ entries xs n e b d (r ∷ rs) h i l =
     ∙ getD-map-in (λ x. evalN (interpN xs r) x) xs i 0 0 (subst (λ (k : ℕ). i < k) (sym e) l))
     (entries xs n e b d rs (h .1) i l)
 
-pub interp-combination : (xs : List ℕ) (n z : ℕ) (es : List (List ℕ)) → length xs ≡ n → Elements xs → Distinct xs → Polys n es → 0 < length es
+interp-combination : (xs : List ℕ) (n z : ℕ) (es : List (List ℕ)) → length xs ≡ n → Elements xs → Distinct xs → Polys n es → 0 < length es
     → interpN xs (combination n z es) ≡ combination n z (map (interpN xs) es)
 interp-combination xs n z es e b d h some =
     let ps : List (List ℕ) = map (interpN xs) es in

@@ -18,7 +18,6 @@ use Rattle.algebra.specs.Dot.{longest, dotsOf, dots-length, dots-powersN}
 use Rattle.algebra.specs.Numbers.{Polys}
 use Rattle.scheme.specs.Sizes.{Sizes, SizesInOrder, leaves, rows, columns, width}
 use Rattle.scheme.specs.Layers.{Lent, lentOf, extended, extendedRows, combination}
-use Rattle.scheme.proofs.Accepted.{sizes-in-order}
 use Rattle.scheme.proofs.Lent.{LentFacts}
 use Rattle.scheme.proofs.HonestAnswers.{ext-polys, answer-parts}
 use Rattle.lists.specs.Parts.{rest-length, two-parts}

@@ -1,9 +1,8 @@
 -- The answers over the extended rows, and what the functions ask that write them.
 use mathlib.Core.Path.{_≡_}
-use mathlib.Core.List.{List, _∷_, _++_, map}
-use Prim.Native.Nat.{ℕ, _+_, _*_, _≤_, _<_}
-use lib.ListN.{length, getD, take, drop}
-use Rattle.lists.specs.Bytes.{Bytes}
+use mathlib.Core.List.{List, _∷_, map}
+use Prim.Native.Nat.{ℕ, _*_, _≤_, _<_}
+use lib.ListN.{length, getD}
 use Rattle.lists.specs.Pieces.{piece}
 use Rattle.lists.specs.Range.{upFrom}
 use Rattle.algebra.specs.Numbers.{Elements, interpN}

@@ -14,16 +14,16 @@ ghost use Rattle.scheme.specs.Sizes.{width};
 ghost use Rattle.commitment.specs.Shape.{sizesIn};
 ghost use Rattle.lists.specs.Spliced.{spliced};
 ghost use Rattle.answers.specs.Answers.{Lined, CanCombine, batchingOver, batchingAt, answerAt};
-use commitment::Shape;
-use commitment::column_count;
 use codec::put_words;
 use codec::word;
+use commitment::Shape;
+use commitment::column_count;
 use field::Element;
 use field::fold;
 use field::powers;
 use interpolation::interpolate_from;
-use sums::dots;
 use row_sums::sum_rows;
+use sums::dots;
 
 // Rows of at most so many entries are summed by Horner's rule, which needs no room for sums.
 const NARROW: usize = 8;

@@ -2,17 +2,16 @@
 use mathlib.Core.Path.{_≡_, sym, ap, ap₂, _∙_, subst}
 use mathlib.Core.Bool.{Bool, not}
 use mathlib.Core.List.{List, _∷_}
-use Prim.Native.Nat.{ℕ, _-_, _*_, _≤_}
+use Prim.Native.Nat.{ℕ, _*_, _≤_}
 use native.Mathlib.Nat.{one-mul, ne-of-gt}
 use native.Mathlib.Omega.{arith}
 use lib.Dec.{eqb}
-use lib.ListN.{length, take, drop, length-map}
+use lib.ListN.{length, take, drop}
 use borrow.Author.Tests.{eq-eqb, ne-eqb, eqb-true, not-false}
 use Rattle.lists.specs.All.{Below}
 use Rattle.lists.specs.Rising.{Rising}
-use Rattle.lists.specs.Bytes.{Bytes, halves, length-words}
+use Rattle.lists.specs.Bytes.{Bytes, length-words}
 use Rattle.lists.specs.Choice.{pick}
-use Rattle.lists.specs.Pieces.{pieces, length-pieces}
 use Rattle.lists.specs.Tests.{verdictOf, passed, verdict-hit, verdict-miss, verdict-go, verdict-stop}
 use Rattle.scheme.specs.Sizes.{Sizes, leaves}
 use Rattle.scheme.specs.Question.{Question, readQuestion, headerLength, challengesAt, pointsAt, questionTests}

@@ -11,19 +11,19 @@ ghost use Rattle.scheme.specs.Layers.{lentOf};
 ghost use Rattle.scheme.specs.Commit.{tableOf, leafDigests, treeOf, commitVerdict, committing};
 ghost use Rattle.commitment.specs.Shape.{sizesIn};
 ghost use Rattle.committer.specs.Clauses.{Hashable, Committable};
+use codec::put_bytes;
+use codec::put_words;
 use commitment::Shape;
 use commitment::leaf_count;
 use commitment::record_values;
-use codec::put_bytes;
-use codec::put_words;
 use commitment::sizes_ok;
+use digests::leaf_digest;
 use evaluations::fill_table;
 use lent::filled_ok;
 use lent::lent_elements;
 use lent::lent_ok;
 use node_sets::LeafIndex;
 use tree_fill::fill_tree;
-use digests::leaf_digest;
 
 // ---- the tree
 

@@ -13,7 +13,7 @@ use Rattle.tree.specs.Leaf.{leafString}
 abbrev pub marked : Bytes → ℕ → Bytes
 marked buf i = set (set (set buf 0 0) 1 (i % 256)) 2 (i / 256 % 256)
 
-pub marked-length : (buf : Bytes) (i : ℕ) → length (marked buf i) ≡ length buf
+marked-length : (buf : Bytes) (i : ℕ) → length (marked buf i) ≡ length buf
 marked-length buf i = simp length-set
 
 marked-front : (buf : Bytes) (i : ℕ) → 3 ≤ length buf → take 3 (marked buf i) ≡ 0 ∷ i % 256 ∷ i / 256 % 256 ∷ []

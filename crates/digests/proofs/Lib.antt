@@ -1,3 +1,2 @@
 -- What the functions write, on lists.
-pub mod Copies
 pub mod Leaves

@@ -3,7 +3,7 @@ use mathlib.Core.Path.{_≡_, sym, ap, ap₂, _∙_, subst}
 use mathlib.Core.Bool.{true, false}
 use mathlib.Core.Logic.{_⊎_, inl, inr}
 use mathlib.Core.List.{List, [], _++_, map, flatten}
-use Prim.Native.Nat.{ℕ, zero, suc, _+_, _-_, _*_, _/_, _%_, _≤_, _<_}
+use Prim.Native.Nat.{ℕ, _+_, _-_, _*_, _/_, _%_, _≤_, _<_}
 use native.Mathlib.Nat.{le-of-eq, not-suc-le-zero, zero-add, mod-lt, div-add-mod, mul-le-mul-left}
 use native.Mathlib.Omega.{arith}
 use lib.Dec.{ltb}
@@ -40,7 +40,8 @@ interp-entry : (n width : ℕ) (row : List ℕ) → n + width ≤ q → length r
 interp-entry n width row fit len t l =
     ap f (sym (getD-map-in of (upFrom n width) t 0 𝟎 inside ∙ ap of (upFrom-at n width t l)))
     ∙ sym (getD-map-in f (ofs (upFrom n width)) t 𝟎 𝟎 (subst (λ (m : ℕ). t < m) (sym (length-map (upFrom n width) of)) inside))
-    ∙ ap (λ (v : List K). getD v t 𝟎) (interp-values (ofs (upFrom n width)) (ofs row) (length-map row of ∙ len ∙ sym (length-map (upFrom n width) of ∙ length-upFrom n width)) (distinct-ofs (upFrom n width) (upFrom-below n width q fit) (upFrom-distinct n width)))
+    ∙ ap (λ (v : List K). getD v t 𝟎) (interp-values (ofs (upFrom n width)) (ofs row) (length-map row of ∙ len ∙ sym (length-map (upFrom n width) of ∙ length-upFrom n width))
+    (distinct-ofs (upFrom n width) (upFrom-below n width q fit) (upFrom-distinct n width)))
     ∙ getD-map-in of row t 0 𝟎 (omega (arith, len))
   where
     f : K → K
@@ -99,7 +100,7 @@ some-lanes lanes mu lo l (inr e) = omega arith
 
 -- ---- masks
 
-pub masks-through : (masks : List ℕ) (eta w n : ℕ) (values : List ℕ) → length masks ≡ eta * w → MaskLanes n masks w eta w values → Through (λ (k : ℕ). piece w k masks) values w n eta
+masks-through : (masks : List ℕ) (eta w n : ℕ) (values : List ℕ) → length masks ≡ eta * w → MaskLanes n masks w eta w values → Through (λ (k : ℕ). piece w k masks) values w n eta
 unfolding MaskLanes Through
 masks-through masks eta w n values len h j b = (omega (arith, short), λ t k. ap of (h t j k b))
   where

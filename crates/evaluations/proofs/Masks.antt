@@ -20,7 +20,7 @@ use Rattle.evaluations.specs.Values.{MaskLanes}
 
 -- ---- as dot products with the powers
 module _ (x k : ℕ) (ws : List ℕ) (e : ws ≡ tabulate k (powN x)) where
-  pub powers-count : length ws ≡ k
+  powers-count : length ws ≡ k
   powers-count = ap length e ∙ length-from 0 k (powN x)
 
   pub dots-room : (n r : ℕ) → k ≤ 320 → k * n ≤ r → (length ws * n ≤ r) × (length ws ≤ longest)

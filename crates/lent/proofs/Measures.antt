@@ -1,14 +1,13 @@
 -- The tests of what is lent: the products of sizes fit, and the tests are those of the definitions.
-use mathlib.Core.Path.{_≡_, sym, ap, ap₂, _∙_}
+use mathlib.Core.Path.{_≡_, ap, ap₂, _∙_}
 use mathlib.Core.Bool.{Bool, _&&_}
 use mathlib.Core.List.{List, [], _∷_}
-use Prim.Native.Nat.{ℕ, _+_, _-_, _*_, _≤_, _<_}
+use Prim.Native.Nat.{ℕ, _-_, _*_, _≤_, _<_}
 use native.Mathlib.Nat.{mul-le-mul}
 use native.Mathlib.Omega.{arith}
 use lib.Dec.{eqb}
 use lib.Pow.{pow-pos}
 use lib.ListN.{length}
-use Rattle.lists.specs.Choice.{and-right}
 use Rattle.lists.specs.Tests.{every, every-before, every-two, every-three}
 use Rattle.scheme.specs.Sizes.{Sizes, SizesInOrder, columns, rows, leaves, width, recordValues, elements}
 use Rattle.scheme.specs.Layers.{Lent}

@@ -6,10 +6,10 @@ ghost use Rattle.scheme.specs.Sizes.{SizesInOrder};
 ghost use Rattle.scheme.specs.Layers.{lentOf};
 ghost use Rattle.scheme.specs.Commit.{lentOk, filledOk, lentElements};
 ghost use Rattle.commitment.specs.Shape.{sizesIn};
-use commitment::Shape;
 use codec::both;
-use commitment::column_count;
 use codec::elements_ok;
+use commitment::Shape;
+use commitment::column_count;
 use commitment::leaf_count;
 use commitment::record_values;
 use commitment::row_count;
@@ -37,7 +37,10 @@ pub fn filled_ok(s: Shape, table: &[u32], tree: &[u8]) -> bool
     ensures { λ r. ⌜ r ≡ filledOk (sizesIn s) (now (table .entry)) (now (tree .entry)) ⌝ }
 {
     let n = leaf_count(s.h);
-    both(table.len() == n * record_values(s), tree.len() == 32 * (2 * n - 1))
+    both(
+        table.len() == n * record_values(s),
+        tree.len() == 32 * (2 * n - 1),
+    )
 }
 
 // Is each word that is lent to be read below q?

@@ -41,7 +41,7 @@ Small xs = Below 4294967296 xs
 pub length-words : (n : ℕ) (x : Bytes) → length (words n x) ≡ n
 length-words n x = length-map (pieces 4 n x) fromBytes ∙ length-pieces 4 n x
 
-pub length-littleEndian : (k n : ℕ) → length (littleEndian k n) ≡ k
+length-littleEndian : (k n : ℕ) → length (littleEndian k n) ≡ k
 unfolding littleEndian
 length-littleEndian zero n = refl
 length-littleEndian (suc k) n = ap suc (length-littleEndian k (n / 256))
@@ -83,7 +83,7 @@ bytesOf-append (x ∷ xs) ys = ap (λ (t : Bytes). littleEndian 4 x ++ t) (bytes
 -- ---- the next bytes of a string from `at` on, or those left, as one number
 
 -- j bytes, and then k or those left
-pub bytes-split : (j k at : ℕ) (x : Bytes) → at + j ≤ length x
+bytes-split : (j k at : ℕ) (x : Bytes) → at + j ≤ length x
     → fromBytes (take (j + k) (drop at x)) ≡ fromBytes (take j (drop at x)) + 256 ^ j * fromBytes (take k (drop (at + j) x))
 bytes-split j k at x h =
     let fit : j ≤ length (drop at x) = omega (arith, length-drop at x) in
@@ -104,7 +104,7 @@ bytes-left j k at x h l =
 
 -- ---- single words
 
-pub words-at : (n i : ℕ) (x : Bytes) → i < n → getD (words n x) i 0 ≡ fromBytes (piece 4 i x)
+words-at : (n i : ℕ) (x : Bytes) → i < n → getD (words n x) i 0 ≡ fromBytes (piece 4 i x)
 words-at n i x l =
     getD-map-in fromBytes (pieces 4 n x) i [] 0 (subst (λ (k : ℕ). i < k) (sym (length-pieces 4 n x)) l) ∙ ap fromBytes (pieces-at 4 n i x l)
 

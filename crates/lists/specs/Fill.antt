@@ -2,7 +2,7 @@
 use mathlib.Core.Path.{_≡_, refl, sym, _∙_, ap, subst}
 use mathlib.Core.List.{List, _++_}
 use Prim.Native.Nat.{ℕ, _+_, _-_, _≤_, _<_}
-use native.Mathlib.Nat.{not-suc-le-zero, ne-of-gt, ne-of-lt}
+use native.Mathlib.Nat.{not-suc-le-zero, ne-of-gt}
 use native.Mathlib.Omega.{arith}
 use native.Mathlib.Decide.{ℕ-discrete}
 use lib.ListN.{length, getD, set, length-set, List·getD-append}
@@ -25,7 +25,7 @@ fill-next f s i k v l e h j m u = go (ℕ-discrete j k)
     go (no r) = getD-set-other s k j v 0 r ∙ h j m (omega arith)
 
 -- setting the place before them
-pub fill-before : (f : ℕ → ℕ) (s : List ℕ) (i k v : ℕ) → i < length s → v ≡ f i → Filled f s (i + 1) k → Filled f (set s i v) i k
+fill-before : (f : ℕ → ℕ) (s : List ℕ) (i k v : ℕ) → i < length s → v ≡ f i → Filled f s (i + 1) k → Filled f (set s i v) i k
 fill-before f s i k v l e h j m u = go (ℕ-discrete j i)
   where
     go : Dec (j ≡ i) → getD (set s i v) j 0 ≡ f j
@@ -41,9 +41,6 @@ pub fill-back : (f : ℕ → ℕ) (s : List ℕ) (i k v : ℕ) → 0 < i → i �
 fill-back f s i k v l u e h =
     let n : i ≡ i - 1 + 1 = omega arith in
     fill-before f s (i - 1) k v (omega arith) e (subst (λ (m : ℕ). Filled f s m k) n h)
-
-pub fill-front : (f : ℕ → ℕ) (s : List ℕ) (i v : ℕ) → Filled f s 0 i → Filled f (set s (i - 1) v) 0 (i - 1)
-fill-front f s i v h j m u = getD-set-other s (i - 1) j v 0 (ne-of-lt u) ∙ h j m (omega arith)
 
 pub filled-none : (f : ℕ → ℕ) (s : List ℕ) (i k : ℕ) → k ≤ i → Filled f s i k
 filled-none f s i k l j m u = absurd (not-suc-le-zero {n = 0} (omega arith))

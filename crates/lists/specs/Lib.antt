@@ -13,11 +13,13 @@ pub mod Maps
 pub mod Pieces
 pub mod Parts
 pub mod Rows
+pub mod Drops
 -- lists made or written place by place
 pub mod Snoc
 pub mod Spliced
 pub mod Tabulate
 pub mod Fill
+pub mod Copies
 -- numbers and bytes
 pub mod Number
 pub mod Bytes

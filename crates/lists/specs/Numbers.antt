@@ -16,7 +16,7 @@ use Rattle.lists.specs.Snoc.{snoc}
 abbrev pub numbers : ℕ → ℕ → ℕ → Bytes → List ℕ
 numbers k n at b = map fromBytes (pieces k n (drop at b))
 
-pub length-numbers : (k n at : ℕ) (b : Bytes) → length (numbers k n at b) ≡ n
+length-numbers : (k n at : ℕ) (b : Bytes) → length (numbers k n at b) ≡ n
 length-numbers k n at b = length-map (pieces k n (drop at b)) fromBytes ∙ length-pieces k n (drop at b)
 
 pieces-more : (k n m : ℕ) (x : Bytes) → pieces k (n + m) x ≡ pieces k n x ++ pieces k m (drop (k * n) x)

@@ -5,7 +5,7 @@ use mathlib.Core.List.{List, [], _∷_, _++_, map, List·Memᴰ as Mem, List·Me
 use Prim.Native.Nat.{ℕ, zero, suc, _+_, _≤_, _<_}
 use native.Mathlib.Nat.{eq-or-lt-of-le, not-suc-le-zero, le-of-suc-le-suc, add-zero, add-suc, suc-add, zero-add}
 use native.Mathlib.Omega.{arith}
-use lib.ListN.{length, getD, take}
+use lib.ListN.{length, getD}
 use Rattle.lists.specs.All.{Below, Distinct, All}
 use Rattle.lists.specs.Rising.{Rising, rising-distinct}
 
@@ -30,12 +30,6 @@ unfolding upFrom
 at-run f a zero k z h = absurd (not-suc-le-zero h)
 at-run f a (suc n) zero z h = ap f (sym (add-zero a))
 at-run f a (suc n) (suc k) z h = at-run f (suc a) n k z (le-of-suc-le-suc h) ∙ ap f (omega arith)
-
-pub take-upFrom : (a n k : ℕ) → k ≤ n → take k (upFrom a n) ≡ upFrom a k
-unfolding upFrom
-take-upFrom a n zero l = refl
-take-upFrom a zero (suc k) l = absurd (not-suc-le-zero l)
-take-upFrom a (suc n) (suc k) l = ap (λ (t : List ℕ). a ∷ t) (take-upFrom (suc a) n k (le-of-suc-le-suc l))
 
 pub upFrom-snoc : (a n : ℕ) → upFrom a (suc n) ≡ upFrom a n ++ ((a + n) ∷ [])
 unfolding upFrom

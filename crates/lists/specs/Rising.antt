@@ -18,7 +18,7 @@ pub rising-distinct : (xs : List ℕ) → Rising xs → Distinct xs
 rising-distinct [] h = tt
 rising-distinct (x ∷ xs) h = (mem-all (λ (y : ℕ). y ≢ x) xs (λ y m. ne-of-gt (h .0 y m)), rising-distinct xs (h .1))
 
-pub rising-cons : (i j : ℕ) (s : List ℕ) → i < j → Rising (j ∷ s) → Rising (i ∷ j ∷ s)
+rising-cons : (i j : ℕ) (s : List ℕ) → i < j → Rising (j ∷ s) → Rising (i ∷ j ∷ s)
 rising-cons i j s l r = ((λ k m. ⊎-elim (λ (e : k ≡ j). subst (λ (n : ℕ). i < n) (sym e) l) (λ n. lt-trans l (r .0 k n)) (in-cons m)), r)
 
 -- as a test

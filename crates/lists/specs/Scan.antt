@@ -65,7 +65,7 @@ after [] = 0
 after (x ∷ []) = x + 1
 after (x ∷ y ∷ s) = after (y ∷ s)
 
-pub after-snoc : (xs : List ℕ) (x : ℕ) → after (snoc xs x) ≡ x + 1
+after-snoc : (xs : List ℕ) (x : ℕ) → after (snoc xs x) ≡ x + 1
 after-snoc [] x = refl
 after-snoc (y ∷ []) x = refl
 after-snoc (y ∷ z ∷ s) x = after-snoc (z ∷ s) x

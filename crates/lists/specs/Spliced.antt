@@ -46,7 +46,7 @@ module _ {A : Type 0} (at n : ℕ) (p o : List A) (e : length p ≡ n) (h : at +
 pub set-spliced : {A : Type 0} (i : ℕ) (v : A) (o : List A) → i < length o → set o i v ≡ spliced i 1 (v ∷ []) o
 set-spliced {A} i v o h = set-split o i v h ∙ ap (λ (k : ℕ). take i o ++ (v ∷ drop k o)) (sym (add-one i))
 
-pub spliced-next : {A : Type 0} (at n : ℕ) (p o : List A) (v : A) → length p ≡ n → at + n < length o
+spliced-next : {A : Type 0} (at n : ℕ) (p o : List A) (v : A) → length p ≡ n → at + n < length o
     → set (spliced at n p o) (at + n) v ≡ spliced at (n + 1) (snoc p v) o
 spliced-next at n p o v e h =
     set-spliced (at + n) v (spliced at n p o) (omega (arith, length-spliced at n p o e (omega arith)))

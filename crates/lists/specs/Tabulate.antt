@@ -34,7 +34,7 @@ split-from i (suc a) b f =
     ∙ ap (λ (r : List ℕ). f i ∷ r)
     (split-from (suc i) a b f ∙ ap (λ (k : ℕ). tabulateFrom (suc i) a f ++ tabulateFrom k b f) (suc-add i a ∙ sym (add-suc i a)))
 
-pub getD-from : (i n : ℕ) (f : ℕ → ℕ) (k : ℕ) → k < n → getD (tabulateFrom i n f) k 0 ≡ f (i + k)
+getD-from : (i n : ℕ) (f : ℕ → ℕ) (k : ℕ) → k < n → getD (tabulateFrom i n f) k 0 ≡ f (i + k)
 getD-from i zero f k h = absurd (not-suc-le-zero h)
 getD-from i (suc n) f zero h = ap f (sym (add-zero i))
 getD-from i (suc n) f (suc k) h = getD-from (suc i) n f k (le-of-suc-le-suc h) ∙ ap f (suc-add i k ∙ sym (add-suc i k))

@@ -4,7 +4,7 @@ use mathlib.Core.Bool.{Bool, true, false, _&&_, false≢true}
 use mathlib.Core.Logic.{⊎-elim, _≢_}
 use mathlib.Core.List.{List, [], _∷_, _++_}
 use Prim.Native.Nat.{ℕ, zero, suc, _+_, _≤_, _<_, suc-le-suc}
-use native.Mathlib.Nat.{not-suc-le-zero, le-of-suc-le-suc, zero-lt-suc, le-suc-iff, suc-inj}
+use native.Mathlib.Nat.{not-suc-le-zero, zero-lt-suc, le-suc-iff, suc-inj}
 use native.Mathlib.Numerals.{add-one}
 use native.Mathlib.Omega.{arith}
 use lib.Dec.{leb, eqb}
@@ -144,16 +144,10 @@ true-all f [] h = refl
 true-all f (x ∷ xs) h = both-true (f x) (all f xs) (h .0) (true-all f xs (h .1))
 
 -- a test of all elements is one of all places
-pub all-places : {A : Type 0} (f : A → Bool) (d : A) (xs : List A) → ((i : ℕ) → i < length xs → f (getD xs i d) ≡ true) → all f xs ≡ true
+all-places : {A : Type 0} (f : A → Bool) (d : A) (xs : List A) → ((i : ℕ) → i < length xs → f (getD xs i d) ≡ true) → all f xs ≡ true
 unfolding all
 all-places f d [] h = refl
 all-places f d (x ∷ xs) h = ap₂ _&&_ (h 0 (zero-lt-suc _)) (all-places f d xs (λ i l. h (suc i) (suc-le-suc l)))
-
-pub all-fails : {A : Type 0} (f : A → Bool) (d : A) (xs : List A) (i : ℕ) → i < length xs → f (getD xs i d) ≡ false → all f xs ≡ false
-unfolding all
-all-fails f d [] i l e = absurd (not-suc-le-zero l)
-all-fails f d (x ∷ xs) zero l e = ap (λ (b : Bool). b && all f xs) e
-all-fails f d (x ∷ xs) (suc i) l e = and-false (f x) (all f xs) (all-fails f d xs i (le-of-suc-le-suc l) e)
 
 -- ---- all numbers below n
 
@@ -273,7 +267,7 @@ all-join t [] ys = refl
 all-join t (x ∷ xs) ys = ap (λ (b : Bool). t x && b) (all-join t xs ys) ∙ sym (and-assoc (t x) (all t xs) (all t ys))
 
 -- the last of them, and one before others
-pub every-one : (a : Bool) → every (a ∷ []) ≡ a
+every-one : (a : Bool) → every (a ∷ []) ≡ a
 unfolding every
 every-one a = and-right a
 

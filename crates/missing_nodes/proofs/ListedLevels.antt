@@ -17,7 +17,7 @@ use Rattle.tree.specs.Tree.{at, opened, allParts}
 use Rattle.tree.specs.Walk.{used, skipped}
 use Rattle.tree.proofs.Complete.{opened-suc}
 use Rattle.tree.proofs.Counts.{missing-none, missing-count}
-use Rattle.tree.proofs.Lists.{drop-later}
+use Rattle.lists.specs.Drops.{drop-later}
 use Rattle.tree.proofs.Members.{parents-below}
 use Rattle.tree.proofs.Turns.{Turn, no-siblings}
 use Rattle.node_sets.proofs.Sets.{set-kept}

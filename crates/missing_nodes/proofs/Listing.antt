@@ -12,7 +12,7 @@ use Rattle.tree.specs.Tree.{at, allParts}
 use Rattle.tree.specs.Walk.{used, skipped, heads}
 use Rattle.tree.proofs.Children.{used-own, used-listed, used-most, skipped-own, skipped-listed, next-filled}
 use Rattle.tree.proofs.Digests.{copy-part}
-use Rattle.tree.proofs.Lists.{tail-drop}
+use Rattle.lists.specs.Drops.{tail-drop}
 
 pub record Listing (first b : ℕ) (s : List ℕ) (ds : List Bytes) (start : ℕ) (out₀ : Bytes) (a₀ t₀ : ℕ) (out : Bytes) (a t c left : ℕ) : Type 0 where
   pub number : c + left ≡ first + b

@@ -4,5 +4,4 @@
 pub mod Turns
 pub mod Sets
 -- the functions, in the order of the code
-pub mod Copies
 pub mod Parents

@@ -11,7 +11,7 @@ use lib.Seq.{getD-drop, drop-drop, length-take-le, getD-take, take-set-lt, drop-
 use Rattle.tree.specs.Sets.{parents}
 use Rattle.tree.specs.Walk.{used, heads}
 use Rattle.tree.proofs.Children.{used-own, used-listed}
-use Rattle.tree.proofs.Lists.{tail-drop}
+use Rattle.lists.specs.Drops.{tail-drop}
 use Rattle.tree.proofs.Turns.{Turn, no-parents}
 use Rattle.node_sets.specs.Clauses.{NodeSet}
 use Rattle.node_sets.proofs.Turns.{set-length, turn-at, children-fit}

@@ -9,7 +9,7 @@ use lib.Seq.{getD-drop, length-take-le, getD-take}
 use Rattle.lists.specs.All.{below-mem}
 use Rattle.lists.specs.Maps.{getD-in}
 use Rattle.tree.specs.Walk.{used}
-use Rattle.tree.proofs.Lists.{rising-drop}
+use Rattle.lists.specs.Drops.{rising-drop}
 use Rattle.tree.proofs.Turns.{Turn, turn}
 use Rattle.node_sets.specs.Clauses.{NodeSet}
 

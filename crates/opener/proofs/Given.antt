@@ -36,10 +36,10 @@ module _ (b : Bytes) (s : Shape) (m : ℕ) (e : questioned b ≡ WellFormed s m)
   pub asked : questionVerdict b ≡ 0
   asked = well-asked b s m e .0
 
-  pub sizes-are : sizesIn s ≡ readQuestion b .sizes
+  sizes-are : sizesIn s ≡ readQuestion b .sizes
   sizes-are = well-asked b s m e .1
 
-  pub points-are : m ≡ readQuestion b .m
+  points-are : m ≡ readQuestion b .m
   points-are = well-asked b s m e .2
 
   pub sizes-ok : sizesOk (sizesIn s) ≡ true
@@ -55,10 +55,10 @@ module _ (b : Bytes) (s : Shape) (m : ℕ) (e : questioned b ≡ WellFormed s m)
   unfolding readQuestion
   question-is = ap₂ (λ (t : Sizes) (k : ℕ). questionAt t k b) sizes-are points-are
 
-  pub rising : Rising (questionAt (sizesIn s) m b .indices)
+  rising : Rising (questionAt (sizesIn s) m b .indices)
   rising = subst (λ (u : Question). Rising (u .indices)) (sym question-is) (well-formed b asked .indices-rising)
 
-  pub leaf : Below (leaves (sizesIn s)) (questionAt (sizesIn s) m b .indices)
+  leaf : Below (leaves (sizesIn s)) (questionAt (sizesIn s) m b .indices)
   leaf = subst (λ (u : Question). Below (leaves (u .sizes)) (u .indices)) (sym question-is) (well-formed b asked .indices-below)
 
 pub root-room : (s : Sizes) (table : List ℕ) (nodes : Bytes) → filledOk s table nodes ≡ true → 32 ≤ length nodes
@@ -70,7 +70,7 @@ root-room s table nodes e =
 
 -- ---- all tests have passed
 
-pub reply-small : (b : Bytes) (s : Shape) (m : ℕ) → questioned b ≡ WellFormed s m → replyLength (questionAt (sizesIn s) m b) ≤ 65536
+reply-small : (b : Bytes) (s : Shape) (m : ℕ) → questioned b ≡ WellFormed s m → replyLength (questionAt (sizesIn s) m b) ≤ 65536
 reply-small b s m e =
     let i : IndexSet (s .h) (questionAt (sizesIn s) m b .indices) = subst (λ (u : Question). IndexSet (s .h) (u .indices)) (sym (question-is b s m e)) (asked-indices b s m e .1) in
     omega (arith, nodes-high (sizesIn s) (sizes-in-order (sizesIn s) (sizes-ok b s m e)) m (points-few b s m e), missing-high (s .h) (questionAt (sizesIn s) m b .indices) i)

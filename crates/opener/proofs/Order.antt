@@ -1,12 +1,11 @@
 -- The tests of opening in their order, in the sizes and indices that the code holds.
 use mathlib.Core.Path.{_≡_, sym, ap, _∙_}
-use mathlib.Core.Bool.{Bool, true, false, _&&_}
+use mathlib.Core.Bool.{Bool, true, false}
 use mathlib.Core.List.{List, [], _∷_}
 use Prim.Native.Nat.{ℕ, _+_, _*_}
 use lib.Dec.{eqb}
 use lib.ListN.{length, take, drop}
 use Rattle.lists.specs.Bytes.{Bytes}
-use Rattle.lists.specs.Choice.{and-right}
 use Rattle.lists.specs.Tests.{every, same}
 use Rattle.tree.specs.Sets.{missing}
 use Rattle.scheme.specs.Layers.{Lent}

@@ -9,13 +9,12 @@ use Rattle.lists.specs.Bytes.{Bytes, bytesOf}
 use Rattle.lists.specs.Pieces.{pieces, length-pieces}
 use Rattle.tree.specs.Sets.{missing}
 use Rattle.tree.specs.Tree.{allParts, opened}
-use Rattle.scheme.specs.Sizes.{Sizes, SizesInOrder, leaves}
+use Rattle.scheme.specs.Sizes.{Sizes, SizesInOrder}
 use Rattle.scheme.specs.Layers.{Lent, lentOf, extendedRows}
 use Rattle.scheme.specs.Question.{Question, indicesAt, questionAt}
 use Rattle.scheme.specs.Reply.{recordsAt, nodesAt, replyLength}
 use Rattle.scheme.specs.Commit.{leafRecord}
 use Rattle.scheme.specs.Open.{openedBatching, openedAnswers, replyOf}
-use Rattle.scheme.proofs.Accepted.{sizes-in-order}
 use Rattle.scheme.proofs.Lent.{LentFacts, lent-facts}
 use Rattle.scheme.proofs.Parts.{filled-lengths, tree-length}
 use Rattle.lent.proofs.Rows.{rows-lent}

@@ -15,7 +15,7 @@ use Rattle.scheme.specs.Layers.{Lent, lentOf, extendedRows}
 use Rattle.scheme.specs.Question.{Question, challengesAt, pointsAt, questionAt}
 use Rattle.scheme.specs.Reply.{recordsAt, answersAt}
 use Rattle.scheme.specs.Open.{openedBatching, openedAnswers}
-use Rattle.scheme.proofs.Accepted.{sizes-in-order, leaves-high}
+use Rattle.scheme.proofs.Accepted.{leaves-high}
 use Rattle.scheme.proofs.HonestAnswers.{combination-length}
 use Rattle.lists.specs.Spliced.{spliced-more, spliced}
 use Rattle.answers.specs.Answers.{CanCombine, batchingAt, answerAt}
@@ -29,7 +29,7 @@ answers-length f xs n sized =
     ∙ omega arith
 
 -- two parts, the first from the start on
-pub two-parts : (a b : ℕ) (x y o o₁ o₂ : Bytes) → length x ≡ a → a + b ≤ length o → o₁ ≡ spliced 0 a x o → o₂ ≡ spliced a b y o₁ → o₂ ≡ (x ++ y) ++ drop (a + b) o
+two-parts : (a b : ℕ) (x y o o₁ o₂ : Bytes) → length x ≡ a → a + b ≤ length o → o₁ ≡ spliced 0 a x o → o₂ ≡ spliced a b y o₁ → o₂ ≡ (x ++ y) ++ drop (a + b) o
 two-parts a b x y o o₁ o₂ e l h₁ h₂ =
     h₂
     ∙ ap₂ (λ (k : ℕ) (z : Bytes). spliced k b y z) (sym (zero-add a)) h₁

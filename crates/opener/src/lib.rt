@@ -1,8 +1,7 @@
 // Opening: the reply to a question, from what was committed to.
 ghost use mathlib.Core.Path.{_≡_};
-ghost use mathlib.Core.Bool.{true};
 ghost use mathlib.Core.List.{[], _∷_, _++_, map, flatten};
-ghost use Prim.Native.Nat.{_+_, _-_, _*_, _≤_};
+ghost use Prim.Native.Nat.{_+_, _*_, _≤_};
 ghost use lib.Dec.{eqb};
 ghost use lib.ListN.{length, take, drop};
 ghost use Rattle.lists.specs.Tests.{every, same};
@@ -24,34 +23,34 @@ ghost use Rattle.opener.specs.Opened.{numberOf, lengthOf};
 ghost use Rattle.opener.specs.Ready.{Ready};
 use answers::put_answers;
 use answers::put_batchings;
-use question::Questioned;
+use codec::both;
+use codec::elements_ok;
+use codec::put_bytes;
+use codec::put_words;
+use codec::same_bytes;
 use commitment::Shape;
 use commitment::answers_at;
 use commitment::challenges_at;
-use question::ask;
-use question::blank_indices;
-use codec::both;
-use codec::elements_ok;
 use commitment::leaf_count;
 use commitment::nodes_at;
 use commitment::points_at;
 use commitment::record_length;
 use commitment::record_values;
-use codec::put_bytes;
-use codec::put_words;
-use question::question_indices;
 use commitment::records_at;
 use commitment::root_at;
 use commitment::row_width;
-use codec::same_bytes;
 use field::Element;
 use lent::filled_ok;
 use lent::lent_elements;
 use lent::lent_ok;
-use planner::length_for;
 use missing_nodes::list_missing;
 use node_sets::LeafIndex;
 use node_sets::opened_index;
+use planner::length_for;
+use question::Questioned;
+use question::ask;
+use question::blank_indices;
+use question::question_indices;
 
 // ---- the records one after the other
 

@@ -1,8 +1,8 @@
 // Digests, and what is printed.
 use super::calls::front_bytes;
 use super::calls::front_words;
-use commitment::Shape;
 use codec::put_words;
+use commitment::Shape;
 use libc::STDOUT_FILENO;
 use planner::Planned;
 use planner::reply_length;

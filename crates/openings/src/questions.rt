@@ -4,9 +4,9 @@ use super::inputs::filled_challenges;
 use super::inputs::filled_points;
 use super::inputs::low_byte;
 use super::sizes::product;
-use commitment::Shape;
 use codec::put_bytes;
 use codec::put_words;
+use commitment::Shape;
 
 // The number of points; challenges and points, of which a question holds the first ones; the indices first, first + step, first + 2 step, ..
 pub struct Asked {

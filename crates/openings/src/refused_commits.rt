@@ -18,8 +18,8 @@ use super::small::commit_small;
 use super::small::print_same;
 use super::small::small;
 use super::small::small_lengths;
-use commitment::Shape;
 use codec::put_bytes;
+use commitment::Shape;
 
 // One digest of all that committing may write.
 fn written_digest(table: &[u32], tree: &[u8]) -> [u8; 32] {

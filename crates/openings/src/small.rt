@@ -11,8 +11,8 @@ use super::printing::print;
 use super::sizes::Lengths;
 use super::sizes::lengths_of;
 use super::sizes::shape;
-use commitment::Shape;
 use codec::same_bytes;
+use commitment::Shape;
 
 // Stands for no slice, where a slice to spoil is named by its tag.
 pub const NONE: usize = 0;

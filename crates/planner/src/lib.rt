@@ -12,13 +12,13 @@ ghost use Rattle.commitment.specs.Shape.{sizesIn};
 ghost use Rattle.question.specs.Questioned.{questioned};
 ghost use Rattle.question.specs.declared.Questioned.the-variants.{WellFormed};
 ghost use Rattle.planner.specs.Planned.{numberOf, lengthOf};
-use question::Questioned;
 use commitment::Shape;
+use commitment::nodes_at;
+use missing_nodes::count_missing;
+use question::Questioned;
 use question::ask;
 use question::blank_indices;
-use commitment::nodes_at;
 use question::question_indices;
-use missing_nodes::count_missing;
 
 // The length of a reply that opens these leaves.
 pub fn length_for(s: Shape, m: usize, indices: &[usize]) -> usize

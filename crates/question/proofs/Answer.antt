@@ -2,7 +2,7 @@
 use mathlib.Core.Path.{_≡_, refl, sym, ap, _∙_, subst}
 use mathlib.Core.Bool.{Bool, true, false, false≢true}
 use mathlib.Core.List.{List, _++_}
-use Prim.Native.Nat.{ℕ, _+_, _*_, _^_, _≤_, _<_}
+use Prim.Native.Nat.{ℕ, _^_, _≤_, _<_}
 use native.Mathlib.Nat.{pos-of-ne-zero}
 use native.Mathlib.Omega.{arith}
 use lib.Dec.{eqb}
@@ -38,7 +38,7 @@ pointsIn (Refused v) = 0
 
 -- ---- a verdict's answer
 
-pub answered-well : (v : ℕ) (b : Bytes) (s : Shape) (m : ℕ) → answered v b ≡ WellFormed s m → (v ≡ 0) × (s ≡ headerShape b) × (m ≡ headerPoints b)
+answered-well : (v : ℕ) (b : Bytes) (s : Shape) (m : ℕ) → answered v b ≡ WellFormed s m → (v ≡ 0) × (s ≡ headerShape b) × (m ≡ headerPoints b)
 unfolding answered
 answered-well v b s m = go (eqb v 0) refl
   where
@@ -46,7 +46,7 @@ answered-well v b s m = go (eqb v 0) refl
     go true e h = (eqb-true v 0 e, sym (ap (shapeIn s) h), sym (ap pointsIn h))
     go false e h = absurd (false≢true (ap isWell h))
 
-pub answered-refused : (v : ℕ) (b : Bytes) (u : ℕ) → answered v b ≡ Refused u → (v ≡ u) × (0 < u)
+answered-refused : (v : ℕ) (b : Bytes) (u : ℕ) → answered v b ≡ Refused u → (v ≡ u) × (0 < u)
 unfolding answered
 answered-refused v b u = go (eqb v 0) refl
   where

@@ -2,14 +2,13 @@
 use mathlib.Core.Path.{_≡_, sym, ap, ap₂, _∙_}
 use mathlib.Core.Bool.{not}
 use mathlib.Core.List.{List, [], _∷_, _++_}
-use Prim.Native.Nat.{ℕ, _+_, _*_, _^_}
-use native.Mathlib.Omega.{arith}
+use Prim.Native.Nat.{ℕ, _+_, _^_}
 use lib.Dec.{eqb}
 use lib.ListN.{length}
 use Rattle.lists.specs.Bytes.{Bytes}
 use Rattle.lists.specs.Tests.{Test, verdictOf, verdict-go, verdict-stop}
 use Rattle.scheme.specs.Sizes.{elements}
-use Rattle.scheme.specs.Question.{readQuestion, headerTests, headerSizes, headerPoints, questionTests, questionVerdict, challengesAt, indicesAt, questionLength}
+use Rattle.scheme.specs.Question.{readQuestion, headerTests, headerPoints, questionTests, questionVerdict, challengesAt, indicesAt, questionLength}
 use Rattle.commitment.specs.Shape.{sizesIn}
 use Rattle.question.specs.Questioned.{headerShape, headed, questioned, answered}
 use Rattle.commitment.specs.declared.Shape.{Shape}

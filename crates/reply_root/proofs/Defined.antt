@@ -1,7 +1,7 @@
 -- The root over a reply's bytes is that of the definition.
 use mathlib.Core.Path.{_≡_, refl, sym, ap, ap₂, _∙_}
 use mathlib.Core.List.{List, [], _∷_, map}
-use Prim.Native.Nat.{ℕ, _+_, _*_, _/_, _-_, _<_}
+use Prim.Native.Nat.{ℕ, _+_, _*_, _/_, _-_}
 use native.Mathlib.Omega.{arith}
 use lib.ListN.{length, drop, length-drop}
 use Rattle.lists.specs.Bytes.{Bytes}

@@ -22,7 +22,11 @@ fn leaf_digests(at: usize, size: usize, indices: &[usize], reply: &[u8], out: &m
         let to = from + size;
         let first = 32 * a;
         let last = first + 32;
-        leaf_digest(opened_index(indices, a), &reply[from..to], &mut out[first..last]);
+        leaf_digest(
+            opened_index(indices, a),
+            &reply[from..to],
+            &mut out[first..last],
+        );
     }
 }
 

@@ -1,35 +1,28 @@
 -- The reply's tests are those on its words.
-use mathlib.Core.Path.{_≡_, refl, sym, ap, ap₂, _∙_}
+use mathlib.Core.Path.{_≡_, sym, ap, ap₂, _∙_}
 use mathlib.Core.Bool.{Bool}
-use mathlib.Core.List.{List, [], _∷_, map}
-use Prim.Native.Nat.{ℕ, _+_, _*_, _/_, _-_, _<_}
-use native.Mathlib.Omega.{arith}
+use mathlib.Core.List.{List, [], _∷_}
+use Prim.Native.Nat.{ℕ, _*_, _<_}
 use lib.Dec.{eqb, ltb}
 use lib.Seq.{drop-drop}
 use Rattle.algebra.specs.Prime.{q}
-use lib.ListN.{length, getD, take, drop, length-map, length-drop}
-use Rattle.sponge.specs.Digest.{digest}
-use Rattle.tree.specs.Leaf.{leafString}
-use Rattle.tree.specs.Tree.{parts, allParts, rootFrom}
-use Rattle.lists.specs.Bytes.{Bytes, words, length-words}
-use Rattle.lists.specs.Maps.{map-cong}
-use Rattle.lists.specs.Pieces.{pieces, piece, length-pieces}
-use Rattle.lists.specs.Range.{upFrom, upFrom-of}
+use lib.ListN.{length, getD, take, drop, length-map}
+use Rattle.lists.specs.Bytes.{Bytes, words}
+use Rattle.lists.specs.Pieces.{pieces, length-pieces}
 use Rattle.lists.specs.Tests.{all, every, each, each-ext, each-swap, all-is-each}
 use Rattle.algebra.specs.Numbers.{evalN, interpN}
 use Rattle.scheme.specs.Sizes.{Sizes, elements, leaves, width, recordValues, points, leafPoint}
-use Rattle.scheme.specs.Layers.{polynomialValues}
-use Rattle.scheme.specs.Question.{Question, pointsAt, questionAt}
-use Rattle.scheme.specs.Reply.{Reply, readReply, answersAt, recordsAt, recordLength, nodesAt, missingNodes, replyLength, recordWords}
-use Rattle.scheme.specs.Check.{leafAt, recordAt, batchingOf, pointOf, answerOf, replyElements, leafStrings, replyRoot, batchingAt, evaluationAt, checkValues}
+use Rattle.scheme.specs.Question.{Question}
+use Rattle.scheme.specs.Reply.{Reply, readReply, answersAt, recordsAt, recordLength, recordWords}
+use Rattle.scheme.specs.Check.{leafAt, recordAt, pointOf, replyElements, batchingAt, evaluationAt}
 use Rattle.scheme.proofs.ReplyPlaces.{batching-at, answer-at, record-at, batching-words, answer-words}
-use Rattle.lists.specs.Rows.{rowsOf, all-rows, rows-ext}
+use Rattle.lists.specs.Rows.{all-rows}
 use Rattle.opened.specs.Records.{recordWordsAt}
 use Rattle.batching_test.specs.Batching.{batchOf, batchedAt, batchedRow}
 use Rattle.evaluation_test.specs.Evaluation.{evaluatedAt, evaluatedLeaf}
 use Rattle.reply_tests.specs.Words.{batchingWords, answerWords, leafValuesAt, rowValuesAt, leafElementsAt}
 use Rattle.reply_elements.specs.Elements.{recordElementsAt}
-use Rattle.lists.specs.Numbers.{wordsAt, words-rows, words-front, words-piece}
+use Rattle.lists.specs.Numbers.{wordsAt, words-rows, words-front}
 
 module _ (u : Question) (reply : Bytes) where
   abbrev r : Reply

@@ -2,8 +2,8 @@
 use mathlib.Core.Path.{_≡_, refl, sym, ap, ap₂, subst, _∙_}
 use mathlib.Core.Bool.{Bool, true, false, not}
 use mathlib.Core.List.{List, [], _∷_, _++_}
-use Prim.Native.Nat.{ℕ, _+_, _-_, _*_, _^_, _≤_, _<_}
-use native.Mathlib.Nat.{le-of-eq, lt-of-lt-of-le, pow-le-pow-right}
+use Prim.Native.Nat.{ℕ, _+_, _-_, _*_, _≤_, _<_}
+use native.Mathlib.Nat.{le-of-eq}
 use native.Mathlib.Omega.{arith}
 use lib.Dec.{eqb}
 use lib.ListN.{length, take, drop}
@@ -11,7 +11,7 @@ use lib.Pow.{pow-pos}
 use borrow.Author.Tests.{eq-eqb, ne-eqb}
 use Rattle.tree.specs.Sets.{missing}
 use Rattle.tree.specs.Clauses.{IndexSet}
-use Rattle.lists.specs.All.{Below, all-imp}
+use Rattle.lists.specs.All.{Below}
 use Rattle.lists.specs.Bytes.{Bytes, words, length-words}
 use Rattle.lists.specs.Tests.{Test, verdictOf, every, each, same, verdict-hit, verdict-miss}
 use Rattle.scheme.specs.Sizes.{Sizes, elements, leaves, rows, width, recordValues}
@@ -113,7 +113,7 @@ module _ (s : Sizes) (root challenges points indices reply : List ℕ) (p : Pose
   }
 
   -- where the reply's parts end
-  pub records-end : {at size : ℕ} → at ≡ recordsAt s (length points) → size ≡ recordLength s → at + size * length indices ≡ nodesAt s (length points)
+  records-end : {at size : ℕ} → at ≡ recordsAt s (length points) → size ≡ recordLength s → at + size * length indices ≡ nodesAt s (length points)
   records-end e f = ap₂ (λ (i j : ℕ). i + j * length indices) e f ∙ ap (λ (n : ℕ). recordsAt s (length points) + recordLength s * n) (p .opened)
 
   module _ (whole : length reply ≡ replyLength u) where
@@ -121,7 +121,7 @@ module _ (s : Sizes) (root challenges points indices reply : List ℕ) (p : Pose
         → at + size * length indices + 32 * length (missing 2 (s .h) indices) ≤ length reply
     root-fits e f = le-of-eq (ap (λ (n : ℕ). n + 32 * length (missing 2 (s .h) indices)) (records-end e f) ∙ sym whole)
 
-    pub records-fit : {at size : ℕ} → at ≡ recordsAt s (length points) → size ≡ recordLength s → at + size * length indices ≤ length reply
+    records-fit : {at size : ℕ} → at ≡ recordsAt s (length points) → size ≡ recordLength s → at + size * length indices ≤ length reply
     records-fit e f = omega (arith, root-fits e f)
 
     answers-end : recordsAt s (length points) ≤ length reply

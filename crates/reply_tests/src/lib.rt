@@ -54,7 +54,17 @@ fn words_verdict(
         return 9;
     }
     let leaves = leaf_count(s.h);
-    if !evaluation_ok(leaves, width, rows, points, answers, indices, at, size, reply) {
+    if !evaluation_ok(
+        leaves,
+        width,
+        rows,
+        points,
+        answers,
+        indices,
+        at,
+        size,
+        reply,
+    ) {
         return 10;
     }
     0

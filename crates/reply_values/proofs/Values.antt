@@ -1,10 +1,10 @@
 -- The values of the polynomials: at one point, and at all.
 use mathlib.Core.Path.{_≡_, refl, sym, ap, ap₂, _∙_}
 use mathlib.Core.List.{List, [], _∷_, _++_, map, map-append}
-use Prim.Native.Nat.{ℕ, suc, _+_, _-_, _*_, _<_}
+use Prim.Native.Nat.{ℕ, _+_, _-_, _*_, _<_}
 use native.Mathlib.Numerals.{add-one}
 use lib.ListN.{length, getD, take, drop, set, length-map}
-use lib.Seq.{drop-drop, drop-cons, set-at, append-snoc}
+use lib.Seq.{drop-drop}
 use Rattle.lists.specs.Bytes.{Bytes, words}
 use Rattle.lists.specs.Pieces.{piece, pieces, pieces-snoc, length-pieces}
 use Rattle.algebra.specs.Columns.{powN}
@@ -20,7 +20,7 @@ use Rattle.scheme.proofs.ReplyPlaces.{answer-words}
 use Rattle.lists.specs.Numbers.{front-next, words-piece}
 use Rattle.lists.specs.Parts.{part-is}
 
-pub length-pointValues : (ν base : ℕ) (answer : List ℕ) (n : ℕ) → length (pointValues ν base answer n) ≡ n
+length-pointValues : (ν base : ℕ) (answer : List ℕ) (n : ℕ) → length (pointValues ν base answer n) ≡ n
 unfolding pointValues
 length-pointValues ν base answer n = length-map (pieces ν n answer) (λ vs. evalN vs base) ∙ length-pieces ν n answer
 
@@ -64,7 +64,7 @@ values-is μ ν w width points answers p base n answer r e f h g =
 
 -- ---- they are those of the definition
 
-pub values-are : (u : Question) (reply : Bytes)
+values-are : (u : Question) (reply : Bytes)
     → rowsOf (valuesAt (u .sizes .μ) (u .sizes .ν) (u .sizes .w) (width (u .sizes)) (u .evaluationPoints) (words (width (u .sizes) * u .m) (drop (answersAt (u .sizes)) reply))) (u .m)
     ≡ checkValues u (readReply u reply)
 unfolding checkValues rowsOf valuesAt pointValues polynomialValues

@@ -27,7 +27,7 @@ pub decimal-one : (n : ℕ) → n < 10 → decimal n ≡ (48 + n % 10) ∷ []
 unfolding digits
 decimal-one n l = ap (λ (b : Bool). pick b [] (digits 9 (n / 10)) ++ ((48 + n % 10) ∷ [])) (lt-ltb n 10 l)
 
-pub decimal-more : (n : ℕ) → 10 ≤ n → n < 10000000000 → decimal n ≡ decimal (n / 10) ++ ((48 + n % 10) ∷ [])
+decimal-more : (n : ℕ) → 10 ≤ n → n < 10000000000 → decimal n ≡ decimal (n / 10) ++ ((48 + n % 10) ∷ [])
 unfolding digits
 decimal-more n l u =
     ap (λ (b : Bool). pick b [] (digits 9 (n / 10)) ++ ((48 + n % 10) ∷ [])) (le-ltb n 10 l)

@@ -65,7 +65,7 @@ values-more : (p w : ℕ) (vs : List ℕ) → valueLines (p + 1) w vs ≡ valueL
 unfolding valueLines pointLines
 values-more p w vs = run-more (λ p. flatten (map (λ i. valueLine p i (getD vs (p * w + i) 0)) (upFrom 0 w))) p
 
-pub values-short : (m w : ℕ) (vs : List ℕ) → m ≤ 9 → length (valueLines m w vs) ≤ 24 * (w * m)
+values-short : (m w : ℕ) (vs : List ℕ) → m ≤ 9 → length (valueLines m w vs) ≤ 24 * (w * m)
 unfolding valueLines pointLines
 values-short m w vs l =
     let e : 24 * w * m ≡ 24 * (w * m) = mul-assoc 24 w m in

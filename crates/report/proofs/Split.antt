@@ -1,7 +1,7 @@
 -- How the input splits into a question and a reply, and what is printed for the two parts.
 use mathlib.Core.Path.{_≡_, sym, ap, ap₂, _∙_, subst}
 use mathlib.Core.Logic.{_⊎_, inl, inr, ⊎-elim}
-use mathlib.Core.Bool.{Bool, true, false, not}
+use mathlib.Core.Bool.{Bool, true, false}
 use mathlib.Core.List.{List, []}
 use Prim.Native.Nat.{ℕ, _-_, _*_, _≤_, _<_, min}
 use native.Mathlib.Nat.{one-mul, not-suc-le-zero, min-eq-left, min-eq-right, le-min, le-of-eq, sub-zero, mul-le-mul-left}
@@ -64,7 +64,7 @@ module _ (b : Bytes) (few : length b ≤ inputLimit) (v : ℕ) (positive : 0 < v
   unfolding checkVerdict questionTests headerVerdict
   first-test n = verdict-stop (headerTests b) _ v positive e
 
-  pub printed-refused : printed b ≡ text v []
+  printed-refused : printed b ≡ text v []
   printed-refused =
       all-read b few
       ∙ ap₂ parted all-question no-reply
@@ -127,7 +127,7 @@ module _ (b : Bytes) (few : length b ≤ inputLimit) (e : headerVerdict b ≡ 0)
     unfolding readQuestion
     asked-points = same-points k b header-in
 
-    pub printed-checked : (buffer : List ℕ) → length buffer ≡ headerSizes b .w * headerPoints b
+    printed-checked : (buffer : List ℕ) → length buffer ≡ headerSizes b .w * headerPoints b
         → checkedText (take k b) (drop k b) (headerPoints b) (headerSizes b .w) buffer ≡ printed b
     unfolding checkedText checking
     printed-checked buffer n =

@@ -27,7 +27,7 @@ first-line v = ap (λ (t : Bytes). head ++ (decimal v ++ (10 ∷ t))) (neither (
     neither true = refl
     neither false = refl
 
-pub text-lines : (v : ℕ) (rows : Bytes) → text v rows ≡ text v [] ++ pick (eqb v 0) rows []
+text-lines : (v : ℕ) (rows : Bytes) → text v rows ≡ text v [] ++ pick (eqb v 0) rows []
 unfolding text
 text-lines v rows =
     sym (ap (λ (t : Bytes). t ++ pick (eqb v 0) rows []) (first-line v)

@@ -10,11 +10,11 @@ ghost use Rattle.question.specs.Questioned.{headed};
 ghost use Rattle.question.specs.declared.Questioned.the-variants.{WellFormed};
 ghost use Rattle.report.specs.Written.{written, overwritten, pointLines, checkedText};
 use checker::check;
-use question::Questioned;
+use codec::put_bytes;
 use commitment::Shape;
 use commitment::question_length;
+use question::Questioned;
 use question::header;
-use codec::put_bytes;
 
 // Each of these writes some bytes from place `at` on, and returns the place after them.
 fn put_byte(out: &mut [u8], at: usize, x: u8) -> usize

@@ -1,7 +1,7 @@
 -- What is known of an accepted call, at sizes s.
 use mathlib.Core.Path.{_≡_, sym, ap, _∙_, subst}
 use mathlib.Core.List.{List, [], _∷_, map, append-nil, List·Memᴰ as Mem}
-use Prim.Native.Nat.{ℕ, _+_, _-_, _*_, _/_, _<_}
+use Prim.Native.Nat.{ℕ, _+_, _*_, _/_, _<_}
 use native.Mathlib.Nat.{mul-div-cancel-left, zero-add}
 use native.Mathlib.Omega.{arith}
 use lib.Dec.{eqb}
@@ -54,13 +54,13 @@ module _ (u : Question) (r : Reply) where
   unfolding polynomialValues
   values-long = all-each (λ (x : List ℕ). length x ≡ u .sizes .w) _ (upFrom 0 (u .m)) (λ p. simp (length-map, length-pieces))
 
-  pub values-small : Elements (checkValues u r)
+  values-small : Elements (checkValues u r)
   unfolding checkValues polynomialValues
   values-small =
       all-flatten (λ (x : ℕ). x < q) _
       (all-each (All (λ (x : ℕ). x < q)) _ (upFrom 0 (u .m)) (λ p. all-each (λ (x : ℕ). x < q) _ (pieces (u .sizes .ν) (u .sizes .w) (answerOf r p)) (λ vs. evalN-below vs _)))
 
-  pub values-at : (p : ℕ) → p < u .m → (i : ℕ) → i < u .sizes .w
+  values-at : (p : ℕ) → p < u .m → (i : ℕ) → i < u .sizes .w
       → getD (checkValues u r) (p * u .sizes .w + i) 0 ≡ evalN (piece (u .sizes .ν) i (answerOf r p)) (powN (pointOf u p) (u .sizes .μ))
   unfolding checkValues polynomialValues
   values-at p l i m =
@@ -71,7 +71,7 @@ module _ (u : Question) (r : Reply) where
       ∙ ap (λ (vs : List ℕ). evalN vs (powN (pointOf u p) (u .sizes .μ))) (pieces-at (u .sizes .ν) (u .sizes .w) i (answerOf r p) m)
 
 -- bytes of words, read as words again
-pub words-back : (xs : List ℕ) → Elements xs → words (length (bytesOf xs) / 4) (bytesOf xs) ≡ xs
+words-back : (xs : List ℕ) → Elements xs → words (length (bytesOf xs) / 4) (bytesOf xs) ≡ xs
 words-back xs h =
     ap (λ (n : ℕ). words n (bytesOf xs)) (ap (λ (n : ℕ). n / 4) (length-bytesOf xs) ∙ mul-div-cancel-left (length xs) (omega arith))
     ∙ ap (words (length xs)) (sym (append-nil (bytesOf xs)))
@@ -103,15 +103,15 @@ values-left forC question reply before v after o z =
 -- ---- lengths of what stands in a reply
 
 module _ (u : Question) (reply : Bytes) where
-  pub batching-length : length (readReply u reply .batching) ≡ u .sizes .η
+  batching-length : length (readReply u reply .batching) ≡ u .sizes .η
   unfolding readReply
   batching-length = simp (length-map, length-pieces)
 
-  pub answers-length : length (readReply u reply .answers) ≡ u .m
+  answers-length : length (readReply u reply .answers) ≡ u .m
   unfolding readReply
   answers-length = simp (length-map, length-pieces)
 
-  pub records-length : length (readReply u reply .records) ≡ u .sizes .ℓ
+  records-length : length (readReply u reply .records) ≡ u .sizes .ℓ
   unfolding readReply
   records-length = length-pieces (recordLength (u .sizes)) (u .sizes .ℓ) (drop (recordsAt (u .sizes) (u .m)) reply)
 

@@ -2,14 +2,13 @@
 -- That no two do is a hypothesis.
 use mathlib.Core.Path.{_≡_, refl, sym, ap, _∙_, subst}
 use mathlib.Core.Bool.{Bool}
-use mathlib.Core.List.{List, [], _∷_, _++_, map, List·Memᴰ as Mem, List·Memᴰ·tail as there}
-use Prim.Native.Nat.{ℕ, zero, suc, _+_, _-_, _^_, _<_}
+use mathlib.Core.List.{List, [], _∷_, _++_, map, List·Memᴰ as Mem}
+use Prim.Native.Nat.{ℕ, zero, suc, _^_, _<_}
 use native.Mathlib.Nat.{not-suc-le-zero, le-of-suc-le-suc, suc-inj, suc-ne-zero, ne-of-gt, zero-add}
 use native.Mathlib.Omega.{arith}
 use lib.ListN.{length, getD, length-map, length-drop}
 use borrow.Author.Tests.{eq-eqb, ne-eqb}
-use Rattle.sponge.specs.Digest.{digest}
-use Rattle.sponge.specs.Digest.{digest-length}
+use Rattle.sponge.specs.Digest.{digest, digest-length}
 use Rattle.lists.specs.Choice.{pick}
 use Rattle.lists.specs.Range.{upFrom, at-run, length-upFrom}
 use Rattle.lists.specs.Rising.{Rising}
@@ -27,7 +26,7 @@ use Rattle.scheme.specs.Check.{leafAt, recordAt, leafStrings, replyRoot,
 use Rattle.scheme.proofs.Accepted.{Accepted}
 
 -- what stands for the node at place a of a rising set is found there
-pub found-at : (s : List ℕ) (l : List Bytes) (a : ℕ) → Rising s → length s ≡ length l → a < length s → found s l (getD s a 0) ≡ getD l a []
+found-at : (s : List ℕ) (l : List Bytes) (a : ℕ) → Rising s → length s ≡ length l → a < length s → found s l (getD s a 0) ≡ getD l a []
 unfolding found
 found-at [] l a r e m = absurd (not-suc-le-zero m)
 found-at (i ∷ s) [] a r e m = absurd (suc-ne-zero _ e)
@@ -36,15 +35,15 @@ found-at (i ∷ s) (x ∷ l) (suc a) r e m =
     ap (λ (b : Bool). pick b x (found s l (getD s a 0))) (ne-eqb i (getD s a 0) (λ f. ne-of-gt (r .0 (getD s a 0) (getD-in s a (le-of-suc-le-suc m))) (sym f)))
     ∙ found-at s l a (r .1) (suc-inj e) (le-of-suc-le-suc m)
 
-pub leaf-inj : (i : ℕ) (x y : Bytes) → leafString i x ≡ leafString i y → x ≡ y
+leaf-inj : (i : ℕ) (x y : Bytes) → leafString i x ≡ leafString i y → x ≡ y
 unfolding leafString
 leaf-inj i x y e = append-cancel (0 ∷ littleEndian 2 i) x y e
 
-pub leafStrings-length : (u : Question) (r : Reply) → length (leafStrings u r) ≡ u .sizes .ℓ
+leafStrings-length : (u : Question) (r : Reply) → length (leafStrings u r) ≡ u .sizes .ℓ
 unfolding leafStrings
 leafStrings-length u r = length-map (upFrom 0 (u .sizes .ℓ)) _ ∙ length-upFrom 0 (u .sizes .ℓ)
 
-pub leafStrings-at : (u : Question) (r : Reply) (a : ℕ) → a < u .sizes .ℓ → getD (leafStrings u r) a [] ≡ leafString (leafAt u a) (recordAt r a)
+leafStrings-at : (u : Question) (r : Reply) (a : ℕ) → a < u .sizes .ℓ → getD (leafStrings u r) a [] ≡ leafString (leafAt u a) (recordAt r a)
 unfolding leafStrings
 leafStrings-at u r a l =
     at-run (λ b. leafString (leafAt u b) (recordAt r b)) 0 (u .sizes .ℓ) a [] l

@@ -8,8 +8,7 @@ use native.Mathlib.Omega.{arith}
 use lib.ListN.{length, getD, take, drop, length-map, length-append, length-drop}
 use lib.Seq.{take-at, getD-append-add, take-all}
 use borrow.Author.Tests.{eq-eqb}
-use Rattle.sponge.specs.Digest.{digest}
-use Rattle.sponge.specs.Digest.{digest-length}
+use Rattle.sponge.specs.Digest.{digest, digest-length}
 use Rattle.lists.specs.Range.{upFrom, at-run, length-upFrom}
 use Rattle.tree.specs.Sets.{treeSize, start}
 use Rattle.lists.specs.Bytes.{Bytes, words, bytesOf}
@@ -17,11 +16,10 @@ use Rattle.tree.specs.Tree.{at, tree, root, allParts}
 use Rattle.lists.specs.All.{Sized, All, all-flatten, all-each}
 use Rattle.tree.proofs.Rows.{tree-size, tree-length, tree-sized, tree-root, root-place}
 use Rattle.lists.specs.Pieces.{length-flatten, pieces-at, piece}
-use Rattle.tree.proofs.RoundTrip.{all-flatten as parts-all}
+use Rattle.tree.proofs.OpenedDigests.{parts-flatten as parts-all}
 use Rattle.algebra.specs.Prime.{q}
 use Rattle.algebra.specs.Numbers.{evalN, valuesAtN, Elements}
 use Rattle.lists.specs.Tests.{pass, true-every}
-use Rattle.scheme.specs.Sizes.{elements}
 use Rattle.scheme.specs.Sizes.{Sizes, arity, levels, nodePrefix, leaves, rows, recordValues}
 use Rattle.scheme.specs.Layers.{Lent, rowPolynomials, maskPolynomial}
 use Rattle.tree.specs.Leaf.{leafString}
@@ -35,7 +33,7 @@ use Rattle.scheme.proofs.HonestAnswers.{P-count}
 use Rattle.scheme.proofs.ReplyReadBack.{words-one, piece-flatten}
 
 -- committing takes what is right
-pub commits : (s : Sizes) (l : Lent) → WellLent s l → (table : List ℕ) (nodes : Bytes) → filledOk s table nodes ≡ true → commitVerdict s l table nodes ≡ 0
+commits : (s : Sizes) (l : Lent) → WellLent s l → (table : List ℕ) (nodes : Bytes) → filledOk s table nodes ≡ true → commitVerdict s l table nodes ≡ 0
 unfolding commitVerdict commitTests
 commits s l r table nodes f =
     pass _ (ap not (r .sizes), (ap not (true-every (lentOk s l ∷ filledOk s table nodes ∷ []) (r .lengths, (f, tt))), (ap not (r .elements), tt)))
@@ -51,7 +49,7 @@ module _ (s : Sizes) (l : Lent) (r : LentFacts s l) where
   abbrev pub P : List (List ℕ)
   P = rowPolynomials s l
 
-  abbrev pub M : List (List ℕ)
+  abbrev M : List (List ℕ)
   M = map (maskPolynomial s l) (upFrom 0 (s .η))
 
   rows-count : length P ≡ rows s
@@ -64,7 +62,7 @@ module _ (s : Sizes) (l : Lent) (r : LentFacts s l) where
   unfolding leafValues
   leafValues-are i = values-append P M i
 
-  pub leafValues-length : (i : ℕ) → length (leafValues s l i) ≡ recordValues s
+  leafValues-length : (i : ℕ) → length (leafValues s l i) ≡ recordValues s
   leafValues-length i =
       ap length (leafValues-are i) ∙ length-append (valuesAtN P i) (valuesAtN M i)
       ∙ ap₂ _+_ (length-values P i ∙ rows-count) (length-values M i ∙ masks-count)
@@ -90,7 +88,7 @@ module _ (s : Sizes) (l : Lent) (r : LentFacts s l) where
   table-below =
       all-flatten (λ (x : ℕ). x < q) (map (leafValues s l) (upFrom 0 (leaves s))) (all-each (All (λ (x : ℕ). x < q)) (leafValues s l) (upFrom 0 (leaves s)) leafValues-below)
 
-  pub table-at : (i : ℕ) → i < leaves s → piece (recordValues s) i table ≡ leafValues s l i
+  table-at : (i : ℕ) → i < leaves s → piece (recordValues s) i table ≡ leafValues s l i
   unfolding tableOf
   table-at i m =
       piece-flatten (recordValues s) (map (leafValues s l) (upFrom 0 (leaves s))) i table-long (subst (λ (n : ℕ). i < n) (sym table-count) m)
@@ -101,7 +99,7 @@ module _ (s : Sizes) (l : Lent) (r : LentFacts s l) where
   abbrev pub rec : ℕ → Bytes
   rec i = leafRecord s table (l .nonces) i
 
-  pub record-words : (i : ℕ) → i < leaves s → recordWords s (rec i) ≡ leafValues s l i
+  record-words : (i : ℕ) → i < leaves s → recordWords s (rec i) ≡ leafValues s l i
   unfolding leafRecord
   record-words i m =
       ap (λ (x : List ℕ). words (recordValues s) (bytesOf x ++ piece 32 i (l .nonces))) (table-at i m)
@@ -141,10 +139,10 @@ module _ (s : Sizes) (l : Lent) (r : LentFacts s l) where
   abbrev pub digests : List Bytes
   digests = tree digest (arity s) (nodePrefix s) (levels s) level
 
-  pub digests-sized : Sized 32 digests
+  digests-sized : Sized 32 digests
   digests-sized = tree-sized digest (arity s) (nodePrefix s) (some-children s) (levels s) level digest-length level-sized
 
-  pub digests-length : length digests ≡ treeSize (arity s) (levels s)
+  digests-length : length digests ≡ treeSize (arity s) (levels s)
   digests-length = tree-length digest (arity s) (nodePrefix s) (some-children s) (levels s) level (level-length ∙ sym (leaves-are s))
 
   pub tree-parts : allParts (treeOf s l) ≡ digests

@@ -2,7 +2,7 @@
 use mathlib.Core.Path.{_≡_, refl, sym, ap, ap₂, _∙_, subst}
 use mathlib.Core.Bool.{true, false, not}
 use mathlib.Core.List.{List, [], _∷_, _++_, map, flatten, append-nil, map-map, List·Memᴰ as Mem}
-use Prim.Native.Nat.{ℕ, zero, suc, _+_, _*_, _<_}
+use Prim.Native.Nat.{ℕ, zero, suc, _*_, _<_}
 use native.Mathlib.Nat.{zero-add}
 use native.Mathlib.Omega.{arith}
 use lib.Dec.{eqb}
@@ -18,8 +18,7 @@ use Rattle.tree.proofs.Complete.{complete}
 use Rattle.algebra.specs.Numbers.{evalN, interpN, valuesAtN}
 use Rattle.lists.specs.Pieces.{pieces}
 use Rattle.lists.specs.Tests.{Test, all, each, same, passed, pass, every-true, true-every, true-all, true-each, same-refl}
-use Rattle.scheme.specs.Sizes.{elements}
-use Rattle.scheme.specs.Sizes.{Sizes, arity, levels, nodePrefix, leaves, points}
+use Rattle.scheme.specs.Sizes.{elements, Sizes, arity, levels, nodePrefix, leaves, points}
 use Rattle.scheme.specs.Layers.{Lent, rowPolynomials, polynomialValues, evaluationAnswer, batchingAnswer}
 use Rattle.scheme.specs.Question.{Question, readQuestion, questionTests, questionVerdict}
 use Rattle.scheme.specs.Reply.{Reply, readReply, replyLength, recordWords, rowValues, maskValue}
@@ -63,7 +62,7 @@ module _ (question : Bytes) (l : Lent) (wf : questionVerdict question ≡ 0) (ri
   abbrev pub s : Sizes
   s = u .sizes
 
-  pub r : LentFacts s l
+  r : LentFacts s l
   r = lent-facts s l right
 
   a : Asked u
@@ -75,7 +74,7 @@ module _ (question : Bytes) (l : Lent) (wf : questionVerdict question ≡ 0) (ri
   ci : length (u .indices) ≡ s .ℓ
   ci = indices-length question
 
-  pub leaf-in : (b : ℕ) → b < s .ℓ → leafAt u b < leaves s
+  leaf-in : (b : ℕ) → b < s .ℓ → leafAt u b < leaves s
   leaf-in b m = below-mem (leaves s) (u .indices) (a .indices-below) (leafAt u b) (getD-in (u .indices) b (subst (λ (n : ℕ). b < n) (sym ci) m))
 
   -- ---- the four parts of the reply
@@ -118,7 +117,7 @@ module _ (question : Bytes) (l : Lent) (wf : questionVerdict question ≡ 0) (ri
       ap (λ (x : List (List ℕ)). getD x p []) (back-answers u bs ans xs ns parts)
       ∙ getD-map-in (evaluationAnswer s l) (u .evaluationPoints) p 0 [] (subst (λ (n : ℕ). p < n) (sym (points-length question)) m)
 
-  pub record-is : (b : ℕ) → b < s .ℓ → recordAt R b ≡ rec s l r (leafAt u b)
+  record-is : (b : ℕ) → b < s .ℓ → recordAt R b ≡ rec s l r (leafAt u b)
   record-is b m =
       ap (λ (x : List Bytes). getD x b []) (back-records u bs ans xs ns parts)
       ∙ getD-map-in (leafRecord s (tableOf s l) (l .nonces)) (u .indices) b 0 [] (subst (λ (n : ℕ). b < n) (sym ci) m)
@@ -157,7 +156,8 @@ module _ (question : Bytes) (l : Lent) (wf : questionVerdict question ≡ 0) (ri
   root-ok =
       ap₂ (λ (ds : List Bytes) (x : List Bytes). rootFrom digest (arity s) (nodePrefix s) (levels s) (u .indices) ds x) digests-are
       (back-nodes u bs ans xs ns parts ∙ ns-are ∙ sym (append-nil (opened (arity s) (levels s) (digests s l r) (u .indices))))
-      ∙ complete digest (arity s) (nodePrefix s) (some-children s) (levels s) (level s l r) (u .indices) [] (level-length s l r ∙ sym (leaves-are s)) (in-tree question l (tableOf s l) (treeOf s l) a (right .lengths) (filled s l r)) (leafAt u 0)
+      ∙ complete digest (arity s) (nodePrefix s) (some-children s) (levels s) (level s l r) (u .indices) [] (level-length s l r ∙ sym (leaves-are s))
+      (in-tree question l (tableOf s l) (treeOf s l) a (right .lengths) (filled s l r)) (leafAt u 0)
       (getD-in (u .indices) 0 (subst (λ (n : ℕ). 0 < n) (sym ci) (a .in-order .ℓ-low)))
       ∙ sym (last-is s l r)
       ∙ sym named

@@ -2,7 +2,7 @@
 use mathlib.Core.Path.{_≡_, refl, sym, ap, ap₂, _∙_}
 use mathlib.Core.Bool.{true, not, _&&_}
 use mathlib.Core.List.{List, [], _++_, map, flatten, append-nil}
-use Prim.Native.Nat.{ℕ, _+_, _*_, _≤_, _<_}
+use Prim.Native.Nat.{ℕ, _*_, _≤_, _<_}
 use native.Mathlib.Omega.{arith}
 use lib.Dec.{ltb}
 use lib.ListN.{length, take, drop, length-append}
@@ -26,11 +26,11 @@ pub header-length : (s : Sizes) (m : ℕ) → length (headerBytes s m) ≡ heade
 unfolding headerBytes littleEndian
 header-length s m = refl
 
-pub header-mark : (s : Sizes) (m : ℕ) (rest : Bytes) → take 5 (headerBytes s m ++ rest) ≡ mark
+header-mark : (s : Sizes) (m : ℕ) (rest : Bytes) → take 5 (headerBytes s m ++ rest) ≡ mark
 unfolding headerBytes littleEndian
 header-mark s m rest = refl
 
-pub header-points : (s : Sizes) (m : ℕ) (rest : Bytes) → headerPoints (headerBytes s m ++ rest) ≡ m
+header-points : (s : Sizes) (m : ℕ) (rest : Bytes) → headerPoints (headerBytes s m ++ rest) ≡ m
 unfolding headerBytes littleEndian
 header-points s m rest = refl
 
@@ -107,10 +107,10 @@ module _ (s : Sizes) (m : ℕ) (root : Bytes) (γs zs is : List ℕ) (f : Fit s 
       sym (drop-drop (4 * m) (pointsAt s) question) ∙ ap (drop (4 * m)) after-challenges
       ∙ drop-at (bytesOf zs) tail₃ (4 * m) (length-bytesOf zs ∙ ap (λ (n : ℕ). 4 * n) (f .points-count))
 
-  pub sizes-back : headerSizes question ≡ s
+  sizes-back : headerSizes question ≡ s
   sizes-back = ap headerSizes is-question ∙ header-sizes-back s m (root ++ tail₁) ν-small w-small
 
-  pub m-back : headerPoints question ≡ m
+  m-back : headerPoints question ≡ m
   m-back = ap headerPoints is-question ∙ header-points s m (root ++ tail₁)
 
   root-back : take 32 (drop headerLength question) ≡ root

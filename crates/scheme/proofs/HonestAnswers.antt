@@ -1,19 +1,18 @@
 -- The honest side: what rows, answers and batching answers are worth at the leaves.
 use mathlib.Core.Path.{_≡_, refl, sym, ap, ap₂, _∙_, subst}
-use mathlib.Core.List.{List, [], _∷_, _++_, map, List·Memᴰ as Mem, List·Memᴰ·head as here, List·Memᴰ·tail as there}
-use Prim.Native.Nat.{ℕ, zero, suc, _+_, _*_, _≤_, _<_}
-use native.Mathlib.Nat.{not-suc-le-zero, le-of-suc-le-suc, zero-lt-suc, zero-add, add-zero, suc-add, add-suc, mul-zero}
+use mathlib.Core.List.{List, [], _∷_, _++_, map}
+use Prim.Native.Nat.{ℕ, _+_, _*_, _≤_, _<_}
+use native.Mathlib.Nat.{zero-lt-suc, zero-add, mul-zero}
 use native.Mathlib.Omega.{arith}
-use lib.Dec.{lit<}
 use lib.ListN.{length, getD, take, drop, length-map, length-append, length-drop, List·getD-append}
-use lib.Seq.{length-take-le, ext-getD, getD-take, getD-drop, getD-append-add, drop-drop, take-add}
-use Rattle.lists.specs.Range.{upFrom, at-run, length-upFrom, upFrom-of, all-run, run-parts}
+use lib.Seq.{length-take-le, ext-getD, getD-take, getD-drop, getD-append-add}
+use Rattle.lists.specs.Range.{upFrom, at-run, length-upFrom, all-run, run-parts}
 use Rattle.lists.specs.Maps.{map-cong, getD-map-in}
 use Rattle.algebra.specs.Prime.{q}
-use Rattle.lists.specs.All.{All, all-append, all-take, all-drop, all-each}
-use Rattle.algebra.specs.Numbers.{evalN, evalN-below, interpN, interpN-below, interpN-length, interpN-values, valuesAtN, Elements, Polys}
-use Rattle.algebra.specs.Columns.{powN, concatN, columns-value}
-use Rattle.algebra.specs.Values.{getD-below, length-values, values-append, values-at, values-below, column-map, concat-pieces, interp-polys}
+use Rattle.lists.specs.All.{all-append, all-take, all-drop, all-each}
+use Rattle.algebra.specs.Numbers.{evalN, evalN-below, interpN, interpN-values, valuesAtN, Elements, Polys}
+use Rattle.algebra.specs.Columns.{powN, columns-value}
+use Rattle.algebra.specs.Values.{getD-below, length-values, values-at, column-map, concat-pieces, interp-polys}
 use Rattle.algebra.specs.Batch.{columnN, batchN, batchN-at, batchN-length, evalN-batchN, honestN}
 use Rattle.lists.specs.Pieces.{pieces, piece, length-pieces, pieces-at, pieces-sized, pieces-run}
 use Rattle.scheme.specs.Sizes.{Sizes, SizesInOrder, columns, rows, width, points}
@@ -42,7 +41,7 @@ combination-batch n z ps l h =
     (λ i m. combination-at n z ps i (subst (λ (k : ℕ). i < k) (combination-length n z ps) m) ∙ sym (batchN-at z ps i))
 
 -- its value at x: the combination of the values at x
-pub combination-value : (n z : ℕ) (ps : List (List ℕ)) (x : ℕ) → 0 < length ps → Polys n ps → evalN (combination n z ps) x ≡ evalN (valuesAtN ps x) z
+combination-value : (n z : ℕ) (ps : List (List ℕ)) (x : ℕ) → 0 < length ps → Polys n ps → evalN (combination n z ps) x ≡ evalN (valuesAtN ps x) z
 combination-value n z ps x l h = ap (λ (t : List ℕ). evalN t x) (combination-batch n z ps l h) ∙ evalN-batchN z ps x
 
 module _ (s : Sizes) (lent : Lent) (r : LentFacts s lent) where
@@ -70,7 +69,7 @@ module _ (s : Sizes) (lent : Lent) (r : LentFacts s lent) where
   row-count : (j : ℕ) → length (map (entry s lent j) (upFrom 0 (columns s))) ≡ columns s
   row-count j = length-map (upFrom 0 (columns s)) _ ∙ length-upFrom 0 (columns s)
 
-  pub extended-poly : (j : ℕ) → j < rows s → (length (extended s lent j) ≡ width s) × Elements (extended s lent j)
+  extended-poly : (j : ℕ) → j < rows s → (length (extended s lent j) ≡ width s) × Elements (extended s lent j)
   unfolding extended
   extended-poly j l = (
     length-append (map (entry s lent j) (upFrom 0 (columns s))) (piece (s .ℓ) j t) ∙ ap₂ _+_ (row-count j) (tail-length j l),
@@ -108,7 +107,7 @@ module _ (s : Sizes) (lent : Lent) (r : LentFacts s lent) where
       (column-values es (h .1) i l)
 
   -- the honest answer: the true values at the value and tail points
-  pub honest-answer : (z : ℕ) → evaluationAnswer s lent z ≡ map (λ x. evalN (valuesAtN P x) z) (points s)
+  honest-answer : (z : ℕ) → evaluationAnswer s lent z ≡ map (λ x. evalN (valuesAtN P x) z) (points s)
   honest-answer z =
       ext-getD 0 (evaluationAnswer s lent z) (map (λ x. evalN (valuesAtN P x) z) (points s))
       (combination-length (width s) z ext ∙ sym (length-map (points s) (λ x. evalN (valuesAtN P x) z) ∙ points-count s g))
@@ -125,7 +124,7 @@ module _ (s : Sizes) (lent : Lent) (r : LentFacts s lent) where
       ∙ ap (λ (r : List ℕ). evalN r x) (honestN P (width s) P-some P-polys z (points s) (points-count s g) (points-are-below s g) (points-differ s g))
       ∙ evalN-batchN z P x
 
-  pub mask-poly : (k : ℕ) → k < s .η → (length (maskPolynomial s lent k) ≡ width s) × Elements (maskPolynomial s lent k)
+  mask-poly : (k : ℕ) → k < s .η → (length (maskPolynomial s lent k) ≡ width s) × Elements (maskPolynomial s lent k)
   mask-poly k m = (
     length-take-le (width s) (drop (width s * k) (lent .masks)) (omega (arith, length-drop (width s * k) (lent .masks), row-fits (width s) k (s .η) m, r .m-length)),
     all-take (λ (x : ℕ). x < q) (width s) (drop (width s * k) (lent .masks)) (all-drop (λ (x : ℕ). x < q) (width s * k) (lent .masks) (r .m-below)),

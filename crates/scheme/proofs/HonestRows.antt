@@ -4,7 +4,7 @@ use mathlib.Core.List.{List, List·Memᴰ as Mem}
 use Prim.Native.Nat.{ℕ}
 use Rattle.lists.specs.Bytes.{Bytes}
 use Rattle.algebra.specs.Numbers.{valuesAtN, Polys}
-use Rattle.scheme.specs.Sizes.{Sizes, rows}
+use Rattle.scheme.specs.Sizes.{Sizes}
 use Rattle.scheme.specs.Layers.{Lent, rowPolynomials}
 use Rattle.scheme.specs.Question.{headerSizes}
 use Rattle.scheme.specs.Reply.{readReply, rowValues}
@@ -35,7 +35,7 @@ opened-rows s l c right h =
     ∙ ap (valuesAtN (rowPolynomials (asked c .sizes) l)) (o .leaf))
     right (h .names .root) (h .reply-made)
 
-pub honest-rows : (calls : List Call) (header root : Bytes) (l : Lent) → WellLent (headerSizes header) l → ((c : Call) → Collected calls header root c → Honest (headerSizes header) l c)
+honest-rows : (calls : List Call) (header root : Bytes) (l : Lent) → WellLent (headerSizes header) l → ((c : Call) → Collected calls header root c → Honest (headerSizes header) l c)
     → (L : List ℕ) → TakesOpened calls header root L (rowPolynomials (headerSizes header) l)
 honest-rows calls header root l right h L =
     let s : Sizes = headerSizes header in

@@ -1,7 +1,7 @@
 -- Honest calls meet the hypotheses of demand 3, but for collisions, and it finds the committed rows from them.
 use mathlib.Core.Path.{_≡_, refl, sym, ap, _∙_, subst}
 use mathlib.Core.Bool.{true}
-use mathlib.Core.Logic.{_⊎_, ⊎-elim}
+use mathlib.Core.Logic.{⊎-elim}
 use mathlib.Core.List.{List, [], _∷_, map, flatten, append-nil, List·Memᴰ as Mem, List·Memᴰ·head as here, List·Memᴰ·tail as there, List·Memᴰ·not-nil as not-nil, Memᴰ·append-left as in-left, Memᴰ·append-right as in-right, List·Memᴰ·append-cases as in-cases}
 use Prim.Native.Nat.{ℕ, zero, suc, _+_, _-_, _*_, _≤_, _<_}
 use native.Mathlib.Nat.{zero-add, le-refl, mul-le-mul-left, mul-le-mul-right}
@@ -65,7 +65,7 @@ elements-copies (suc n) x l = (l, elements-copies n x l)
 -- ---- one honest call
 
 -- the check's answer to an opener's reply
-pub honest-answered : (s : Sizes) (l : Lent) (question : Bytes) → WellLent s l → Names s l question → Answered (honestCall s l question)
+honest-answered : (s : Sizes) (l : Lent) (question : Bytes) → WellLent s l → Names s l question → Answered (honestCall s l question)
 honest-answered s l question right names = record { outcome = sym outcome }
   where
     outcome : checking question (replyOf (readQuestion question) l (tableOf s l) (treeOf s l)) (replicate (s .w * readQuestion question .m) 0) ≡ (0, trueValues s l (readQuestion question .evaluationPoints))
@@ -126,7 +126,7 @@ module _ (s : Sizes) (l : Lent) (right : WellLent s l) where
     indices-right = true-all (λ i. ltb i (leaves s)) (upFrom j (s .ℓ)) (all-imp (λ (i : ℕ) (m : i < leaves s). lt-ltb i (leaves s) m) (upFrom j (s .ℓ)) (upFrom-below j (s .ℓ) (leaves s) b));
   }
 
-  abbrev pub read : ℕ → ℕ → Question
+  abbrev read : ℕ → ℕ → Question
   read γ j = record { sizes = s; m = 1; root = root; challenges = replicate (s .η) γ; evaluationPoints = 0 ∷ []; indices = upFrom j (s .ℓ) }
 
   read-is : (γ j : ℕ) → γ ≤ rows s → j + s .ℓ ≤ leaves s → readQuestion (honestQuestion s l γ j) ≡ read γ j

@@ -10,8 +10,7 @@ use borrow.Author.Tests.{eqb-true, lt-ltb}
 use Rattle.algebra.specs.Prime.{q}
 use Rattle.lists.specs.All.{all-imp}
 use Rattle.algebra.specs.Numbers.{Elements}
-use Rattle.scheme.specs.Sizes.{SizesInOrder, elements}
-use Rattle.scheme.specs.Sizes.{Sizes, leaves, rows, width}
+use Rattle.scheme.specs.Sizes.{SizesInOrder, elements, Sizes, leaves, rows, width}
 use Rattle.scheme.specs.Layers.{Lent}
 use Rattle.scheme.specs.Commit.{lentOk}
 use Rattle.scheme.specs.Honest.{WellLent}

@@ -17,7 +17,7 @@ use Rattle.algebra.specs.Numbers.{Elements}
 use Rattle.tree.specs.Sets.{missing, treeSize}
 use Rattle.tree.specs.Tree.{allParts, opened}
 use Rattle.tree.proofs.Rows.{tree-size}
-use Rattle.tree.proofs.RoundTrip.{opened-sized}
+use Rattle.tree.proofs.OpenedDigests.{opened-sized}
 use Rattle.scheme.specs.Sizes.{Sizes, arity, levels, leaves, width, recordValues}
 use Rattle.scheme.specs.Layers.{Lent}
 use Rattle.scheme.specs.Question.{Question, readQuestion}
@@ -44,7 +44,7 @@ pub filled-lengths : (s : Sizes) (table : List ℕ) (nodes : Bytes) → filledOk
 unfolding filledOk
 filled-lengths s table nodes e = let t = every-true _ e in (eqb-true _ _ (t .0), eqb-true _ _ (t .1 .0))
 
-pub nonces-length : (s : Sizes) (l : Lent) → lentOk s l ≡ true → length (l .nonces) ≡ 32 * leaves s
+nonces-length : (s : Sizes) (l : Lent) → lentOk s l ≡ true → length (l .nonces) ≡ 32 * leaves s
 unfolding lentOk
 nonces-length s l e = eqb-true _ _ (every-true _ e .1 .1 .1 .0)
 

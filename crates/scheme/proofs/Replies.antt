@@ -2,19 +2,18 @@
 -- That no two different strings hashed share a digest is a hypothesis of the claim.
 use mathlib.Core.Path.{_≡_, refl, sym, ap, ap₂, _∙_, subst}
 use mathlib.Core.List.{List, [], _∷_, map, List·Memᴰ as Mem, List·Memᴰ·head as here}
-use Prim.Native.Nat.{ℕ, zero, suc, _+_, _-_, _*_, _≤_, _<_}
+use Prim.Native.Nat.{ℕ, zero, suc, _+_, _*_, _≤_, _<_}
 use native.Mathlib.Nat.{not-suc-le-zero}
 use native.Mathlib.Omega.{arith}
 use lib.ListN.{length, getD, take, drop}
 use lib.Seq.{getD-take}
-use Rattle.sponge.specs.Digest.{digest}
 use Rattle.lists.specs.Bytes.{Bytes, fromBytes}
 use Rattle.algebra.specs.Prime.{q}
 use Rattle.lists.specs.All.{Distinct, all-from, mem-all}
 use Rattle.algebra.specs.Numbers.{values-from, evalN, interpN, valuesAtN, Elements, Polys, rowsN, rowsN-length, rowsN-polys, rowsN-take, rowsN-unique, answerN-true}
 use Rattle.algebra.specs.Columns.{powN}
 use Rattle.lists.specs.Pieces.{piece}
-use Rattle.scheme.specs.Sizes.{Sizes, SizesInOrder, leaves, rows, width, degree, points, leafPoint}
+use Rattle.scheme.specs.Sizes.{Sizes, SizesInOrder, rows, width, degree, points, leafPoint}
 use Rattle.scheme.specs.Layers.{heldPolynomial}
 use Rattle.scheme.specs.Question.{readQuestion, headerLength, headerSizes}
 use Rattle.scheme.specs.Reply.{rowValues, maskValue}

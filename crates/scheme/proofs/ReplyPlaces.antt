@@ -7,8 +7,6 @@ use lib.Seq.{drop-drop}
 use Rattle.lists.specs.Bytes.{words-of-piece, Bytes, words}
 use Rattle.lists.specs.Pieces.{piece, pieces, length-pieces, pieces-at}
 use Rattle.lists.specs.Numbers.{words-piece}
-use Rattle.lists.specs.Tests.{each}
-use Rattle.scheme.specs.Sizes.{elements}
 use Rattle.scheme.specs.Sizes.{width}
 use Rattle.scheme.specs.Question.{Question}
 use Rattle.scheme.specs.Reply.{readReply, answersAt, recordsAt, recordLength}

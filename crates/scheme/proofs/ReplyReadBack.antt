@@ -16,7 +16,7 @@ use Rattle.scheme.specs.Reply.{readReply, replyLength, answersAt, record
 pub words-one : (n : ℕ) (x : List ℕ) (rest : Bytes) → length x ≡ n → Small x → words n (bytesOf x ++ rest) ≡ x
 words-one n x rest e h = ap (λ (k : ℕ). words k (bytesOf x ++ rest)) (sym e) ∙ words-bytesOf x rest h
 
-pub parse-words : (n : ℕ) (xs : List (List ℕ)) (rest : Bytes) → Sized n xs → All Small xs
+parse-words : (n : ℕ) (xs : List (List ℕ)) (rest : Bytes) → Sized n xs → All Small xs
     → map (words n) (pieces (4 * n) (length xs) (bytesOf (flatten xs) ++ rest)) ≡ xs
 unfolding pieces flatten
 parse-words n [] rest h k = refl

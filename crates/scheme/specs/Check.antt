@@ -10,8 +10,7 @@ use Rattle.lists.specs.Bytes.{Bytes, bytesOf}
 use Rattle.tree.specs.Tree.{rootFrom, hashed}
 use Rattle.algebra.specs.Numbers.{evalN, interpN}
 use Rattle.lists.specs.Tests.{Test, verdictOf, every, all, each, same}
-use Rattle.scheme.specs.Sizes.{elements}
-use Rattle.scheme.specs.Sizes.{arity, levels, nodePrefix, points, leafPoint}
+use Rattle.scheme.specs.Sizes.{elements, arity, levels, nodePrefix, points, leafPoint}
 use Rattle.scheme.specs.Layers.{polynomialValues}
 use Rattle.scheme.specs.Question.{Question, readQuestion, questionTests}
 use Rattle.scheme.specs.Reply.{Reply, readReply, replyLength, recordWords, rowValues, maskValue}

@@ -1,7 +1,7 @@
 -- Committing: its tests, the table of leaf values, the tree.
 use mathlib.Core.Bool.{Bool, not}
 use mathlib.Core.List.{List, [], _∷_, _++_, map, flatten}
-use Prim.Native.Nat.{ℕ, _+_, _-_, _*_}
+use Prim.Native.Nat.{ℕ, _-_, _*_}
 use lib.Dec.{eqb}
 use lib.ListN.{length, drop}
 use Rattle.sponge.specs.Digest.{digest}
@@ -12,8 +12,7 @@ use Rattle.tree.specs.Tree.{tree}
 use Rattle.algebra.specs.Numbers.{valuesAtN}
 use Rattle.lists.specs.Pieces.{piece}
 use Rattle.lists.specs.Tests.{Test, verdictOf, every}
-use Rattle.scheme.specs.Sizes.{elements}
-use Rattle.scheme.specs.Sizes.{Sizes, arity, levels, nodePrefix, leaves, rows, width, recordValues, leafPoint, sizesOk}
+use Rattle.scheme.specs.Sizes.{elements, Sizes, arity, levels, nodePrefix, leaves, rows, width, recordValues, leafPoint, sizesOk}
 use Rattle.scheme.specs.Layers.{Lent, rowPolynomials, maskPolynomial}
 use Rattle.tree.specs.Leaf.{leafString}
 

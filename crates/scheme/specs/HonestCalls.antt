@@ -1,7 +1,7 @@
 -- Honest calls: a badge that committed to s and l is asked for every run of ℓ leaves under each of μ + 1 challenges, and answers each time.
 use mathlib.Core.Path.{_≡_}
 use mathlib.Core.List.{List, [], _∷_, _++_, map, flatten, List·Memᴰ as Mem}
-use Prim.Native.Nat.{ℕ, suc, _+_, _-_, _*_}
+use Prim.Native.Nat.{ℕ, suc, _-_, _*_}
 use lib.ListN.{replicate}
 use Rattle.lists.specs.Range.{upFrom}
 use Rattle.lists.specs.Bytes.{Bytes, littleEndian, bytesOf}

@@ -1,7 +1,7 @@
 -- Opening: its tests, and the reply to a question.
 use mathlib.Core.Bool.{Bool, not}
 use mathlib.Core.List.{List, [], _∷_, _++_, map, flatten}
-use Prim.Native.Nat.{ℕ, _+_}
+use Prim.Native.Nat.{ℕ}
 use lib.Dec.{eqb}
 use lib.ListN.{length, getD}
 use Rattle.lists.specs.Choice.{pick}
@@ -9,8 +9,7 @@ use Rattle.lists.specs.Range.{upFrom}
 use Rattle.lists.specs.Bytes.{Bytes, bytesOf}
 use Rattle.tree.specs.Tree.{allParts, opened}
 use Rattle.lists.specs.Tests.{Test, verdictOf, every, same}
-use Rattle.scheme.specs.Sizes.{elements}
-use Rattle.scheme.specs.Sizes.{arity, levels}
+use Rattle.scheme.specs.Sizes.{elements, arity, levels}
 use Rattle.scheme.specs.Layers.{Lent, batchingAnswer, evaluationAnswer}
 use Rattle.scheme.specs.Question.{Question, readQuestion, questionTests}
 use Rattle.scheme.specs.Reply.{replyLength}

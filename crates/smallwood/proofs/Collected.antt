@@ -20,7 +20,7 @@ module _ (κs : Lfts 3) (a : Dens κs check-kinds.ps) (r : resT check-kinds.r κ
   callRust = record { entry = forRust; question = now (a .0); reply = now (a .1 .0); before = now (a .1 .1 .0); verdict = r; after = now (e .1 .1 .0) }
 
   -- the contract of `check` is what the theorem asks of a call
-  pub answered-rust : check.Learnt κs a r e → Answered callRust
+  answered-rust : check.Learnt κs a r e → Answered callRust
   answered-rust h = record { outcome = h }
 
 module _ (κs : Lfts 3) (a : Dens κs smallwood-check-kinds.ps) (r : resT smallwood-check-kinds.r κs .Denot) (e : AtExit (endedOf 3 smallwood-check-kinds.ps smallwood-check-kinds.r) κs) where
@@ -28,7 +28,7 @@ module _ (κs : Lfts 3) (a : Dens κs smallwood-check-kinds.ps) (r : resT smallw
   callC = record { entry = forC; question = now (a .0); reply = now (a .1 .0); before = now (a .1 .1 .0); verdict = r; after = now (e .1 .1 .0) }
 
   -- and so is that of `smallwood_check`
-  pub answered-c : smallwood-check.Learnt κs a r e → Answered callC
+  answered-c : smallwood-check.Learnt κs a r e → Answered callC
   answered-c h = record { outcome = h }
 
 -- ---- a list of calls

@@ -1,6 +1,6 @@
 -- Demand 2 from committing to sizing, opening and checking, each call as its contract describes it: what was committed is opened and accepted with the true values,
 -- by the entries of Rattle and by those for C.
-use mathlib.Core.Path.{_≡_, sym, ap, ap₂, _∙_, subst}
+use mathlib.Core.Path.{_≡_, sym, ap, ap₂, _∙_}
 use mathlib.Core.Bool.{true}
 use mathlib.Core.List.{List}
 use Prim.Native.Nat.{ℕ, _*_}
@@ -141,7 +141,8 @@ module _
   pub completed : Chained → (r₁ ≡ 0) × (sizeNumber r₂ ≡ 0) × (openNumber r₃ ≡ 0) × (r₄ ≡ 0)
       × (now (e₄ .1 .1 .0) ≡ trueValues sizesGiven lentGiven (readQuestion asked .evaluationPoints))
   completed c =
-      let one = committed sizesGiven lentGiven (c .right) (now (a₁ .1 .1 .1 .1 .1 .1 .1 .1 .1 .1 .0)) (now (a₁ .1 .1 .1 .1 .1 .1 .1 .1 .1 .1 .1 .0)) (c .room) r₁ (now (e₁ .1 .1 .1 .1 .1 .1 .1 .1 .1 .1 .0)) (now (e₁ .1 .1 .1 .1 .1 .1 .1 .1 .1 .1 .1 .0)) h₁ in
+      let one = committed sizesGiven lentGiven (c .right) (now (a₁ .1 .1 .1 .1 .1 .1 .1 .1 .1 .1 .0)) (now (a₁ .1 .1 .1 .1 .1 .1 .1 .1 .1 .1 .1 .0)) (c .room) r₁ (now (e₁ .1 .1 .1 .1 .1 .1 .1 .1 .1 .1 .0))
+      (now (e₁ .1 .1 .1 .1 .1 .1 .1 .1 .1 .1 .1 .0)) h₁ in
       let two = sized sizesGiven lentGiven (c .right) asked (c .names) (sizeNumber r₂) planned h₂ in
       let table : List ℕ = now (a₃ .1 .1 .1 .1 .0) in
       let tree : Bytes = now (a₃ .1 .1 .1 .1 .1 .1 .0) in
@@ -197,7 +198,8 @@ module _
   pub completed-c : ChainedC → (r₁ ≡ 0) × (r₂ ≡ 0) × (r₃ ≡ 0) × (r₄ ≡ 0)
       × (now (e₄ .1 .1 .0) ≡ bytesOf (trueValues sizesGivenC lentGivenC (readQuestion askedC .evaluationPoints)))
   completed-c c =
-      let one = committed sizesGivenC lentGivenC (c .right) (now (a₁ .1 .1 .1 .1 .1 .1 .1 .1 .1 .1 .0)) (now (a₁ .1 .1 .1 .1 .1 .1 .1 .1 .1 .1 .1 .0)) (c .room) r₁ (now (e₁ .1 .1 .1 .1 .1 .1 .1 .1 .1 .1 .0)) (now (e₁ .1 .1 .1 .1 .1 .1 .1 .1 .1 .1 .1 .0)) h₁ in
+      let one = committed sizesGivenC lentGivenC (c .right) (now (a₁ .1 .1 .1 .1 .1 .1 .1 .1 .1 .1 .0)) (now (a₁ .1 .1 .1 .1 .1 .1 .1 .1 .1 .1 .1 .0)) (c .room) r₁ (now (e₁ .1 .1 .1 .1 .1 .1 .1 .1 .1 .1 .0))
+      (now (e₁ .1 .1 .1 .1 .1 .1 .1 .1 .1 .1 .1 .0)) h₁ in
       let two = sizedC sizesGivenC lentGivenC (c .right) askedC (c .names) (now (a₂ .1 .0)) r₂ plannedC h₂ in
       let table : List ℕ = now (a₃ .1 .1 .1 .1 .0) in
       let tree : Bytes = now (a₃ .1 .1 .1 .1 .1 .1 .0) in

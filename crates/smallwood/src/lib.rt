@@ -9,11 +9,11 @@ ghost use Rattle.scheme.specs.Sizing.{sizingC};
 ghost use Rattle.scheme.specs.Open.{openingC};
 ghost use Rattle.scheme.specs.Check.{checking, checkingC};
 ghost use Rattle.smallwood.specs.InBytes.{inBytes};
-use question::Questioned;
-use question::ask;
 use codec::put_words;
 use opener::Opened;
 use planner::Planned;
+use question::Questioned;
+use question::ask;
 
 // Commits: fills the table and the tree, or returns the number of a refusal and leaves them as they were.
 #[no_mangle]

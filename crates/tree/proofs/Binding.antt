@@ -17,7 +17,7 @@ use Rattle.tree.proofs.Found.{found-all, found-left, found-in, found-un
 use Rattle.tree.proofs.Members.{child-in, parents-in, known, parents-below}
 
 -- an opening of the shape that its set asks for: a string of the right size for each node of the set and for each missing node
-pub record Fits (b size h : ℕ) (s : List ℕ) (ds nodes : List Bytes) : Type 0 where
+record Fits (b size h : ℕ) (s : List ℕ) (ds nodes : List Bytes) : Type 0 where
   pub bound : Below (b ^ h) s
   pub digests : length s ≡ length ds
   pub sizes : Sized size ds
@@ -82,7 +82,7 @@ module _ (digest : Bytes → Bytes) (size : ℕ) (sized : (x : Bytes) → length
       (flatten-inj size (map v₁ (children b p)) (map v₂ (children b p)) z₁ z₂ (simp length-map) (append-cancel pre _ _ e))
 
   -- two openings that give one root, digests: they agree on every node that is in both sets
-  pub binding : (h : ℕ) (s₁ s₂ : List ℕ) (ds₁ ds₂ n₁ n₂ : List Bytes) → Fits b size h s₁ ds₁ n₁ → Fits b size h s₂ ds₂ n₂
+  binding : (h : ℕ) (s₁ s₂ : List ℕ) (ds₁ ds₂ n₁ n₂ : List Bytes) → Fits b size h s₁ ds₁ n₁ → Fits b size h s₂ ds₂ n₂
       → Apart digest (hashed digest b pre h s₁ ds₁ n₁) (hashed digest b pre h s₂ ds₂ n₂)
       → rootFrom digest b pre h s₁ ds₁ n₁ ≡ rootFrom digest b pre h s₂ ds₂ n₂
       → (i : ℕ) → Mem i s₁ → Mem i s₂ → found s₁ ds₁ i ≡ found s₂ ds₂ i

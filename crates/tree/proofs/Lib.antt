@@ -7,11 +7,10 @@ pub mod Counts
 pub mod Missing
 pub mod Rows
 -- laws of the definitions
-pub mod Lists
 pub mod Members
 pub mod Found
 pub mod Digests
-pub mod RoundTrip
+pub mod OpenedDigests
 pub mod Walk
 pub mod Turns
 pub mod Children

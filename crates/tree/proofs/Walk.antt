@@ -20,7 +20,7 @@ use Rattle.tree.specs.Tree.{at, found, nodeString, strings}
 use Rattle.tree.specs.Walk.{used, skipped, fill, heads}
 use Rattle.tree.proofs.Counts.{mem-false, without-cons}
 use Rattle.tree.proofs.Found.{found-left, found-prefix, found-skip, found-insert, found-first}
-use Rattle.tree.proofs.Lists.{in-length}
+use Rattle.lists.specs.Drops.{in-length}
 use Rattle.tree.proofs.Members.{child-of, below-in, below-of, mem-in, mem-true, without-in, without-of, parents-of}
 
 -- ---- the children of one node
@@ -100,7 +100,7 @@ used-count c (suc k) (i ∷ s) r l = ⊎-elim
     (tested (eqb i c))
 
 -- a rising set from c on: the first ones lie among the k numbers from c on, and the rest lies-above them
-pub record Split (c k : ℕ) (s own rest : List ℕ) : Type 0 where
+record Split (c k : ℕ) (s own rest : List ℕ) : Type 0 where
   pub parts : s ≡ own ++ rest
   pub among : (i : ℕ) → Mem i own → (c ≤ i) × (i < c + k)
   pub beyond : (i : ℕ) → Mem i rest → c + k ≤ i
@@ -126,7 +126,11 @@ used-split c (suc k) (i ∷ s) r l = ⊎-elim
     (λ (q : eqb i c ≡ true).
     let above : (x : ℕ) → Mem x s → suc c ≤ x = λ x m. omega (arith, r .0 x m, eqb-true i c q) in
     let ih = used-split (suc c) k s (r .1) above in
-    rw q record { parts = ap (λ (t : List ℕ). i ∷ t) (ih .parts); among = λ x m. ⊎-elim (λ (e : x ≡ i). omega (arith, eqb-true i c q)) (λ (k′ : Mem x (take (used (suc c) k s) s)). omega (arith, ih .among x k′)) (cases-cons m); beyond = λ x m. omega (arith, ih .beyond x m) })
+    rw q record {
+      parts = ap (λ (t : List ℕ). i ∷ t) (ih .parts);
+      among = λ x m. ⊎-elim (λ (e : x ≡ i). omega (arith, eqb-true i c q)) (λ (k′ : Mem x (take (used (suc c) k s) s)). omega (arith, ih .among x k′)) (cases-cons m);
+      beyond = λ x m. omega (arith, ih .beyond x m);
+    })
     (λ (q : eqb i c ≡ false).
     let above : (x : ℕ) → Mem x (i ∷ s) → c < x = lies-above r (l i (here refl)) (eqb-false i c q) in
     let ih = used-split (suc c) k (i ∷ s) r above in
@@ -177,7 +181,7 @@ module _ (b : ℕ) (pos : zero < b) (i : ℕ) (s₀ : List ℕ) (r : Rising (i �
   abbrev pub cut : ℕ
   cut = used (b * (i / b)) b (i ∷ s₀)
 
-  abbrev pub own : List ℕ
+  abbrev own : List ℕ
   own = take (used (b * (i / b)) b (i ∷ s₀)) (i ∷ s₀)
 
   abbrev pub rest : List ℕ
@@ -186,7 +190,7 @@ module _ (b : ℕ) (pos : zero < b) (i : ℕ) (s₀ : List ℕ) (r : Rising (i �
   pub low : (x : ℕ) → Mem x (i ∷ s₀) → b * top ≤ x
   low x m = ⊎-elim (λ (e : x ≡ i). omega (arith, mul-div-le i b)) (λ (k : Mem x s₀). omega (arith, mul-div-le i b, r .0 x k)) (cases-cons m)
 
-  pub split : Split (b * top) b (i ∷ s₀) own rest
+  split : Split (b * top) b (i ∷ s₀) own rest
   split = used-split (b * top) b (i ∷ s₀) r low
 
   own-under : (x : ℕ) → Mem x own → x / b ≡ top

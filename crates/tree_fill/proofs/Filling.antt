@@ -18,7 +18,7 @@ use Rattle.tree.specs.Sets.{children, treeSize}
 use Rattle.tree.specs.Tree.{at, nodeString, above, tree, parts, allParts}
 use Rattle.tree.proofs.Complete.{length-above}
 use Rattle.tree.proofs.Digests.{parts-bytes, consecutive, replaced-length, parts-set, part-put}
-use Rattle.tree.proofs.Lists.{first-snoc, take-pieces}
+use Rattle.lists.specs.Drops.{first-snoc, take-pieces}
 
 -- ---- one level
 

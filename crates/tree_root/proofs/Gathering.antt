@@ -12,7 +12,7 @@ use Rattle.tree.specs.Tree.{at}
 use Rattle.tree.specs.Walk.{used, fill, heads}
 use Rattle.tree.proofs.Children.{fill-own, fill-listed, used-own, used-listed, used-most, next-filled}
 use Rattle.tree.proofs.Digests.{at-drop}
-use Rattle.tree.proofs.Lists.{tail-drop}
+use Rattle.lists.specs.Drops.{tail-drop}
 
 -- buf is filled for all children but the last left ones, of which c is the first
 pub record Gathering (first b : ℕ) (s : List ℕ) (ds ns : List Bytes) (pre : Bytes) (off a₀ t₀ len : ℕ) (buf : Bytes) (a t c left : ℕ) : Type 0 where

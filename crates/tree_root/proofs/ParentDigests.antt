@@ -5,8 +5,7 @@ use Prim.Native.Nat.{ℕ, _+_, _*_, _/_, _≤_, _<_, _-_}
 use native.Mathlib.Omega.{arith}
 use lib.ListN.{length, getD, take, drop, length-drop, drop-of-length-le}
 use lib.Seq.{take-at, drop-drop, length-take-le, append-snoc}
-use Rattle.sponge.specs.Digest.{digest-length}
-use Rattle.sponge.specs.Digest.{digest}
+use Rattle.sponge.specs.Digest.{digest-length, digest}
 use Rattle.lists.specs.Bytes.{Bytes}
 use Rattle.lists.specs.Pieces.{pieces, length-pieces}
 use Rattle.tree_root.specs.Clauses.{CanHashParents, ParentsHashed, CanGather, Gathered}

@@ -16,7 +16,7 @@ use Rattle.tree_root.specs.Clauses.{CanHashParents, ParentsHashed, CanRo
 use Rattle.tree.specs.Sets.{parents, siblings, missing}
 use Rattle.tree.specs.Tree.{found, strings, rootFrom, parts, allParts}
 use Rattle.tree.proofs.Counts.{missing-count}
-use Rattle.tree.proofs.Lists.{in-length}
+use Rattle.lists.specs.Drops.{in-length}
 use Rattle.tree.proofs.Members.{parents-in, parents-below}
 use Rattle.node_sets.proofs.Sets.{set-kept, set-fewer}
 use Rattle.node_sets.proofs.Turns.{set-length}

@@ -4,7 +4,6 @@ use mathlib.Core.List.{List}
 use Prim.Native.Nat.{ℕ}
 use lib.ListN.{length}
 use Rattle.commitment.specs.Shape.{sizesIn}
-use Rattle.scheme.proofs.Accepted.{sizes-in-order}
 use Rattle.answers.proofs.Rows.{weights-fit, weights-room, columns-length, weights-kept, weights-length, dots-ask, rest-ask, combined}
 use borrow.Author.Needs.{needs}
 use Rattle.answers.proofs.combine_lent.Statement.{statement}
@@ -24,14 +23,16 @@ array-borrow-prefix-weights c =
     let s = c .before .before .before .before .before .before .args in
     let b : List ℕ = c .blank-weights .result in
     let l : length b ≡ 64 = search needs in
-    weights-fit (sizesIn (s .s)) (s .coefficients .now) (s .tails .now) (c .before .before .before .before .before .before .pre .0) (c .before .column-count .result) (s .out .now) b (c .before .column-count .ensures) (c .before .before .before .before .before .before .pre .1) l
+    weights-fit (sizesIn (s .s)) (s .coefficients .now) (s .tails .now) (c .before .before .before .before .before .before .pre .0) (c .before .column-count .result) (s .out .now) b (c .before .column-count .ensures)
+    (c .before .before .before .before .before .before .pre .1) l
 
 slice-aggregate-powers : tie.Need-slice-aggregate-powers
 slice-aggregate-powers c =
     let s = c .before .before .before .before .before .before .before .args in
     let b : List ℕ = c .before .blank-weights .result in
     let l : length b ≡ 64 = search needs in
-    weights-room (sizesIn (s .s)) (s .coefficients .now) (s .tails .now) (c .before .before .before .before .before .before .before .pre .0) (c .before .before .column-count .result) (s .out .now) b (c .before .before .column-count .ensures) (c .before .before .before .before .before .before .before .pre .1) l
+    weights-room (sizesIn (s .s)) (s .coefficients .now) (s .tails .now) (c .before .before .before .before .before .before .before .pre .0) (c .before .before .column-count .result) (s .out .now) b
+    (c .before .before .column-count .ensures) (c .before .before .before .before .before .before .before .pre .1) l
 
 powers-requires : tie.Need-powers-requires
 powers-requires c κs = search needs
@@ -41,14 +42,17 @@ array-share-prefix-weights c =
     let s = c .before .before .before .before .before .before .before .before .before .args in
     let b : List ℕ = c .before .before .before .blank-weights .result in
     let l : length b ≡ 64 = search needs in
-    weights-kept (sizesIn (s .s)) (s .coefficients .now) (s .tails .now) (c .before .before .before .before .before .before .before .before .before .pre .0) (c .before .before .before .before .column-count .result) (s .out .now) b (c .before .before .before .before .column-count .ensures) (c .before .before .before .before .before .before .before .before .before .pre .1) l (s .z .0) (c .before .powers .last .1 .0) (c .before .powers .ensures)
+    weights-kept (sizesIn (s .s)) (s .coefficients .now) (s .tails .now) (c .before .before .before .before .before .before .before .before .before .pre .0) (c .before .before .before .before .column-count .result) (s .out .now)
+    b (c .before .before .before .before .column-count .ensures) (c .before .before .before .before .before .before .before .before .before .pre .1) l (s .z .0) (c .before .powers .last .1 .0) (c .before .powers .ensures)
 
 slice-aggregate-dots : tie.Need-slice-aggregate-dots
 slice-aggregate-dots c =
     let s = c .before .before .before .before .before .before .before .before .before .before .args in
     let b : List ℕ = c .before .before .before .before .blank-weights .result in
     let l : length b ≡ 64 = search needs in
-    weights-length (sizesIn (s .s)) (s .coefficients .now) (s .tails .now) (c .before .before .before .before .before .before .before .before .before .before .pre .0) (c .before .before .before .before .before .column-count .result) (s .out .now) b (c .before .before .before .before .before .column-count .ensures) (c .before .before .before .before .before .before .before .before .before .before .pre .1) l (s .z .0) (c .before .before .powers .last .1 .0) (c .before .before .powers .ensures)
+    weights-length (sizesIn (s .s)) (s .coefficients .now) (s .tails .now) (c .before .before .before .before .before .before .before .before .before .before .pre .0)
+    (c .before .before .before .before .before .column-count .result) (s .out .now) b (c .before .before .before .before .before .column-count .ensures)
+    (c .before .before .before .before .before .before .before .before .before .before .pre .1) l (s .z .0) (c .before .before .powers .last .1 .0) (c .before .before .powers .ensures)
 
 slice-relend-prefix-dots : tie.Need-slice-relend-prefix-dots
 slice-relend-prefix-dots c = search needs
@@ -58,28 +62,39 @@ slice-aggregate-dots-2 c =
     let s = c .before .before .before .before .before .before .before .before .before .before .before .args in
     let b : List ℕ = c .before .before .before .before .before .blank-weights .result in
     let l : length b ≡ 64 = search needs in
-    columns-length (sizesIn (s .s)) (s .coefficients .now) (s .tails .now) (c .before .before .before .before .before .before .before .before .before .before .before .pre .0) (c .before .before .before .before .before .before .column-count .result) (s .out .now) b (c .before .before .before .before .before .before .column-count .ensures) (c .before .before .before .before .before .before .before .before .before .before .before .pre .1) l
+    columns-length (sizesIn (s .s)) (s .coefficients .now) (s .tails .now) (c .before .before .before .before .before .before .before .before .before .before .before .pre .0)
+    (c .before .before .before .before .before .before .column-count .result) (s .out .now) b (c .before .before .before .before .before .before .column-count .ensures)
+    (c .before .before .before .before .before .before .before .before .before .before .before .pre .1) l
 
 dots-requires : tie.Need-dots-requires
 dots-requires c κs =
     let s = c .before .before .before .before .before .before .before .before .before .before .before .args in
     let b : List ℕ = c .before .before .before .before .before .blank-weights .result in
     let l : length b ≡ 64 = search needs in
-    dots-ask (sizesIn (s .s)) (s .coefficients .now) (s .tails .now) (c .before .before .before .before .before .before .before .before .before .before .before .pre .0) (c .before .before .before .before .before .before .column-count .result) (s .out .now) b (c .before .before .before .before .before .before .column-count .ensures) (c .before .before .before .before .before .before .before .before .before .before .before .pre .1) l (s .z .0) (c .before .before .before .powers .last .1 .0) (c .before .before .before .powers .ensures)
+    dots-ask (sizesIn (s .s)) (s .coefficients .now) (s .tails .now) (c .before .before .before .before .before .before .before .before .before .before .before .pre .0)
+    (c .before .before .before .before .before .before .column-count .result) (s .out .now) b (c .before .before .before .before .before .before .column-count .ensures)
+    (c .before .before .before .before .before .before .before .before .before .before .before .pre .1) l (s .z .0) (c .before .before .before .powers .last .1 .0) (c .before .before .before .powers .ensures)
 
 array-share-prefix-weights-2 : tie.Need-array-share-prefix-weights-2
 array-share-prefix-weights-2 c =
     let s = c .before .before .before .before .before .before .before .before .before .before .before .before .before .before .args in
     let b : List ℕ = c .before .before .before .before .before .before .before .before .blank-weights .result in
     let l : length b ≡ 64 = search needs in
-    weights-kept (sizesIn (s .s)) (s .coefficients .now) (s .tails .now) (c .before .before .before .before .before .before .before .before .before .before .before .before .before .before .pre .0) (c .before .before .before .before .before .before .before .before .before .column-count .result) (s .out .now) b (c .before .before .before .before .before .before .before .before .before .column-count .ensures) (c .before .before .before .before .before .before .before .before .before .before .before .before .before .before .pre .1) l (s .z .0) (c .before .before .before .before .before .before .powers .last .1 .0) (c .before .before .before .before .before .before .powers .ensures)
+    weights-kept (sizesIn (s .s)) (s .coefficients .now) (s .tails .now) (c .before .before .before .before .before .before .before .before .before .before .before .before .before .before .pre .0)
+    (c .before .before .before .before .before .before .before .before .before .column-count .result) (s .out .now) b (c .before .before .before .before .before .before .before .before .before .column-count .ensures)
+    (c .before .before .before .before .before .before .before .before .before .before .before .before .before .before .pre .1) l (s .z .0) (c .before .before .before .before .before .before .powers .last .1 .0)
+    (c .before .before .before .before .before .before .powers .ensures)
 
 slice-aggregate-combine-tails : tie.Need-slice-aggregate-combine-tails
 slice-aggregate-combine-tails c =
     let s = c .before .before .before .before .before .before .before .before .before .before .before .before .before .before .before .args in
     let b : List ℕ = c .before .before .before .before .before .before .before .before .before .blank-weights .result in
     let l : length b ≡ 64 = search needs in
-    weights-length (sizesIn (s .s)) (s .coefficients .now) (s .tails .now) (c .before .before .before .before .before .before .before .before .before .before .before .before .before .before .before .pre .0) (c .before .before .before .before .before .before .before .before .before .before .column-count .result) (s .out .now) b (c .before .before .before .before .before .before .before .before .before .before .column-count .ensures) (c .before .before .before .before .before .before .before .before .before .before .before .before .before .before .before .pre .1) l (s .z .0) (c .before .before .before .before .before .before .before .powers .last .1 .0) (c .before .before .before .before .before .before .before .powers .ensures)
+    weights-length (sizesIn (s .s)) (s .coefficients .now) (s .tails .now) (c .before .before .before .before .before .before .before .before .before .before .before .before .before .before .before .pre .0)
+    (c .before .before .before .before .before .before .before .before .before .before .column-count .result) (s .out .now) b
+    (c .before .before .before .before .before .before .before .before .before .before .column-count .ensures)
+    (c .before .before .before .before .before .before .before .before .before .before .before .before .before .before .before .pre .1) l (s .z .0) (c .before .before .before .before .before .before .before .powers .last .1 .0)
+    (c .before .before .before .before .before .before .before .powers .ensures)
 
 mul-combine-tails : tie.Need-mul-combine-tails
 mul-combine-tails c = search needs
@@ -98,7 +113,12 @@ combine-tails-requires c κs =
     let s = c .before .before .before .before .before .before .before .before .before .before .before .before .before .before .before .before .args in
     let b : List ℕ = c .before .before .before .before .before .before .before .before .before .before .blank-weights .result in
     let l : length b ≡ 64 = search needs in
-    rest-ask (sizesIn (s .s)) (s .coefficients .now) (s .tails .now) (c .before .before .before .before .before .before .before .before .before .before .before .before .before .before .before .before .pre .0) (c .before .before .before .before .before .before .before .before .before .before .before .column-count .result) (s .out .now) b (c .before .before .before .before .before .before .before .before .before .before .before .column-count .ensures) (c .before .before .before .before .before .before .before .before .before .before .before .before .before .before .before .before .pre .1) l (s .z .0) (c .before .before .before .before .before .before .before .before .powers .last .1 .0) (c .before .before .before .before .before .before .before .before .powers .ensures) (c .before .before .before .before .dots .last .1 .1 .0) (c .before .before .before .before .dots .ensures)
+    rest-ask (sizesIn (s .s)) (s .coefficients .now) (s .tails .now) (c .before .before .before .before .before .before .before .before .before .before .before .before .before .before .before .before .pre .0)
+    (c .before .before .before .before .before .before .before .before .before .before .before .column-count .result) (s .out .now) b
+    (c .before .before .before .before .before .before .before .before .before .before .before .column-count .ensures)
+    (c .before .before .before .before .before .before .before .before .before .before .before .before .before .before .before .before .pre .1) l (s .z .0)
+    (c .before .before .before .before .before .before .before .before .powers .last .1 .0) (c .before .before .before .before .before .before .before .before .powers .ensures)
+    (c .before .before .before .before .dots .last .1 .1 .0) (c .before .before .before .before .dots .ensures)
 
 same-length : tie.Need-same-length
 same-length c = search needs
@@ -108,7 +128,13 @@ returns c =
     let s = c .before .before .before .before .before .before .before .before .before .before .before .before .before .before .before .before .before .before .before .args in
     let b : List ℕ = c .before .before .before .before .before .before .before .before .before .before .before .before .before .blank-weights .result in
     let l : length b ≡ 64 = search needs in
-    combined (sizesIn (s .s)) (s .coefficients .now) (s .tails .now) (c .before .before .before .before .before .before .before .before .before .before .before .before .before .before .before .before .before .before .before .pre .0) (c .before .before .before .before .before .before .before .before .before .before .before .before .before .before .column-count .result) (s .out .now) b (c .before .before .before .before .before .before .before .before .before .before .before .before .before .before .column-count .ensures) (c .before .before .before .before .before .before .before .before .before .before .before .before .before .before .before .before .before .before .before .pre .1) l (s .z .0) (c .before .before .before .before .before .before .before .before .before .before .before .powers .last .1 .0) (c .before .before .before .before .before .before .before .before .before .before .before .powers .ensures) (c .before .before .before .before .before .before .before .dots .last .1 .1 .0) (c .before .before .before .before .before .before .before .dots .ensures) (c .before .before .combine-tails .last .1 .1 .1 .0) (c .before .before .combine-tails .ensures)
+    combined (sizesIn (s .s)) (s .coefficients .now) (s .tails .now) (c .before .before .before .before .before .before .before .before .before .before .before .before .before .before .before .before .before .before .before .pre .0)
+    (c .before .before .before .before .before .before .before .before .before .before .before .before .before .before .column-count .result) (s .out .now) b
+    (c .before .before .before .before .before .before .before .before .before .before .before .before .before .before .column-count .ensures)
+    (c .before .before .before .before .before .before .before .before .before .before .before .before .before .before .before .before .before .before .before .pre .1) l (s .z .0)
+    (c .before .before .before .before .before .before .before .before .before .before .before .powers .last .1 .0) (c .before .before .before .before .before .before .before .before .before .before .before .powers .ensures)
+    (c .before .before .before .before .before .before .before .dots .last .1 .1 .0) (c .before .before .before .before .before .before .before .dots .ensures) (c .before .before .combine-tails .last .1 .1 .1 .0)
+    (c .before .before .combine-tails .ensures)
 
 pub combine-lent-spec : {M : Type 1} → statement M
 combine-lent-spec =

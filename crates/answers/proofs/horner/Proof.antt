@@ -53,7 +53,8 @@ loop-holds : tie.Need-loop-holds Inv-loop μ-loop
 loop-holds c =
     let s = c .before .before .before .before .before .before .before .args in
     let n : ℕ = length (s .out .now) in
-    let e : c .before .before .fold .last .0 ≡ combinedFrom n (s .mu) (s .z .0) (s .rows .now) (s .mu - 1) = c .before .before .fold .ensures ∙ combined-last n (s .mu) (s .z .0) (s .rows .now) (c .before .before .before .before .before .before .before .pre .whole) (s .out .now) (c .before .before .before .before .before .before .before .pre .some) refl in
+    let e : c .before .before .fold .last .0 ≡ combinedFrom n (s .mu) (s .z .0) (s .rows .now) (s .mu - 1) = c .before .before .fold .ensures ∙ combined-last n (s .mu) (s .z .0) (s .rows .now)
+    (c .before .before .before .before .before .before .before .pre .whole) (s .out .now) (c .before .before .before .before .before .before .before .pre .some) refl in
     let l : length (c .before .before .fold .last .0) ≡ n = ap length e ∙ combined-length n (s .mu) (s .z .0) (s .rows .now) (s .mu - 1) in
     (l, omega arith, e, l)
 

@@ -31,8 +31,12 @@ put-answer-in-requires c κs =
     let s = c .before .before .before .before .before .before .before .args in
     let b : List ℕ = c .before .before .blank-few .result in
     let l : length b ≡ 32 = search needs in
-    let e : s .n ≡ length (take (s .n) b) = sym (length-take-le (s .n) b (omega arith)) in
-    (c .before .before .before .before .before .before .before .pre .0, sym e ∙ c .before .before .before .before .before .before .before .pre .1, subst (λ (k : ℕ). s .at + 4 * k ≤ length (s .out .now)) e (c .before .before .before .before .before .before .before .pre .2))
+    let e : s .n ≡ length (take (s .n) b) = sym (length-take-le (s .n) b (omega arith)) in (
+      c .before .before .before .before .before .before .before .pre .0,
+      sym e ∙ c .before .before .before .before .before .before .before .pre .1,
+      subst (λ (k : ℕ). s .at + 4 * k ≤ length (s .out .now)) e
+          (c .before .before .before .before .before .before .before .pre .2),
+    )
 
 same-length : tie.Need-same-length
 same-length c = search needs
@@ -67,8 +71,13 @@ put-answer-in-requires-2 c κs =
     let s = c .before .before .before .before .before .before .before .args in
     let b : List ℕ = c .before .before .blank .result in
     let l : length b ≡ 320 = search needs in
-    let e : s .n ≡ length (take (s .n) b) = answer-room (sizesIn (s .s)) (s .coefficients .now) (s .tails .now) (c .before .before .before .before .before .before .before .pre .0) (s .n) b (c .before .before .before .before .before .before .before .pre .1) l in
-    (c .before .before .before .before .before .before .before .pre .0, sym e ∙ c .before .before .before .before .before .before .before .pre .1, subst (λ (k : ℕ). s .at + 4 * k ≤ length (s .out .now)) e (c .before .before .before .before .before .before .before .pre .2))
+    let e : s .n ≡ length (take (s .n) b) = answer-room (sizesIn (s .s)) (s .coefficients .now) (s .tails .now) (c .before .before .before .before .before .before .before .pre .0) (s .n) b
+    (c .before .before .before .before .before .before .before .pre .1) l in (
+      c .before .before .before .before .before .before .before .pre .0,
+      sym e ∙ c .before .before .before .before .before .before .before .pre .1,
+      subst (λ (k : ℕ). s .at + 4 * k ≤ length (s .out .now)) e
+          (c .before .before .before .before .before .before .before .pre .2),
+    )
 
 same-length-2 : tie.Need-same-length-2
 same-length-2 c = search needs
@@ -79,7 +88,9 @@ returns-2 c =
     let b : List ℕ = c .before .before .before .before .before .before .blank .result in
     let l : length b ≡ 320 = search needs in
     let es : List (List ℕ) = extendedRows (sizesIn (s .s)) (lentOf (s .coefficients .now) (s .tails .now) [] []) in
-    c .before .before .before .put-answer-in2 .ensures ∙ ap (λ (k : ℕ). spliced (s .at) (4 * k) (bytesOf (combination k (s .z .0) es)) (s .out .now)) (sym (answer-room (sizesIn (s .s)) (s .coefficients .now) (s .tails .now) (c .before .before .before .before .before .before .before .before .before .before .before .pre .0) (s .n) b (c .before .before .before .before .before .before .before .before .before .before .before .pre .1) l))
+    c .before .before .before .put-answer-in2 .ensures ∙ ap (λ (k : ℕ). spliced (s .at) (4 * k) (bytesOf (combination k (s .z .0) es)) (s .out .now))
+    (sym (answer-room (sizesIn (s .s)) (s .coefficients .now) (s .tails .now) (c .before .before .before .before .before .before .before .before .before .before .before .pre .0) (s .n) b
+    (c .before .before .before .before .before .before .before .before .before .before .before .pre .1) l))
 
 pub put-answer-spec : {M : Type 1} → statement M
 put-answer-spec =

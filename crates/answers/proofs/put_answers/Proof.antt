@@ -66,8 +66,12 @@ put-answer-requires c κs =
     let es : List (List ℕ) = extendedRows (sizesIn (s .s)) (lentOf (s .coefficients .now) (s .tails .now) [] []) in
     let h : s .at + 4 * s .n * c .before .before .before .loop .p + 4 * s .n ≤ length (s .out .now) =
     answers-room (answerAt (s .n) es) (words (s .m) (drop (s .points) (s .question .now))) (s .n) (s .at) (s .out .now) (s .m) (length-words (s .m) (drop (s .points) (s .question .now)))
-    (λ z. combination-length (s .n) z es) (c .before .before .before .before .before .before .before .before .pre .3) (c .before .before .before .loop .p) (omega arith) in
-    (c .before .before .before .before .before .before .before .before .pre .0, c .before .before .before .before .before .before .before .before .pre .1, subst (λ (k : ℕ). s .at + 4 * s .n * c .before .before .before .loop .p + 4 * s .n ≤ k) (sym (c .before .before .before .loop .inv .3)) h)
+    (λ z. combination-length (s .n) z es) (c .before .before .before .before .before .before .before .before .pre .3) (c .before .before .before .loop .p) (omega arith) in (
+      c .before .before .before .before .before .before .before .before .pre .0,
+      c .before .before .before .before .before .before .before .before .pre .1,
+      subst
+          (λ (k : ℕ). s .at + 4 * s .n * c .before .before .before .loop .p + 4 * s .n ≤ k) (sym (c .before .before .before .loop .inv .3)) h,
+    )
 
 add-p : tie.Need-add-p Inv-loop μ-loop
 add-p c = search needs
@@ -84,7 +88,8 @@ loop-again c =
     let f : ℕ → List ℕ = answerAt (s .n) es in
     let z : c .before .before .before .before .word .result ≡ getD xs p 0 = c .before .before .before .before .word .ensures ∙ sym (word-from (s .m) (s .points) p (s .question .now) (omega arith)) in
     let r = answers-turn f xs (s .n) (s .at) (s .out .now) (s .m) (length-words (s .m) (drop (s .points) (s .question .now)))
-    (λ z. combination-length (s .n) z es) (c .before .before .before .before .before .before .before .before .before .before .before .pre .3) p (c .before .before .before .before .before .before .loop .out) (c .before .before .put-answer .last .1 .1 .1 .1 .1 .0) (omega arith) (c .before .before .before .before .before .before .loop .inv .2)
+    (λ z. combination-length (s .n) z es) (c .before .before .before .before .before .before .before .before .before .before .before .pre .3) p (c .before .before .before .before .before .before .loop .out)
+    (c .before .before .put-answer .last .1 .1 .1 .1 .1 .0) (omega arith) (c .before .before .before .before .before .before .loop .inv .2)
     (c .before .before .put-answer .ensures ∙ ap (λ (y : ℕ). spliced (s .at + 4 * s .n * p) (4 * s .n) (bytesOf (f y)) (c .before .before .before .before .before .before .loop .out)) z) in
     (refl, omega arith, r .0, r .1)
 
@@ -94,7 +99,8 @@ same-length c = search needs
 returns : tie.Need-returns Inv-loop μ-loop
 returns c =
     let s = c .before .before .before .before .before .before .args in
-    c .before .loop .inv .2 ∙ answers-all (answerAt (s .n) (extendedRows (sizesIn (s .s)) (lentOf (s .coefficients .now) (s .tails .now) [] []))) (words (s .m) (drop (s .points) (s .question .now))) (s .n) (s .at) (s .out .now) (s .m) (length-words (s .m) (drop (s .points) (s .question .now))) (c .before .loop .p) (omega arith)
+    c .before .loop .inv .2 ∙ answers-all (answerAt (s .n) (extendedRows (sizesIn (s .s)) (lentOf (s .coefficients .now) (s .tails .now) [] []))) (words (s .m) (drop (s .points) (s .question .now))) (s .n) (s .at) (s .out .now)
+    (s .m) (length-words (s .m) (drop (s .points) (s .question .now))) (c .before .loop .p) (omega arith)
 
 pub put-answers-spec : {M : Type 1} → statement M
 put-answers-spec =

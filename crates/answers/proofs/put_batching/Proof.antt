@@ -2,7 +2,7 @@
 use mathlib.Core.Path.{_≡_, sym}
 use mathlib.Core.List.{List}
 use Prim.Native.Nat.{ℕ}
-use lib.ListN.{length, take}
+use lib.ListN.{length}
 use lib.Seq.{length-take-le}
 use Rattle.commitment.specs.Shape.{sizesIn}
 use Rattle.answers.proofs.Rows.{answer-fits, answer-room}
@@ -41,8 +41,14 @@ put-batching-in-requires c κs =
     let a : List ℕ = c .before .before .before .before .blank-few .result in
     let b : List ℕ = c .before .before .before .blank-few2 .result in
     let k : length a ≡ 32 = search needs in
-    let l : length b ≡ 32 = search needs in
-    (c .before .before .before .before .before .before .before .before .before .before .pre .0, c .before .before .before .before .before .before .before .before .before .before .pre .1, c .before .before .before .before .before .before .before .before .before .before .pre .2, c .before .before .before .before .before .before .before .before .before .before .pre .3, length-take-le n a (omega arith), length-take-le n b (omega arith))
+    let l : length b ≡ 32 = search needs in (
+      c .before .before .before .before .before .before .before .before .before .before .pre .0,
+      c .before .before .before .before .before .before .before .before .before .before .pre .1,
+      c .before .before .before .before .before .before .before .before .before .before .pre .2,
+      c .before .before .before .before .before .before .before .before .before .before .pre .3,
+      length-take-le n a (omega arith),
+      length-take-le n b (omega arith),
+    )
 
 same-length : tie.Need-same-length
 same-length c = search needs
@@ -68,21 +74,24 @@ slice-aggregate-put-batching-in-3 c =
     let s = c .before .before .before .before .before .before .before .before .args in
     let b : List ℕ = c .before .before .blank .result in
     let l : length b ≡ 320 = search needs in
-    answer-room (sizesIn (s .s)) (s .coefficients .now) (s .tails .now) (c .before .before .before .before .before .before .before .before .pre .0) (length (s .mask .now)) b (c .before .before .before .before .before .before .before .before .pre .1) l
+    answer-room (sizesIn (s .s)) (s .coefficients .now) (s .tails .now) (c .before .before .before .before .before .before .before .before .pre .0) (length (s .mask .now)) b
+    (c .before .before .before .before .before .before .before .before .pre .1) l
 
 array-borrow-prefix-answer-2 : tie.Need-array-borrow-prefix-answer-2
 array-borrow-prefix-answer-2 c =
     let s = c .before .before .before .before .before .before .before .before .args in
     let b : List ℕ = c .before .blank2 .result in
     let l : length b ≡ 320 = search needs in
-    answer-fits (sizesIn (s .s)) (s .coefficients .now) (s .tails .now) (c .before .before .before .before .before .before .before .before .pre .0) (length (s .mask .now)) b (c .before .before .before .before .before .before .before .before .pre .1) l
+    answer-fits (sizesIn (s .s)) (s .coefficients .now) (s .tails .now) (c .before .before .before .before .before .before .before .before .pre .0) (length (s .mask .now)) b
+    (c .before .before .before .before .before .before .before .before .pre .1) l
 
 slice-aggregate-put-batching-in-4 : tie.Need-slice-aggregate-put-batching-in-4
 slice-aggregate-put-batching-in-4 c =
     let s = c .before .before .before .before .before .before .before .before .before .args in
     let b : List ℕ = c .before .before .blank2 .result in
     let l : length b ≡ 320 = search needs in
-    answer-room (sizesIn (s .s)) (s .coefficients .now) (s .tails .now) (c .before .before .before .before .before .before .before .before .before .pre .0) (length (s .mask .now)) b (c .before .before .before .before .before .before .before .before .before .pre .1) l
+    answer-room (sizesIn (s .s)) (s .coefficients .now) (s .tails .now) (c .before .before .before .before .before .before .before .before .before .pre .0) (length (s .mask .now)) b
+    (c .before .before .before .before .before .before .before .before .before .pre .1) l
 
 put-batching-in-requires-2 : tie.Need-put-batching-in-requires-2
 put-batching-in-requires-2 c κs =
@@ -91,8 +100,18 @@ put-batching-in-requires-2 c κs =
     let a : List ℕ = c .before .before .before .before .blank .result in
     let b : List ℕ = c .before .before .before .blank2 .result in
     let k : length a ≡ 320 = search needs in
-    let l : length b ≡ 320 = search needs in
-    (c .before .before .before .before .before .before .before .before .before .before .pre .0, c .before .before .before .before .before .before .before .before .before .before .pre .1, c .before .before .before .before .before .before .before .before .before .before .pre .2, c .before .before .before .before .before .before .before .before .before .before .pre .3, sym (answer-room (sizesIn (s .s)) (s .coefficients .now) (s .tails .now) (c .before .before .before .before .before .before .before .before .before .before .pre .0) n a (c .before .before .before .before .before .before .before .before .before .before .pre .1) k), sym (answer-room (sizesIn (s .s)) (s .coefficients .now) (s .tails .now) (c .before .before .before .before .before .before .before .before .before .before .pre .0) n b (c .before .before .before .before .before .before .before .before .before .before .pre .1) l))
+    let l : length b ≡ 320 = search needs in (
+      c .before .before .before .before .before .before .before .before .before .before .pre .0,
+      c .before .before .before .before .before .before .before .before .before .before .pre .1,
+      c .before .before .before .before .before .before .before .before .before .before .pre .2,
+      c .before .before .before .before .before .before .before .before .before .before .pre .3,
+      sym
+          (answer-room (sizesIn (s .s)) (s .coefficients .now) (s .tails .now) (c .before .before .before .before .before .before .before .before .before .before .pre .0) n a
+          (c .before .before .before .before .before .before .before .before .before .before .pre .1) k),
+      sym
+          (answer-room (sizesIn (s .s)) (s .coefficients .now) (s .tails .now) (c .before .before .before .before .before .before .before .before .before .before .pre .0) n b
+          (c .before .before .before .before .before .before .before .before .before .before .pre .1) l),
+    )
 
 same-length-2 : tie.Need-same-length-2
 same-length-2 c = search needs

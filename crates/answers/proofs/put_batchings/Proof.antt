@@ -21,7 +21,8 @@ use Rattle.answers.proofs.put_batchings.Tie as tie
 
 abbrev Inv-loop : tie.InvT-loop
 Inv-loop s question challenges first coefficients tails n masks out₀ at eta size k₀ out k =
-    (eta ≡ s .eta) × (size ≡ 4 * n) × (k ≤ eta) × (out ≡ answersTo (batchingAt (first .0) n (extendedRows (sizesIn s) (lentOf coefficients tails [] [])) masks (words (s .eta) (drop challenges question))) (upFrom 0 (s .eta)) n at out₀ k) × (length out ≡ length out₀)
+    (eta ≡ s .eta) × (size ≡ 4 * n) × (k ≤ eta) × (out ≡ answersTo (batchingAt (first .0) n (extendedRows (sizesIn s) (lentOf coefficients tails [] [])) masks (words (s .eta) (drop challenges question))) (upFrom 0 (s .eta)) n at
+    out₀ k) × (length out ≡ length out₀)
 
 abbrev μ-loop : tie.MeasureT-loop
 μ-loop s question challenges first coefficients tails n masks out₀ at eta size k₀ out k = eta - k
@@ -79,7 +80,8 @@ mul-put-batching-2 c =
     let es : List (List ℕ) = extendedRows (sizesIn (s .s)) (lentOf (s .coefficients .now) (s .tails .now) [] []) in
     let h : s .at + 4 * s .n * c .before .before .before .before .loop .k + 4 * s .n ≤ length (s .out .now) =
     answers-room (batchingAt (s .first .0) (s .n) es (s .masks .now) (words (s .s .eta) (drop (s .challenges) (s .question .now)))) (upFrom 0 (s .s .eta)) (s .n) (s .at) (s .out .now) (s .s .eta) (length-upFrom 0 (s .s .eta))
-    (λ k. combination-length (s .n) (getD (words (s .s .eta) (drop (s .challenges) (s .question .now))) k 0) _) (c .before .before .before .before .before .before .before .before .before .before .before .pre .5) (c .before .before .before .before .loop .k) (omega arith) in
+    (λ k. combination-length (s .n) (getD (words (s .s .eta) (drop (s .challenges) (s .question .now))) k 0) _) (c .before .before .before .before .before .before .before .before .before .before .before .pre .5)
+    (c .before .before .before .before .loop .k) (omega arith) in
     search needs
 
 add-put-batching : tie.Need-add-put-batching Inv-loop μ-loop
@@ -88,7 +90,8 @@ add-put-batching c =
     let es : List (List ℕ) = extendedRows (sizesIn (s .s)) (lentOf (s .coefficients .now) (s .tails .now) [] []) in
     let h : s .at + 4 * s .n * c .before .before .before .before .loop .k + 4 * s .n ≤ length (s .out .now) =
     answers-room (batchingAt (s .first .0) (s .n) es (s .masks .now) (words (s .s .eta) (drop (s .challenges) (s .question .now)))) (upFrom 0 (s .s .eta)) (s .n) (s .at) (s .out .now) (s .s .eta) (length-upFrom 0 (s .s .eta))
-    (λ k. combination-length (s .n) (getD (words (s .s .eta) (drop (s .challenges) (s .question .now))) k 0) _) (c .before .before .before .before .before .before .before .before .before .before .before .pre .5) (c .before .before .before .before .loop .k) (omega arith) in
+    (λ k. combination-length (s .n) (getD (words (s .s .eta) (drop (s .challenges) (s .question .now))) k 0) _) (c .before .before .before .before .before .before .before .before .before .before .before .pre .5)
+    (c .before .before .before .before .loop .k) (omega arith) in
     search needs
 
 put-batching-requires : tie.Need-put-batching-requires Inv-loop μ-loop
@@ -97,9 +100,11 @@ put-batching-requires c κs =
     let es : List (List ℕ) = extendedRows (sizesIn (s .s)) (lentOf (s .coefficients .now) (s .tails .now) [] []) in
     let h : s .at + 4 * s .n * c .before .before .before .before .loop .k + 4 * s .n ≤ length (s .out .now) =
     answers-room (batchingAt (s .first .0) (s .n) es (s .masks .now) (words (s .s .eta) (drop (s .challenges) (s .question .now)))) (upFrom 0 (s .s .eta)) (s .n) (s .at) (s .out .now) (s .s .eta) (length-upFrom 0 (s .s .eta))
-    (λ k. combination-length (s .n) (getD (words (s .s .eta) (drop (s .challenges) (s .question .now))) k 0) _) (c .before .before .before .before .before .before .before .before .before .before .before .pre .5) (c .before .before .before .before .loop .k) (omega arith) in
+    (λ k. combination-length (s .n) (getD (words (s .s .eta) (drop (s .challenges) (s .question .now))) k 0) _) (c .before .before .before .before .before .before .before .before .before .before .before .pre .5)
+    (c .before .before .before .before .loop .k) (omega arith) in
     let k : ℕ = c .before .before .before .before .loop .k in
-    let l : length (take (s .n * k + s .n - s .n * k) (drop (s .n * k) (s .masks .now))) ≡ s .n = mask-length (s .n) k (s .s .eta) (s .masks .now) (c .before .before .before .before .before .before .before .before .before .before .before .pre .3) (omega arith) in (
+    let l : length (take (s .n * k + s .n - s .n * k) (drop (s .n * k) (s .masks .now))) ≡ s .n = mask-length (s .n) k (s .s .eta) (s .masks .now)
+    (c .before .before .before .before .before .before .before .before .before .before .before .pre .3) (omega arith) in (
       c .before .before .before .before .before .before .before .before .before .before .before .pre .0,
       l ∙ c .before .before .before .before .before .before .before .before .before .before .before .pre .1,
       subst (λ (j : ℕ). s .first .0 + j ≤ pointsEnd) (sym l) (c .before .before .before .before .before .before .before .before .before .before .before .pre .2),
@@ -124,7 +129,8 @@ loop-again c =
     let γ : c .before .before .before .before .before .word .result ≡ getD γs k 0 = c .before .before .before .before .before .word .ensures ∙ sym (word-from (s .s .eta) (s .challenges) k (s .question .now) (omega arith)) in
     let i : k ≡ getD (upFrom 0 (s .s .eta)) k 0 = sym (upFrom-at 0 (s .s .eta) k (omega arith) ∙ zero-add k) in
     let r = answers-turn f (upFrom 0 (s .s .eta)) (s .n) (s .at) (s .out .now) (s .s .eta) (length-upFrom 0 (s .s .eta))
-    (λ k. combination-length (s .n) (getD γs k 0) _) (c .before .before .before .before .before .before .before .before .before .before .before .before .before .before .pre .5) k (c .before .before .before .before .before .before .before .loop .out) (c .before .before .put-batching .last .1 .1 .1 .1 .1 .1 .0) (omega arith) (c .before .before .before .before .before .before .before .loop .inv .3)
+    (λ k. combination-length (s .n) (getD γs k 0) _) (c .before .before .before .before .before .before .before .before .before .before .before .before .before .before .pre .5) k
+    (c .before .before .before .before .before .before .before .loop .out) (c .before .before .put-batching .last .1 .1 .1 .1 .1 .1 .0) (omega arith) (c .before .before .before .before .before .before .before .loop .inv .3)
     (c .before .before .put-batching .ensures
     ∙ ap (λ (j : ℕ). spliced (s .at + 4 * s .n * k) (4 * j) (bytesOf (batchingOver (s .first .0) j es mask (c .before .before .before .before .before .word .result))) (c .before .before .before .before .before .before .before .loop .out)) l
     ∙ ap₂ (λ (x : List ℕ) (y : ℕ). spliced (s .at + 4 * s .n * k) (4 * s .n) (bytesOf (batchingOver (s .first .0) (s .n) es x y)) (c .before .before .before .before .before .before .before .loop .out)) (part-is (s .n) k (s .masks .now)) γ
@@ -138,7 +144,8 @@ returns : tie.Need-returns Inv-loop μ-loop
 returns c =
     let s = c .before .before .before .before .before .before .before .before .args in
     let es : List (List ℕ) = extendedRows (sizesIn (s .s)) (lentOf (s .coefficients .now) (s .tails .now) [] []) in
-    c .before .loop .inv .3 ∙ answers-all (batchingAt (s .first .0) (s .n) es (s .masks .now) (words (s .s .eta) (drop (s .challenges) (s .question .now)))) (upFrom 0 (s .s .eta)) (s .n) (s .at) (s .out .now) (s .s .eta) (length-upFrom 0 (s .s .eta)) (c .before .loop .k) (omega arith)
+    c .before .loop .inv .3 ∙ answers-all (batchingAt (s .first .0) (s .n) es (s .masks .now) (words (s .s .eta) (drop (s .challenges) (s .question .now)))) (upFrom 0 (s .s .eta)) (s .n) (s .at) (s .out .now) (s .s .eta)
+    (length-upFrom 0 (s .s .eta)) (c .before .loop .k) (omega arith)
 
 pub put-batchings-spec : {M : Type 1} → statement M
 put-batchings-spec =

@@ -19,7 +19,8 @@ same-length c = search needs
 
 returns : tie.Need-returns
 returns c =
-    weights-done (length (c .before .before .before .before .before .before .before .args .out .now)) (c .before .before .before .before .before .inverse-factorials .result) (c .before .before .weights-from .last .1 .0) (c .before .before .before .before .before .inverse-factorials .ensures) (c .before .before .weights-from .ensures)
+    weights-done (length (c .before .before .before .before .before .before .before .args .out .now)) (c .before .before .before .before .before .inverse-factorials .result) (c .before .before .weights-from .last .1 .0)
+    (c .before .before .before .before .before .inverse-factorials .ensures) (c .before .before .weights-from .ensures)
 
 pub weights-spec : {M : Type 1} → statement M
 weights-spec = tie.close (tie.spec inverse-factorials-requires slice-aggregate-weights-from weights-from-requires same-length returns)

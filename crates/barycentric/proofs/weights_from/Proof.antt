@@ -72,7 +72,8 @@ loop-again c =
       simp length-set (loop .inv .2),
       sign-turn n (loop .c) (loop .sign .0) (c .subtract .result .0) (omega arith) (omega arith) (loop .inv .3) (c .subtract .ensures),
       fill-back (weightN t n) (loop .out) (loop .c) n v (omega arith) (omega arith)
-          (weight-entry t n (loop .c) (loop .sign .0) (c .before .before .before .multiply .result .0) v (omega arith) (omega arith) (loop .inv .3) (c .before .before .before .multiply .ensures) (c .before .multiply2 .ensures)) (loop .inv .4),
+          (weight-entry t n (loop .c) (loop .sign .0) (c .before .before .before .multiply .result .0) v (omega arith) (omega arith) (loop .inv .3) (c .before .before .before .multiply .ensures) (c .before .multiply2 .ensures))
+          (loop .inv .4),
     )
 
 same-length : tie.Need-same-length Inv-loop μ-loop

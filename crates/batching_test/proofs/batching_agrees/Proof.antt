@@ -77,7 +77,8 @@ returns : tie.Need-returns
 returns c =
     let s = c .before .before .before .before .before .before .before .before .before .before .before .before .before .before .before .args in
     agrees (s .width) (s .mu) (s .challenges .now) (s .batching .now) (s .scales .now) (s .e .0) (s .values .now) (s .k)
-    (c .before .before .before .before .before .before .before .before .evaluate-by .result .0) (c .before .before .before .before .before .dot .result .0) (c .before .before .multiply-add .result .0) (c .before .before .before .before .before .before .before .before .evaluate-by .ensures) (c .before .before .before .before .before .dot .ensures) (c .before .before .multiply-add .ensures)
+    (c .before .before .before .before .before .before .before .before .evaluate-by .result .0) (c .before .before .before .before .before .dot .result .0) (c .before .before .multiply-add .result .0)
+    (c .before .before .before .before .before .before .before .before .evaluate-by .ensures) (c .before .before .before .before .before .dot .ensures) (c .before .before .multiply-add .ensures)
 
 pub batching-agrees-spec : {M : Type 1} → statement M
 batching-agrees-spec =

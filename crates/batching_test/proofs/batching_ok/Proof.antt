@@ -67,17 +67,32 @@ batching-walk-requires : tie.Need-batching-walk-requires
 batching-walk-requires c κs =
     let s = c .before .before .before .before .before .before .before .before .before .before .before .before .before .before .args in
     let n : ℕ = s .mu + length (s .challenges .now) in
-    let k : s .mu * length (s .challenges .now) ≤ 64 * 4 = mul-le-mul {n₂ = 64} {m₂ = 4} (c .before .before .before .before .before .before .before .before .before .before .before .before .before .before .pre .3) (c .before .before .before .before .before .before .before .before .before .before .before .before .before .before .pre .4) in
+    let k : s .mu * length (s .challenges .now) ≤ 64 * 4 = mul-le-mul {n₂ = 64} {m₂ = 4} (c .before .before .before .before .before .before .before .before .before .before .before .before .before .before .pre .3)
+    (c .before .before .before .before .before .before .before .before .before .before .before .before .before .before .pre .4) in
     let b : length (c .before .before .before .before .blank-powers .result) ≡ 32 = search needs in
     let a : length (c .before .before .before .blank-leaf .result) ≡ 68 = search needs in
     let d : length (c .before .before .before .before .before .before .before .before .blank-scales .result) ≡ 256 = search needs in
-    let j : length (c .before .before .before .before .before .before .fill-powers .last .1 .1 .0) ≡ length (c .before .before .before .before .before .before .before .before .blank-scales .result) = c .before .before .before .before .before .before .fill-powers .kept .1 .1 .0 in
+    let j : length (c .before .before .before .before .before .before .fill-powers .last .1 .1 .0) ≡ length (c .before .before .before .before .before .before .before .before .blank-scales .result) =
+    c .before .before .before .before .before .before .fill-powers .kept .1 .1 .0 in
     let w = c .before .before .before .before .before .before .before .before .before .span-of .ensures .1 in
     let m = c .before .before .before .before .before .before .before .before .before .before .before .before .before .before .pre .3 in
     let c₄ = c .before .before .before .before .before .before .before .before .before .before .before .before .before .before .pre .4 in
-    let e : c .before .before .before .before .before .before .before .before .before .span-of .result ≡ length (take (c .before .before .before .before .before .before .before .before .before .span-of .result - 0) (drop 0 (c .before .before .before .before .blank-powers .result))) = sym (front-length (c .before .before .before .before .before .before .before .before .before .span-of .result) (c .before .before .before .before .blank-powers .result) (omega arith)) in
-    let f : n ≡ length (take (n - 0) (drop 0 (c .before .before .before .blank-leaf .result))) = sym (front-length n (c .before .before .before .blank-leaf .result) (omega arith)) in
-    (omega arith, c .before .before .before .before .before .before .before .before .before .before .before .before .before .before .pre .1, subst (λ (i : ℕ). 0 < i) e (c .before .before .before .before .before .before .before .before .before .span-of .ensures .0), omega arith, c .before .before .before .before .before .before .before .before .before .before .before .before .before .before .pre .2, omega arith, omega arith, omega (arith, c .before .before .before .before .before .before .before .before .before .before .before .before .before .before .pre .5), c .before .before .before .before .before .before .before .before .before .before .before .before .before .before .pre .6)
+    let e : c .before .before .before .before .before .before .before .before .before .span-of .result ≡ length
+    (take (c .before .before .before .before .before .before .before .before .before .span-of .result - 0) (drop 0 (c .before .before .before .before .blank-powers .result))) = sym
+    (front-length (c .before .before .before .before .before .before .before .before .before .span-of .result) (c .before .before .before .before .blank-powers .result) (omega arith)) in
+    let f : n ≡ length (take (n - 0) (drop 0 (c .before .before .before .blank-leaf .result))) = sym (front-length n (c .before .before .before .blank-leaf .result) (omega arith)) in (
+      omega arith,
+      c .before .before .before .before .before .before .before .before .before .before .before .before .before .before .pre .1,
+      subst (λ (i : ℕ). 0 < i) e
+          (c .before .before .before .before .before .before .before .before .before .span-of .ensures .0),
+      omega arith,
+      c .before .before .before .before .before .before .before .before .before .before .before .before .before .before .pre .2,
+      omega arith,
+      omega arith,
+      omega
+          (arith, c .before .before .before .before .before .before .before .before .before .before .before .before .before .before .pre .5),
+      c .before .before .before .before .before .before .before .before .before .before .before .before .before .before .pre .6,
+    )
 
 returns : tie.Need-returns
 returns c =
@@ -87,8 +102,12 @@ returns c =
     let m = c .before .before .before .before .before .before .before .before .before .before .before .before .before .before .before .before .before .pre .3 in
     let c₄ = c .before .before .before .before .before .before .before .before .before .before .before .before .before .before .before .before .before .pre .4 in
     c .before .before .batching-walk .ensures
-    ∙ ap (λ (j : ℕ). each (length (s .indices .now)) (valuedLeaf (s .width) (s .mu) (s .challenges .now) (s .batching .now) (c .before .before .before .before .before .before .before .before .before .fill-powers .last .1 .1 .0) (s .indices .now) (recordWordsAt (s .at) (s .size) j (s .reply .now)))) (front-length n (c .before .before .before .before .before .before .blank-leaf .result) (omega arith))
-    ∙ batched-is (s .width) (s .mu) (s .challenges .now) (s .batching .now) (s .indices .now) (drop (s .mu * length (s .challenges .now)) (c .before .before .before .before .before .before .before .before .before .before .before .blank-scales .result)) (recordWordsAt (s .at) (s .size) n (s .reply .now)) (length-recordWordsAt (s .at) (s .size) n (s .reply .now)) (c .before .before .before .before .before .before .before .before .before .fill-powers .last .1 .1 .0) (c .before .before .before .before .before .before .before .before .before .fill-powers .ensures)
+    ∙ ap (λ (j : ℕ). each (length (s .indices .now)) (valuedLeaf (s .width) (s .mu) (s .challenges .now) (s .batching .now) (c .before .before .before .before .before .before .before .before .before .fill-powers .last .1 .1 .0)
+    (s .indices .now) (recordWordsAt (s .at) (s .size) j (s .reply .now)))) (front-length n (c .before .before .before .before .before .before .blank-leaf .result) (omega arith))
+    ∙ batched-is (s .width) (s .mu) (s .challenges .now) (s .batching .now) (s .indices .now)
+    (drop (s .mu * length (s .challenges .now)) (c .before .before .before .before .before .before .before .before .before .before .before .blank-scales .result)) (recordWordsAt (s .at) (s .size) n (s .reply .now))
+    (length-recordWordsAt (s .at) (s .size) n (s .reply .now)) (c .before .before .before .before .before .before .before .before .before .fill-powers .last .1 .1 .0)
+    (c .before .before .before .before .before .before .before .before .before .fill-powers .ensures)
 
 pub batching-ok-spec : {M : Type 1} → statement M
 batching-ok-spec =

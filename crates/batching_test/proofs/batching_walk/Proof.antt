@@ -27,7 +27,8 @@ abbrev μ-loop : tie.MeasureT-loop
 
 abbrev Inv-walk : tie.InvT-walk
 Inv-walk width mu challenges batching scales indices at size reply powers₀ values₀ ok₀ a₀ a-end powers values ok a =
-    (a ≤ length indices) × (a-end ≡ length indices) × (length powers ≡ length powers₀) × (length values ≡ length values₀) × (ok ≡ true) × (each a (valuedLeaf width mu challenges batching scales indices (recordWordsAt at size (length values₀) reply)) ≡ true)
+    (a ≤ length indices) × (a-end ≡ length indices) × (length powers ≡ length powers₀) × (length values ≡ length values₀) × (ok ≡ true) ×
+    (each a (valuedLeaf width mu challenges batching scales indices (recordWordsAt at size (length values₀) reply)) ≡ true)
 
 abbrev μ-walk : tie.MeasureT-walk
 μ-walk width mu challenges batching scales indices at size reply powers₀ values₀ ok₀ a₀ a-end powers values ok a = a-end - a
@@ -52,22 +53,29 @@ read-record-requires c κs =
 loop-holds : tie.Need-loop-holds Inv-loop μ-loop Inv-walk μ-walk
 loop-holds c =
     let s = c .before .before .before .before .before .before .before .before .before .before .before .before .before .before .before .before .before .before .args in
-    let v = c .before .before .before .before .before .before .before .before .before .before .walk .inv in
-    (search needs, search needs, v .4, leaf-none (s .width) (s .mu) (s .challenges .now) (s .batching .now) (s .scales .now) (s .indices .now) (recordWordsAt (s .at) (s .size) (length (c .before .before .read-record .last .1 .1 .1 .1 .0)) (s .reply .now)) (c .before .before .before .before .before .before .before .before .before .before .walk .a))
+    let v = c .before .before .before .before .before .before .before .before .before .before .walk .inv in (
+      search needs,
+      search needs,
+      v .4,
+      leaf-none (s .width) (s .mu) (s .challenges .now) (s .batching .now) (s .scales .now) (s .indices .now)
+          (recordWordsAt (s .at) (s .size) (length (c .before .before .read-record .last .1 .1 .1 .1 .0)) (s .reply .now)) (c .before .before .before .before .before .before .before .before .before .before .walk .a),
+    )
 
 batching-agrees-requires : tie.Need-batching-agrees-requires Inv-loop μ-loop Inv-walk μ-walk
 batching-agrees-requires c κs =
     let s = c .before .before .before .before .before .before .before .before .before .before .before .before .before .before .before .before .before .before .before .before .before .before .args in
     let v = c .before .before .before .before .before .before .before .before .before .before .before .before .before .before .walk .inv in
     let ps : List ℕ = c .before .before .before .before .before .before .before .before .before .before .powers .last .1 .0 in
-    let n : length ps ≡ length (c .before .before .before .before .before .before .before .before .before .before .before .before .before .before .walk .powers) = c .before .before .before .before .before .before .before .before .before .before .powers .kept .1 .0 in
+    let n : length ps ≡ length (c .before .before .before .before .before .before .before .before .before .before .before .before .before .before .walk .powers) =
+    c .before .before .before .before .before .before .before .before .before .before .powers .kept .1 .0 in
     let e : length (s .powers .now) ≡ length ps = sym (n ∙ v .2) in
     let g : length (c .before .before .before .before .before .before .read-record .last .1 .1 .1 .1 .0) ≡ length (s .values .now) = c .before .before .before .before .before .before .read-record .kept .1 .1 .1 .1 .0 ∙ v .3 in
     let h = row-fits (s .width) (c .before .before .before .loop .k) (length (s .challenges .now)) (omega arith) in
     let k = row-fits (s .mu) (c .before .before .before .loop .k) (length (s .challenges .now)) (omega arith) in (
       omega arith,
       c .before .before .before .before .before .before .before .before .before .before .before .before .before .before .before .before .before .before .before .before .before .before .pre .0,
-      c .before .before .before .before .before .before .before .before .before .before .powers .ensures ∙ ap (λ (i : ℕ). tabulate i (powN (c .before .before .before .before .before .before .before .before .before .before .before .before .opened-point .result .0))) (sym n),
+      c .before .before .before .before .before .before .before .before .before .before .powers .ensures ∙ ap
+          (λ (i : ℕ). tabulate i (powN (c .before .before .before .before .before .before .before .before .before .before .before .before .opened-point .result .0))) (sym n),
       subst (λ (i : ℕ). 0 < i) e (c .before .before .before .before .before .before .before .before .before .before .before .before .before .before .before .before .before .before .before .before .before .before .pre .2),
       subst (λ (i : ℕ). i ≤ longest) e (c .before .before .before .before .before .before .before .before .before .before .before .before .before .before .before .before .before .before .before .before .before .before .pre .3),
       omega (arith, h, c .before .before .before .before .before .before .before .before .before .before .before .before .before .before .before .before .before .before .before .before .before .before .pre .4),
@@ -88,12 +96,19 @@ loop-again c =
     let p = c .before .batching-agrees in
     let x : List ℕ = c .before .before .before .before .before .before .before .before .read-record .last .1 .1 .1 .1 .0 in
     let values : ℕ → List ℕ = recordWordsAt (s .at) (s .size) (length x) (s .reply .now) in
-    let g : x ≡ values (c .before .before .before .before .before .before .before .before .before .before .before .before .before .before .before .before .walk .a) = c .before .before .before .before .before .before .before .before .read-record .ensures ∙ ap (λ (n : ℕ). recordWordsAt (s .at) (s .size) n (s .reply .now) (c .before .before .before .before .before .before .before .before .before .before .before .before .before .before .before .before .walk .a)) (sym (c .before .before .before .before .before .before .before .before .read-record .kept .1 .1 .1 .1 .0)) in (
+    let g : x ≡ values (c .before .before .before .before .before .before .before .before .before .before .before .before .before .before .before .before .walk .a) =
+    c .before .before .before .before .before .before .before .before .read-record .ensures ∙ ap
+    (λ (n : ℕ). recordWordsAt (s .at) (s .size) n (s .reply .now) (c .before .before .before .before .before .before .before .before .before .before .before .before .before .before .before .before .walk .a))
+    (sym (c .before .before .before .before .before .before .before .before .read-record .kept .1 .1 .1 .1 .0)) in (
       search needs,
       search needs,
       v .2,
-      each-next (valuedAt (s .width) (s .mu) (s .challenges .now) (s .batching .now) (s .scales .now) (s .indices .now) values (c .before .before .before .before .before .before .before .before .before .before .before .before .before .before .before .before .walk .a)) (c .before .before .before .before .before .loop .k) (v .3)
-          (sym (valued-is (s .width) (s .mu) (s .challenges .now) (s .batching .now) (s .scales .now) (s .indices .now) values x (c .before .before .before .before .before .loop .k) (c .before .before .before .before .before .before .before .before .before .before .before .before .before .before .before .before .walk .a) (c .before .before .before .before .before .before .before .before .before .before .before .before .before .before .opened-point .result .0) (c .before .before .before .before .before .before .before .before .before .before .before .before .before .before .opened-point .ensures) g) ∙ sym (p .ensures) ∙ not-false (p .result) (c .if1 .left)),
+      each-next (valuedAt (s .width) (s .mu) (s .challenges .now) (s .batching .now) (s .scales .now) (s .indices .now) values
+          (c .before .before .before .before .before .before .before .before .before .before .before .before .before .before .before .before .walk .a)) (c .before .before .before .before .before .loop .k) (v .3)
+          (sym (valued-is (s .width) (s .mu) (s .challenges .now) (s .batching .now) (s .scales .now) (s .indices .now) values x (c .before .before .before .before .before .loop .k)
+          (c .before .before .before .before .before .before .before .before .before .before .before .before .before .before .before .before .walk .a)
+          (c .before .before .before .before .before .before .before .before .before .before .before .before .before .before .opened-point .result .0)
+          (c .before .before .before .before .before .before .before .before .before .before .before .before .before .before .opened-point .ensures) g) ∙ sym (p .ensures) ∙ not-false (p .result) (c .if1 .left)),
     )
 
 add-a : tie.Need-add-a Inv-loop μ-loop Inv-walk μ-walk
@@ -115,9 +130,12 @@ walk-again c =
       e,
       f,
       u .2,
-      each-next (valuedLeaf (s .width) (s .mu) (s .challenges .now) (s .batching .now) (s .scales .now) (s .indices .now) (recordWordsAt (s .at) (s .size) (length (s .values .now)) (s .reply .now))) (c .before .before .before .before .before .before .before .before .before .before .before .before .walk .a) (v .5)
-          (ap (λ (j : ℕ). valuedLeaf (s .width) (s .mu) (s .challenges .now) (s .batching .now) (s .scales .now) (s .indices .now) (recordWordsAt (s .at) (s .size) j (s .reply .now)) (c .before .before .before .before .before .before .before .before .before .before .before .before .walk .a)) (sym f)
-          ∙ leaf-done (s .width) (s .mu) (s .challenges .now) (s .batching .now) (s .scales .now) (s .indices .now) (recordWordsAt (s .at) (s .size) n (s .reply .now)) (c .before .before .before .before .before .before .before .before .before .before .before .before .walk .a) (c .before .loop .k) (omega arith) (u .3)),
+      each-next (valuedLeaf (s .width) (s .mu) (s .challenges .now) (s .batching .now) (s .scales .now) (s .indices .now) (recordWordsAt (s .at) (s .size) (length (s .values .now)) (s .reply .now)))
+          (c .before .before .before .before .before .before .before .before .before .before .before .before .walk .a) (v .5)
+          (ap (λ (j : ℕ). valuedLeaf (s .width) (s .mu) (s .challenges .now) (s .batching .now) (s .scales .now) (s .indices .now) (recordWordsAt (s .at) (s .size) j (s .reply .now))
+          (c .before .before .before .before .before .before .before .before .before .before .before .before .walk .a)) (sym f)
+          ∙ leaf-done (s .width) (s .mu) (s .challenges .now) (s .batching .now) (s .scales .now) (s .indices .now) (recordWordsAt (s .at) (s .size) n (s .reply .now))
+          (c .before .before .before .before .before .before .before .before .before .before .before .before .walk .a) (c .before .loop .k) (omega arith) (u .3)),
     )
 
 same-length : tie.Need-same-length Inv-loop μ-loop Inv-walk μ-walk
@@ -135,11 +153,13 @@ returns c =
 
 same-length-3 : tie.Need-same-length-3 Inv-loop μ-loop Inv-walk μ-walk
 same-length-3 c =
-    c .before .before .before .before .before .before .before .before .before .before .before .before .powers .kept .1 .0 ∙ c .before .before .before .before .before .before .before .before .before .before .before .before .before .before .before .before .walk .inv .2
+    c .before .before .before .before .before .before .before .before .before .before .before .before .powers .kept .1 .0 ∙
+    c .before .before .before .before .before .before .before .before .before .before .before .before .before .before .before .before .walk .inv .2
 
 same-length-4 : tie.Need-same-length-4 Inv-loop μ-loop Inv-walk μ-walk
 same-length-4 c =
-    c .before .before .before .before .before .before .before .before .read-record .kept .1 .1 .1 .1 .0 ∙ c .before .before .before .before .before .before .before .before .before .before .before .before .before .before .before .before .walk .inv .3
+    c .before .before .before .before .before .before .before .before .read-record .kept .1 .1 .1 .1 .0 ∙
+    c .before .before .before .before .before .before .before .before .before .before .before .before .before .before .before .before .walk .inv .3
 
 returns-2 : tie.Need-returns-2 Inv-loop μ-loop Inv-walk μ-walk
 returns-2 c =
@@ -147,11 +167,19 @@ returns-2 c =
     let p = c .before .batching-agrees in
     let x : List ℕ = c .before .before .before .before .before .before .before .before .read-record .last .1 .1 .1 .1 .0 in
     let values : ℕ → List ℕ = recordWordsAt (s .at) (s .size) (length x) (s .reply .now) in
-    let d : length x ≡ length (s .values .now) = c .before .before .before .before .before .before .before .before .read-record .kept .1 .1 .1 .1 .0 ∙ c .before .before .before .before .before .before .before .before .before .before .before .before .before .before .before .before .walk .inv .3 in
-    let g : x ≡ values (c .before .before .before .before .before .before .before .before .before .before .before .before .before .before .before .before .walk .a) = c .before .before .before .before .before .before .before .before .read-record .ensures ∙ ap (λ (n : ℕ). recordWordsAt (s .at) (s .size) n (s .reply .now) (c .before .before .before .before .before .before .before .before .before .before .before .before .before .before .before .before .walk .a)) (sym (c .before .before .before .before .before .before .before .before .read-record .kept .1 .1 .1 .1 .0)) in
+    let d : length x ≡ length (s .values .now) = c .before .before .before .before .before .before .before .before .read-record .kept .1 .1 .1 .1 .0 ∙
+    c .before .before .before .before .before .before .before .before .before .before .before .before .before .before .before .before .walk .inv .3 in
+    let g : x ≡ values (c .before .before .before .before .before .before .before .before .before .before .before .before .before .before .before .before .walk .a) =
+    c .before .before .before .before .before .before .before .before .read-record .ensures ∙ ap
+    (λ (n : ℕ). recordWordsAt (s .at) (s .size) n (s .reply .now) (c .before .before .before .before .before .before .before .before .before .before .before .before .before .before .before .before .walk .a))
+    (sym (c .before .before .before .before .before .before .before .before .read-record .kept .1 .1 .1 .1 .0)) in
     sym (ap (λ (j : ℕ). each (length (s .indices .now)) (valuedLeaf (s .width) (s .mu) (s .challenges .now) (s .batching .now) (s .scales .now) (s .indices .now) (recordWordsAt (s .at) (s .size) j (s .reply .now)))) (sym d)
-    ∙ valued-fails (s .width) (s .mu) (s .challenges .now) (s .batching .now) (s .scales .now) (s .indices .now) values (length (s .indices .now)) (c .before .before .before .before .before .before .before .before .before .before .before .before .before .before .before .before .walk .a) (c .before .before .before .before .before .loop .k) (omega arith) (omega arith)
-    (sym (valued-is (s .width) (s .mu) (s .challenges .now) (s .batching .now) (s .scales .now) (s .indices .now) values x (c .before .before .before .before .before .loop .k) (c .before .before .before .before .before .before .before .before .before .before .before .before .before .before .before .before .walk .a) (c .before .before .before .before .before .before .before .before .before .before .before .before .before .before .opened-point .result .0) (c .before .before .before .before .before .before .before .before .before .before .before .before .before .before .opened-point .ensures) g) ∙ sym (p .ensures) ∙ not-true (p .result) (c .if1 .taken)))
+    ∙ valued-fails (s .width) (s .mu) (s .challenges .now) (s .batching .now) (s .scales .now) (s .indices .now) values (length (s .indices .now))
+    (c .before .before .before .before .before .before .before .before .before .before .before .before .before .before .before .before .walk .a) (c .before .before .before .before .before .loop .k) (omega arith) (omega arith)
+    (sym (valued-is (s .width) (s .mu) (s .challenges .now) (s .batching .now) (s .scales .now) (s .indices .now) values x (c .before .before .before .before .before .loop .k)
+    (c .before .before .before .before .before .before .before .before .before .before .before .before .before .before .before .before .walk .a)
+    (c .before .before .before .before .before .before .before .before .before .before .before .before .before .before .opened-point .result .0)
+    (c .before .before .before .before .before .before .before .before .before .before .before .before .before .before .opened-point .ensures) g) ∙ sym (p .ensures) ∙ not-true (p .result) (c .if1 .taken)))
 
 pub batching-walk-spec : {M : Type 1} → statement M
 batching-walk-spec =

@@ -64,34 +64,51 @@ array-share-prefix-challenges : tie.Need-array-share-prefix-challenges
 array-share-prefix-challenges c =
     let s = c .before .before .before .before .before .before .before .before .before .before .before .before .before .before .before .before .before .before .args in
     let b : length (c .before .before .before .before .before .before .before .before .before .before .before .before .before .blank-challenges .result) ≡ 4 = search needs in
-    omega (arith, sizes-in-order (sizesIn (s .s)) (taken (s .question .now) (s .s) (s .m) (c .before .before .before .before .before .before .before .before .before .before .before .before .before .before .before .before .before .before .pre) .sizes-ok) .η-high, c .before .before .before .before .before .before .before .before .before .before .before .question-challenges .kept .1 .1 .1 .0)
+    omega (
+      arith,
+      sizes-in-order (sizesIn (s .s)) (taken (s .question .now) (s .s) (s .m)
+          (c .before .before .before .before .before .before .before .before .before .before .before .before .before .before .before .before .before .before .pre) .sizes-ok) .η-high,
+      c .before .before .before .before .before .before .before .before .before .before .before .question-challenges .kept .1 .1 .1 .0,
+    )
 
 slice-aggregate-reply-verdict : tie.Need-slice-aggregate-reply-verdict
 slice-aggregate-reply-verdict c =
     let s = c .before .before .before .before .before .before .before .before .before .before .before .before .before .before .before .before .before .before .before .args in
-    sym (ap length (c .before .before .before .before .before .before .before .before .before .before .before .before .question-challenges .ensures) ∙ challenges-count (s .question .now) (s .s) (s .m) (c .before .before .before .before .before .before .before .before .before .before .before .before .before .before .before .before .before .before .before .pre))
+    sym (ap length (c .before .before .before .before .before .before .before .before .before .before .before .before .question-challenges .ensures) ∙ challenges-count (s .question .now) (s .s) (s .m)
+    (c .before .before .before .before .before .before .before .before .before .before .before .before .before .before .before .before .before .before .before .pre))
 
 array-share-prefix-points : tie.Need-array-share-prefix-points
 array-share-prefix-points c =
     let s = c .before .before .before .before .before .before .before .before .before .before .before .before .before .before .before .before .before .before .before .args in
     let b : length (c .before .before .before .before .before .before .before .before .before .before .blank-points .result) ≡ 8 = search needs in
-    omega (arith, taken (s .question .now) (s .s) (s .m) (c .before .before .before .before .before .before .before .before .before .before .before .before .before .before .before .before .before .before .before .pre) .m-high, c .before .before .before .before .before .before .before .before .question-points .kept .1 .1 .1 .0)
+    omega (
+      arith,
+      taken (s .question .now) (s .s) (s .m) (c .before .before .before .before .before .before .before .before .before .before .before .before .before .before .before .before .before .before .before .pre) .m-high,
+      c .before .before .before .before .before .before .before .before .question-points .kept .1 .1 .1 .0,
+    )
 
 slice-aggregate-reply-verdict-2 : tie.Need-slice-aggregate-reply-verdict-2
 slice-aggregate-reply-verdict-2 c =
     let s = c .before .before .before .before .before .before .before .before .before .before .before .before .before .before .before .before .before .before .before .before .args in
-    sym (ap length (c .before .before .before .before .before .before .before .before .before .question-points .ensures) ∙ points-count (s .question .now) (s .s) (s .m) (c .before .before .before .before .before .before .before .before .before .before .before .before .before .before .before .before .before .before .before .before .pre))
+    sym (ap length (c .before .before .before .before .before .before .before .before .before .question-points .ensures) ∙ points-count (s .question .now) (s .s) (s .m)
+    (c .before .before .before .before .before .before .before .before .before .before .before .before .before .before .before .before .before .before .before .before .pre))
 
 array-share-prefix-indices : tie.Need-array-share-prefix-indices
 array-share-prefix-indices c =
     let s = c .before .before .before .before .before .before .before .before .before .before .before .before .before .before .before .before .before .before .before .before .args in
     let b : length (c .before .before .before .before .before .before .before .blank-indices .result) ≡ 64 = search needs in
-    omega (arith, sizes-in-order (sizesIn (s .s)) (taken (s .question .now) (s .s) (s .m) (c .before .before .before .before .before .before .before .before .before .before .before .before .before .before .before .before .before .before .before .before .pre) .sizes-ok) .ℓ-high, c .before .before .before .before .before .question-indices .kept .1 .1 .1 .0)
+    omega (
+      arith,
+      sizes-in-order (sizesIn (s .s)) (taken (s .question .now) (s .s) (s .m)
+          (c .before .before .before .before .before .before .before .before .before .before .before .before .before .before .before .before .before .before .before .before .pre) .sizes-ok) .ℓ-high,
+      c .before .before .before .before .before .question-indices .kept .1 .1 .1 .0,
+    )
 
 slice-aggregate-reply-verdict-3 : tie.Need-slice-aggregate-reply-verdict-3
 slice-aggregate-reply-verdict-3 c =
     let s = c .before .before .before .before .before .before .before .before .before .before .before .before .before .before .before .before .before .before .before .before .before .args in
-    sym (ap length (c .before .before .before .before .before .before .question-indices .ensures) ∙ asked-indices (s .question .now) (s .s) (s .m) (c .before .before .before .before .before .before .before .before .before .before .before .before .before .before .before .before .before .before .before .before .before .pre) .0)
+    sym (ap length (c .before .before .before .before .before .before .question-indices .ensures) ∙ asked-indices (s .question .now) (s .s) (s .m)
+    (c .before .before .before .before .before .before .before .before .before .before .before .before .before .before .before .before .before .before .before .before .before .pre) .0)
 
 sub-reply-verdict : tie.Need-sub-reply-verdict
 sub-reply-verdict c = omega (arith, c .before .before .before .before .root-at .ensures, c .before .before .before .challenges-at .ensures)
@@ -102,23 +119,37 @@ part-reply-verdict-start c = omega (arith, c .before .before .before .before .ro
 part-reply-verdict-end : tie.Need-part-reply-verdict-end
 part-reply-verdict-end c =
     let s = c .before .before .before .before .before .before .before .before .before .before .before .before .before .before .before .before .before .before .before .before .before .args in
-    omega (arith, c .before .before .before .challenges-at .ensures, taken (s .question .now) (s .s) (s .m) (c .before .before .before .before .before .before .before .before .before .before .before .before .before .before .before .before .before .before .before .before .before .pre) .long)
+    omega (
+      arith,
+      c .before .before .before .challenges-at .ensures,
+      taken (s .question .now) (s .s) (s .m)
+          (c .before .before .before .before .before .before .before .before .before .before .before .before .before .before .before .before .before .before .before .before .before .pre) .long,
+    )
 
 reply-verdict-requires : tie.Need-reply-verdict-requires
 reply-verdict-requires c κs =
     let s = c .before .before .before .before .before .before .before .before .before .before .before .before .before .before .before .before .before .before .before .before .before .before .args in
-    was-posed (s .question .now) (s .s) (s .m) (take (s .s .eta) (c .before .before .before .before .before .before .before .before .before .before .before .before .before .before .before .question-challenges .last .1 .1 .1 .0)) (take (s .m) (c .before .before .before .before .before .before .before .before .before .before .before .question-points .last .1 .1 .1 .0)) (take (s .s .l) (c .before .before .before .before .before .before .before .question-indices .last .1 .1 .1 .0)) (c .before .before .before .before .before .before .before .before .before .before .before .before .before .before .before .before .before .before .before .before .before .before .pre)
-    (c .before .before .before .before .before .before .before .before .before .before .before .before .before .before .before .question-challenges .ensures) (c .before .before .before .before .before .before .before .before .before .before .before .question-points .ensures) (c .before .before .before .before .before .before .before .question-indices .ensures)
+    was-posed (s .question .now) (s .s) (s .m) (take (s .s .eta) (c .before .before .before .before .before .before .before .before .before .before .before .before .before .before .before .question-challenges .last .1 .1 .1 .0))
+    (take (s .m) (c .before .before .before .before .before .before .before .before .before .before .before .question-points .last .1 .1 .1 .0))
+    (take (s .s .l) (c .before .before .before .before .before .before .before .question-indices .last .1 .1 .1 .0))
+    (c .before .before .before .before .before .before .before .before .before .before .before .before .before .before .before .before .before .before .before .before .before .before .pre)
+    (c .before .before .before .before .before .before .before .before .before .before .before .before .before .before .before .question-challenges .ensures)
+    (c .before .before .before .before .before .before .before .before .before .before .before .question-points .ensures) (c .before .before .before .before .before .before .before .question-indices .ensures)
 
 returns : tie.Need-returns
 returns c =
     let s = c .before .before .before .before .before .before .before .before .before .before .before .before .before .before .before .before .before .before .before .before .before .before .before .args in
-    let root : List ℕ = take (c .before .before .before .before .before .challenges-at .result - c .before .before .before .before .before .before .root-at .result) (drop (c .before .before .before .before .before .before .root-at .result) (s .question .now)) in
+    let root : List ℕ = take (c .before .before .before .before .before .challenges-at .result - c .before .before .before .before .before .before .root-at .result)
+    (drop (c .before .before .before .before .before .before .root-at .result) (s .question .now)) in
     c .reply-verdict .ensures
     ∙ ap (λ (u : Question). verdictOf (replyTests u (s .reply .now)))
-    (posed-is (s .question .now) (s .s) (s .m) root (take (s .s .eta) (c .before .before .before .before .before .before .before .before .before .before .before .before .before .before .before .before .question-challenges .last .1 .1 .1 .0)) (take (s .m) (c .before .before .before .before .before .before .before .before .before .before .before .before .question-points .last .1 .1 .1 .0)) (take (s .s .l) (c .before .before .before .before .before .before .before .before .question-indices .last .1 .1 .1 .0)) (c .before .before .before .before .before .before .before .before .before .before .before .before .before .before .before .before .before .before .before .before .before .before .before .pre)
+    (posed-is (s .question .now) (s .s) (s .m) root (take (s .s .eta) (c .before .before .before .before .before .before .before .before .before .before .before .before .before .before .before .before .question-challenges .last .1 .1 .1 .0))
+    (take (s .m) (c .before .before .before .before .before .before .before .before .before .before .before .before .question-points .last .1 .1 .1 .0))
+    (take (s .s .l) (c .before .before .before .before .before .before .before .before .question-indices .last .1 .1 .1 .0))
+    (c .before .before .before .before .before .before .before .before .before .before .before .before .before .before .before .before .before .before .before .before .before .before .before .pre)
     (ap₂ (λ (to from : ℕ). take (to - from) (drop from (s .question .now))) (c .before .before .before .before .before .challenges-at .ensures) (c .before .before .before .before .before .before .root-at .ensures))
-    (c .before .before .before .before .before .before .before .before .before .before .before .before .before .before .before .before .question-challenges .ensures) (c .before .before .before .before .before .before .before .before .before .before .before .before .question-points .ensures) (c .before .before .before .before .before .before .before .before .question-indices .ensures))
+    (c .before .before .before .before .before .before .before .before .before .before .before .before .before .before .before .before .question-challenges .ensures)
+    (c .before .before .before .before .before .before .before .before .before .before .before .before .question-points .ensures) (c .before .before .before .before .before .before .before .before .question-indices .ensures))
 
 pub asked-verdict-spec : {M : Type 1} → statement M
 asked-verdict-spec =

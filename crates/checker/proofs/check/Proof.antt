@@ -23,7 +23,8 @@ same-length c = search needs
 returns : tie.Need-returns
 returns c =
     let s = c .before .before .before .before .before .before .before .before .before .before .before .args in
-    c .before .before .check-reply .ensures ∙ checked (s .question .now) (s .reply .now) (s .values .now) _ _ (sym (c .before .before .before .before .before .before .before .ask .ensures) ∙ c .before .before .before .before .before .s .given .1)
+    c .before .before .check-reply .ensures ∙ checked (s .question .now) (s .reply .now) (s .values .now) _ _
+    (sym (c .before .before .before .before .before .before .before .ask .ensures) ∙ c .before .before .before .before .before .s .given .1)
 
 returns-2 : tie.Need-returns-2
 returns-2 c =

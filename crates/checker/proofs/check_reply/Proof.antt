@@ -1,15 +1,10 @@
 -- `checker::check_reply` meets its contract.
-use mathlib.Core.Path.{_≡_, sym, ap₂, _∙_, subst}
-use mathlib.Core.Bool.{Bool}
-use Prim.Native.Nat.{ℕ, _*_, _≤_}
-use lib.ListN.{length}
-use Rattle.scheme.specs.Question.{Question, readQuestion}
-use Rattle.scheme.specs.Reply.{recordsAt}
-use Rattle.scheme.specs.Sizes.{Sizes}
+use mathlib.Core.Path.{sym, _∙_}
+use Rattle.scheme.specs.Question.{readQuestion}
 use Rattle.scheme.proofs.Accepted.{sizes-in-order}
 use Rattle.commitment.specs.Shape.{sizesIn}
 use Rattle.commitment.proofs.Places.{buffer-high}
-use Rattle.question.proofs.Answer.{taken, well-asked}
+use Rattle.question.proofs.Answer.{taken}
 use Rattle.checker.proofs.Asking.{answer-2, answer-refused, answer-0, values-count, accepted-room}
 use borrow.Author.Needs.{needs}
 use Rattle.checker.proofs.check_reply.Statement.{statement}
@@ -35,12 +30,17 @@ asked-verdict-requires c κs = search needs
 returns-2 : tie.Need-returns-2
 returns-2 c =
     let s = c .before .before .before .before .before .before .before .args in
-    answer-refused (readQuestion (s .question .now)) (s .reply .now) (s .values .now) (c .before .asked-verdict .result) (c .before .before .if1 .left ∙ values-count (s .question .now) (s .s) (s .m) (c .before .before .before .before .before .before .before .pre)) (c .before .asked-verdict .ensures) (c .if2 .taken)
+    answer-refused (readQuestion (s .question .now)) (s .reply .now) (s .values .now) (c .before .asked-verdict .result)
+    (c .before .before .if1 .left ∙ values-count (s .question .now) (s .s) (s .m) (c .before .before .before .before .before .before .before .pre)) (c .before .asked-verdict .ensures) (c .if2 .taken)
 
 fill-values-requires : tie.Need-fill-values-requires
 fill-values-requires c κs =
-    let s = c .before .before .before .before .before .before .before .before .args in
-    (c .before .before .before .before .before .before .before .before .pre, accepted-room (s .question .now) (s .reply .now) (s .s) (s .m) (c .before .before .asked-verdict .result) (c .before .before .before .before .before .before .before .before .pre) (c .before .before .asked-verdict .ensures) (c .before .if2 .left), c .before .before .before .if1 .left)
+    let s = c .before .before .before .before .before .before .before .before .args in (
+      c .before .before .before .before .before .before .before .before .pre,
+      accepted-room (s .question .now) (s .reply .now) (s .s) (s .m) (c .before .before .asked-verdict .result)
+          (c .before .before .before .before .before .before .before .before .pre) (c .before .before .asked-verdict .ensures) (c .before .if2 .left),
+      c .before .before .before .if1 .left,
+    )
 
 same-length : tie.Need-same-length
 same-length c = search needs
@@ -48,7 +48,9 @@ same-length c = search needs
 returns-3 : tie.Need-returns-3
 returns-3 c =
     let s = c .before .before .before .before .before .before .before .before .before .before .before .args in
-    answer-0 (readQuestion (s .question .now)) (s .reply .now) (s .values .now) (c .before .before .before .before .before .asked-verdict .result) (c .before .before .fill-values .last .1 .1 .1 .1 .0) (c .before .before .before .before .before .before .if1 .left ∙ values-count (s .question .now) (s .s) (s .m) (c .before .before .before .before .before .before .before .before .before .before .before .pre)) (c .before .before .before .before .before .asked-verdict .ensures) (c .before .before .before .before .if2 .left) (c .before .before .fill-values .ensures)
+    answer-0 (readQuestion (s .question .now)) (s .reply .now) (s .values .now) (c .before .before .before .before .before .asked-verdict .result) (c .before .before .fill-values .last .1 .1 .1 .1 .0)
+    (c .before .before .before .before .before .before .if1 .left ∙ values-count (s .question .now) (s .s) (s .m) (c .before .before .before .before .before .before .before .before .before .before .before .pre))
+    (c .before .before .before .before .before .asked-verdict .ensures) (c .before .before .before .before .if2 .left) (c .before .before .fill-values .ensures)
 
 pub check-reply-spec : {M : Type 1} → statement M
 check-reply-spec =

@@ -30,8 +30,11 @@ cast-result : tie.Need-cast-result
 cast-result c = search needs
 
 returns : tie.Need-returns
-returns c =
-    (half-is (c .before .before .before .before .before .args .at) (c .before .before .before .before .before .args .b .now) (c .before .before .wide .result) (c .wide2 .result) (search needs) (c .before .before .wide .ensures .0) (c .wide2 .ensures .0), omega arith)
+returns c = (
+  half-is (c .before .before .before .before .before .args .at) (c .before .before .before .before .before .args .b .now) (c .before .before .wide .result) (c .wide2 .result) (search needs)
+      (c .before .before .wide .ensures .0) (c .wide2 .ensures .0),
+  omega arith,
+)
 
 pub half-spec : {M : Type 1} → statement M
 half-spec =

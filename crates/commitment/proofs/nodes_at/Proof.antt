@@ -26,7 +26,8 @@ add-result : tie.Need-add-result
 add-result c =
     let s = c .before .before .before .args .s in
     let h : c .before .before .record-length .result * s .l ≤ 19456 = subst (λ (k : ℕ). k * s .l ≤ 19456) (sym (c .before .before .record-length .ensures)) (all-records-high (sizesIn s) (c .before .before .before .pre .0)) in
-    let i : c .records-at .result ≤ 15360 = subst (λ (k : ℕ). k ≤ 15360) (sym (c .records-at .ensures)) (records-high (sizesIn s) (c .before .before .before .pre .0) (c .before .before .before .args .m) (c .before .before .before .pre .1)) in
+    let i : c .records-at .result ≤ 15360 = subst (λ (k : ℕ). k ≤ 15360) (sym (c .records-at .ensures))
+    (records-high (sizesIn s) (c .before .before .before .pre .0) (c .before .before .before .args .m) (c .before .before .before .pre .1)) in
     search needs
 
 returns : tie.Need-returns

@@ -63,7 +63,8 @@ returns : tie.Need-returns
 unfolding every
 returns c =
     let s = c .before .before .before .before .before .before .before .before .before .before .before .before .before .before .args .s in
-    let eta = c .before .before .before .before .before .before .before .before .before .both .ensures ∙ ap₂ _&&_ (c .before .before .before .before .before .before .before .before .before .before .in-range .ensures) (sym (and-right (leb (s .w * s .nu + s .l) (c .before .before .before .before .before .before .before .before .before .before .before .before .before .before .args .leaves)))) in
+    let eta = c .before .before .before .before .before .before .before .before .before .both .ensures ∙ ap₂ _&&_ (c .before .before .before .before .before .before .before .before .before .before .in-range .ensures)
+    (sym (and-right (leb (s .w * s .nu + s .l) (c .before .before .before .before .before .before .before .before .before .before .before .before .before .before .args .leaves)))) in
     let l = c .before .before .before .before .before .before .before .both2 .ensures ∙ ap₂ _&&_ (c .before .before .before .before .before .before .before .before .in-range2 .ensures) eta in
     let few = c .before .before .before .before .before .before .both3 .ensures ∙ ap (λ (t : Bool). leb (s .w * s .nu) 256 && t) l in
     let w = c .before .before .before .before .both4 .ensures ∙ ap₂ _&&_ (c .before .before .before .before .before .in-range3 .ensures) few in

@@ -38,13 +38,18 @@ array-share-prefix-leaf c = search needs
 slice-aggregate-leaf-digest : tie.Need-slice-aggregate-leaf-digest
 slice-aggregate-leaf-digest c =
     let args = c .before .before .before .before .before .before .before .before .before .before .before .args in
-    sym (record-length (args .values .now) (args .nonce .now) (c .before .before .before .before .before .before .before .blank-record .result) (c .before .before .before .before .before .put-words .last .0) (c .before .before .put-bytes .last .0) (4 * length (args .values .now)) refl (c .before .before .before .before .before .before .before .before .before .before .before .pre .2) (c .before .before .before .before .before .put-words .ensures) (c .before .before .put-bytes .ensures))
+    sym (record-length (args .values .now) (args .nonce .now) (c .before .before .before .before .before .before .before .blank-record .result) (c .before .before .before .before .before .put-words .last .0)
+    (c .before .before .put-bytes .last .0) (4 * length (args .values .now)) refl (c .before .before .before .before .before .before .before .before .before .before .before .pre .2)
+    (c .before .before .before .before .before .put-words .ensures) (c .before .before .put-bytes .ensures))
 
 leaf-digest-requires : tie.Need-leaf-digest-requires
 leaf-digest-requires c κs =
     let args = c .before .before .before .before .before .before .before .before .before .before .before .before .args in
-    let e = record-length (args .values .now) (args .nonce .now) (c .before .before .before .before .before .before .before .before .blank-record .result) (c .before .before .before .before .before .before .put-words .last .0) (c .before .before .before .put-bytes .last .0) (4 * length (args .values .now)) refl (c .before .before .before .before .before .before .before .before .before .before .before .before .pre .2) (c .before .before .before .before .before .before .put-words .ensures) (c .before .before .before .put-bytes .ensures) in
-    let l : length (take (4 * length (args .values .now) + 32) (c .before .before .before .put-bytes .last .0)) ≤ 304 = omega (arith, e, c .before .before .before .before .before .before .before .before .before .before .before .before .pre .1) in
+    let e = record-length (args .values .now) (args .nonce .now) (c .before .before .before .before .before .before .before .before .blank-record .result) (c .before .before .before .before .before .before .put-words .last .0)
+    (c .before .before .before .put-bytes .last .0) (4 * length (args .values .now)) refl (c .before .before .before .before .before .before .before .before .before .before .before .before .pre .2)
+    (c .before .before .before .before .before .before .put-words .ensures) (c .before .before .before .put-bytes .ensures) in
+    let l : length (take (4 * length (args .values .now) + 32) (c .before .before .before .put-bytes .last .0)) ≤ 304 = omega
+    (arith, e, c .before .before .before .before .before .before .before .before .before .before .before .before .pre .1) in
     (c .before .before .before .before .before .before .before .before .before .before .before .before .pre .0, l, c .before .before .before .before .before .before .before .before .before .before .before .before .pre .3)
 
 same-length : tie.Need-same-length
@@ -55,7 +60,10 @@ returns c =
     let args = c .before .before .before .before .before .before .before .before .before .before .before .before .before .before .before .args in
     c .before .before .leaf-digest .ensures
     ∙ ap (λ (x : Bytes). digest (leafString (args .index .0) x))
-    (record-is (args .values .now) (args .nonce .now) (c .before .before .before .before .before .before .before .before .before .before .before .blank-record .result) (c .before .before .before .before .before .before .before .before .before .put-words .last .0) (c .before .before .before .before .before .before .put-bytes .last .0) (4 * length (args .values .now)) refl (c .before .before .before .before .before .before .before .before .before .before .before .before .before .before .before .pre .2) (c .before .before .before .before .before .before .before .before .before .put-words .ensures) (c .before .before .before .before .before .before .put-bytes .ensures))
+    (record-is (args .values .now) (args .nonce .now) (c .before .before .before .before .before .before .before .before .before .before .before .blank-record .result)
+    (c .before .before .before .before .before .before .before .before .before .put-words .last .0) (c .before .before .before .before .before .before .put-bytes .last .0) (4 * length (args .values .now)) refl
+    (c .before .before .before .before .before .before .before .before .before .before .before .before .before .before .before .pre .2)
+    (c .before .before .before .before .before .before .before .before .before .put-words .ensures) (c .before .before .before .before .before .before .put-bytes .ensures))
 
 pub hash-leaf-spec : {M : Type 1} → statement M
 hash-leaf-spec =

@@ -1,12 +1,12 @@
 -- `committer::hash_leaves` meets its contract: after i turns the digests of the first i leaves are written.
 use mathlib.Core.Path.{_≡_, refl, _∙_}
 use mathlib.Core.List.{List, _++_}
-use Prim.Native.Nat.{ℕ, _+_, _-_, _*_, _≤_, _<_}
+use Prim.Native.Nat.{ℕ, _+_, _-_, _*_, _≤_}
 use lib.ListN.{length, drop}
 use borrow.Rule.Slice.PartMut.{same-len-mid}
 use Rattle.lists.specs.Parts.{span-length}
 use Rattle.lists.specs.Rows.{rowsOf, rows-start, row-turn}
-use Rattle.scheme.specs.Sizes.{Sizes, leaves}
+use Rattle.scheme.specs.Sizes.{leaves}
 use Rattle.commitment.specs.Shape.{sizesIn}
 use Rattle.committer.specs.Clauses.{digestOf}
 use Rattle.committer.proofs.Digests.{digestOf-length, digest-is, digests-done, leaf-fits}
@@ -34,32 +34,50 @@ loop-holds c =
 
 mul-from : tie.Need-mul-from Inv-loop μ-loop
 mul-from c =
-    let f = leaf-fits (sizesIn (c .before .before .before .before .before .before .before .args .s)) (c .before .before .before .before .before .before .before .args .table .now) (c .before .before .before .before .before .before .before .args .nonces .now) (c .before .before .before .before .before .before .before .args .tree .now) (c .before .before .record-values .result) (c .before .before .before .leaf-count .result) (c .before .loop .index) (c .before .before .before .before .before .before .before .pre) (c .before .before .record-values .ensures) (c .before .before .before .leaf-count .ensures) (c .loop-test .taken) in
+    let f = leaf-fits (sizesIn (c .before .before .before .before .before .before .before .args .s)) (c .before .before .before .before .before .before .before .args .table .now)
+    (c .before .before .before .before .before .before .before .args .nonces .now) (c .before .before .before .before .before .before .before .args .tree .now) (c .before .before .record-values .result)
+    (c .before .before .before .leaf-count .result) (c .before .loop .index) (c .before .before .before .before .before .before .before .pre) (c .before .before .record-values .ensures)
+    (c .before .before .before .leaf-count .ensures) (c .loop-test .taken) in
     search needs
 
 add-to : tie.Need-add-to Inv-loop μ-loop
 add-to c =
-    let f = leaf-fits (sizesIn (c .before .before .before .before .before .before .before .args .s)) (c .before .before .before .before .before .before .before .args .table .now) (c .before .before .before .before .before .before .before .args .nonces .now) (c .before .before .before .before .before .before .before .args .tree .now) (c .before .before .record-values .result) (c .before .before .before .leaf-count .result) (c .before .loop .index) (c .before .before .before .before .before .before .before .pre) (c .before .before .record-values .ensures) (c .before .before .before .leaf-count .ensures) (c .loop-test .taken) in
+    let f = leaf-fits (sizesIn (c .before .before .before .before .before .before .before .args .s)) (c .before .before .before .before .before .before .before .args .table .now)
+    (c .before .before .before .before .before .before .before .args .nonces .now) (c .before .before .before .before .before .before .before .args .tree .now) (c .before .before .record-values .result)
+    (c .before .before .before .leaf-count .result) (c .before .loop .index) (c .before .before .before .before .before .before .before .pre) (c .before .before .record-values .ensures)
+    (c .before .before .before .leaf-count .ensures) (c .loop-test .taken) in
     search needs
 
 mul-start : tie.Need-mul-start Inv-loop μ-loop
 mul-start c =
-    let f = leaf-fits (sizesIn (c .before .before .before .before .before .before .before .args .s)) (c .before .before .before .before .before .before .before .args .table .now) (c .before .before .before .before .before .before .before .args .nonces .now) (c .before .before .before .before .before .before .before .args .tree .now) (c .before .before .record-values .result) (c .before .before .before .leaf-count .result) (c .before .loop .index) (c .before .before .before .before .before .before .before .pre) (c .before .before .record-values .ensures) (c .before .before .before .leaf-count .ensures) (c .loop-test .taken) in
+    let f = leaf-fits (sizesIn (c .before .before .before .before .before .before .before .args .s)) (c .before .before .before .before .before .before .before .args .table .now)
+    (c .before .before .before .before .before .before .before .args .nonces .now) (c .before .before .before .before .before .before .before .args .tree .now) (c .before .before .record-values .result)
+    (c .before .before .before .leaf-count .result) (c .before .loop .index) (c .before .before .before .before .before .before .before .pre) (c .before .before .record-values .ensures)
+    (c .before .before .before .leaf-count .ensures) (c .loop-test .taken) in
     search needs
 
 add-end : tie.Need-add-end Inv-loop μ-loop
 add-end c =
-    let f = leaf-fits (sizesIn (c .before .before .before .before .before .before .before .args .s)) (c .before .before .before .before .before .before .before .args .table .now) (c .before .before .before .before .before .before .before .args .nonces .now) (c .before .before .before .before .before .before .before .args .tree .now) (c .before .before .record-values .result) (c .before .before .before .leaf-count .result) (c .before .loop .index) (c .before .before .before .before .before .before .before .pre) (c .before .before .record-values .ensures) (c .before .before .before .leaf-count .ensures) (c .loop-test .taken) in
+    let f = leaf-fits (sizesIn (c .before .before .before .before .before .before .before .args .s)) (c .before .before .before .before .before .before .before .args .table .now)
+    (c .before .before .before .before .before .before .before .args .nonces .now) (c .before .before .before .before .before .before .before .args .tree .now) (c .before .before .record-values .result)
+    (c .before .before .before .leaf-count .result) (c .before .loop .index) (c .before .before .before .before .before .before .before .pre) (c .before .before .record-values .ensures)
+    (c .before .before .before .leaf-count .ensures) (c .loop-test .taken) in
     search needs
 
 cast-t14 : tie.Need-cast-t14 Inv-loop μ-loop
 cast-t14 c =
-    let f = leaf-fits (sizesIn (c .before .before .before .before .before .before .before .args .s)) (c .before .before .before .before .before .before .before .args .table .now) (c .before .before .before .before .before .before .before .args .nonces .now) (c .before .before .before .before .before .before .before .args .tree .now) (c .before .before .record-values .result) (c .before .before .before .leaf-count .result) (c .before .loop .index) (c .before .before .before .before .before .before .before .pre) (c .before .before .record-values .ensures) (c .before .before .before .leaf-count .ensures) (c .loop-test .taken) in
+    let f = leaf-fits (sizesIn (c .before .before .before .before .before .before .before .args .s)) (c .before .before .before .before .before .before .before .args .table .now)
+    (c .before .before .before .before .before .before .before .args .nonces .now) (c .before .before .before .before .before .before .before .args .tree .now) (c .before .before .record-values .result)
+    (c .before .before .before .leaf-count .result) (c .before .loop .index) (c .before .before .before .before .before .before .before .pre) (c .before .before .record-values .ensures)
+    (c .before .before .before .leaf-count .ensures) (c .loop-test .taken) in
     search needs
 
 mul-hash-leaf : tie.Need-mul-hash-leaf Inv-loop μ-loop
 mul-hash-leaf c =
-    let f = leaf-fits (sizesIn (c .before .before .before .before .before .before .before .args .s)) (c .before .before .before .before .before .before .before .args .table .now) (c .before .before .before .before .before .before .before .args .nonces .now) (c .before .before .before .before .before .before .before .args .tree .now) (c .before .before .record-values .result) (c .before .before .before .leaf-count .result) (c .before .loop .index) (c .before .before .before .before .before .before .before .pre) (c .before .before .record-values .ensures) (c .before .before .before .leaf-count .ensures) (c .loop-test .taken) in
+    let f = leaf-fits (sizesIn (c .before .before .before .before .before .before .before .args .s)) (c .before .before .before .before .before .before .before .args .table .now)
+    (c .before .before .before .before .before .before .before .args .nonces .now) (c .before .before .before .before .before .before .before .args .tree .now) (c .before .before .record-values .result)
+    (c .before .before .before .leaf-count .result) (c .before .loop .index) (c .before .before .before .before .before .before .before .pre) (c .before .before .record-values .ensures)
+    (c .before .before .before .leaf-count .ensures) (c .loop-test .taken) in
     search needs
 
 sub-hash-leaf : tie.Need-sub-hash-leaf Inv-loop μ-loop
@@ -67,12 +85,18 @@ sub-hash-leaf c = search needs
 
 part-hash-leaf-start : tie.Need-part-hash-leaf-start Inv-loop μ-loop
 part-hash-leaf-start c =
-    let f = leaf-fits (sizesIn (c .before .before .before .before .before .before .before .args .s)) (c .before .before .before .before .before .before .before .args .table .now) (c .before .before .before .before .before .before .before .args .nonces .now) (c .before .before .before .before .before .before .before .args .tree .now) (c .before .before .record-values .result) (c .before .before .before .leaf-count .result) (c .before .loop .index) (c .before .before .before .before .before .before .before .pre) (c .before .before .record-values .ensures) (c .before .before .before .leaf-count .ensures) (c .loop-test .taken) in
+    let f = leaf-fits (sizesIn (c .before .before .before .before .before .before .before .args .s)) (c .before .before .before .before .before .before .before .args .table .now)
+    (c .before .before .before .before .before .before .before .args .nonces .now) (c .before .before .before .before .before .before .before .args .tree .now) (c .before .before .record-values .result)
+    (c .before .before .before .leaf-count .result) (c .before .loop .index) (c .before .before .before .before .before .before .before .pre) (c .before .before .record-values .ensures)
+    (c .before .before .before .leaf-count .ensures) (c .loop-test .taken) in
     search needs
 
 part-hash-leaf-end : tie.Need-part-hash-leaf-end Inv-loop μ-loop
 part-hash-leaf-end c =
-    let f = leaf-fits (sizesIn (c .before .before .before .before .before .before .before .args .s)) (c .before .before .before .before .before .before .before .args .table .now) (c .before .before .before .before .before .before .before .args .nonces .now) (c .before .before .before .before .before .before .before .args .tree .now) (c .before .before .record-values .result) (c .before .before .before .leaf-count .result) (c .before .loop .index) (c .before .before .before .before .before .before .before .pre) (c .before .before .record-values .ensures) (c .before .before .before .leaf-count .ensures) (c .loop-test .taken) in
+    let f = leaf-fits (sizesIn (c .before .before .before .before .before .before .before .args .s)) (c .before .before .before .before .before .before .before .args .table .now)
+    (c .before .before .before .before .before .before .before .args .nonces .now) (c .before .before .before .before .before .before .before .args .tree .now) (c .before .before .record-values .result)
+    (c .before .before .before .leaf-count .result) (c .before .loop .index) (c .before .before .before .before .before .before .before .pre) (c .before .before .record-values .ensures)
+    (c .before .before .before .leaf-count .ensures) (c .loop-test .taken) in
     search needs
 
 sub-hash-leaf-2 : tie.Need-sub-hash-leaf-2 Inv-loop μ-loop
@@ -80,12 +104,18 @@ sub-hash-leaf-2 c = search needs
 
 part-hash-leaf-start-2 : tie.Need-part-hash-leaf-start-2 Inv-loop μ-loop
 part-hash-leaf-start-2 c =
-    let f = leaf-fits (sizesIn (c .before .before .before .before .before .before .before .before .args .s)) (c .before .before .before .before .before .before .before .before .args .table .now) (c .before .before .before .before .before .before .before .before .args .nonces .now) (c .before .before .before .before .before .before .before .before .args .tree .now) (c .before .before .before .record-values .result) (c .before .before .before .before .leaf-count .result) (c .before .before .loop .index) (c .before .before .before .before .before .before .before .before .pre) (c .before .before .before .record-values .ensures) (c .before .before .before .before .leaf-count .ensures) (c .before .loop-test .taken) in
+    let f = leaf-fits (sizesIn (c .before .before .before .before .before .before .before .before .args .s)) (c .before .before .before .before .before .before .before .before .args .table .now)
+    (c .before .before .before .before .before .before .before .before .args .nonces .now) (c .before .before .before .before .before .before .before .before .args .tree .now) (c .before .before .before .record-values .result)
+    (c .before .before .before .before .leaf-count .result) (c .before .before .loop .index) (c .before .before .before .before .before .before .before .before .pre) (c .before .before .before .record-values .ensures)
+    (c .before .before .before .before .leaf-count .ensures) (c .before .loop-test .taken) in
     search needs
 
 part-hash-leaf-end-2 : tie.Need-part-hash-leaf-end-2 Inv-loop μ-loop
 part-hash-leaf-end-2 c =
-    let f = leaf-fits (sizesIn (c .before .before .before .before .before .before .before .before .args .s)) (c .before .before .before .before .before .before .before .before .args .table .now) (c .before .before .before .before .before .before .before .before .args .nonces .now) (c .before .before .before .before .before .before .before .before .args .tree .now) (c .before .before .before .record-values .result) (c .before .before .before .before .leaf-count .result) (c .before .before .loop .index) (c .before .before .before .before .before .before .before .before .pre) (c .before .before .before .record-values .ensures) (c .before .before .before .before .leaf-count .ensures) (c .before .loop-test .taken) in
+    let f = leaf-fits (sizesIn (c .before .before .before .before .before .before .before .before .args .s)) (c .before .before .before .before .before .before .before .before .args .table .now)
+    (c .before .before .before .before .before .before .before .before .args .nonces .now) (c .before .before .before .before .before .before .before .before .args .tree .now) (c .before .before .before .record-values .result)
+    (c .before .before .before .before .leaf-count .result) (c .before .before .loop .index) (c .before .before .before .before .before .before .before .before .pre) (c .before .before .before .record-values .ensures)
+    (c .before .before .before .before .leaf-count .ensures) (c .before .loop-test .taken) in
     search needs
 
 sub-hash-leaf-3 : tie.Need-sub-hash-leaf-3 Inv-loop μ-loop
@@ -93,18 +123,30 @@ sub-hash-leaf-3 c = search needs
 
 part-hash-leaf-start-3 : tie.Need-part-hash-leaf-start-3 Inv-loop μ-loop
 part-hash-leaf-start-3 c =
-    let f = leaf-fits (sizesIn (c .before .before .before .before .before .before .before .before .before .args .s)) (c .before .before .before .before .before .before .before .before .before .args .table .now) (c .before .before .before .before .before .before .before .before .before .args .nonces .now) (c .before .before .before .before .before .before .before .before .before .args .tree .now) (c .before .before .before .before .record-values .result) (c .before .before .before .before .before .leaf-count .result) (c .before .before .before .loop .index) (c .before .before .before .before .before .before .before .before .before .pre) (c .before .before .before .before .record-values .ensures) (c .before .before .before .before .before .leaf-count .ensures) (c .before .before .loop-test .taken) in
+    let f = leaf-fits (sizesIn (c .before .before .before .before .before .before .before .before .before .args .s)) (c .before .before .before .before .before .before .before .before .before .args .table .now)
+    (c .before .before .before .before .before .before .before .before .before .args .nonces .now) (c .before .before .before .before .before .before .before .before .before .args .tree .now)
+    (c .before .before .before .before .record-values .result) (c .before .before .before .before .before .leaf-count .result) (c .before .before .before .loop .index)
+    (c .before .before .before .before .before .before .before .before .before .pre) (c .before .before .before .before .record-values .ensures) (c .before .before .before .before .before .leaf-count .ensures)
+    (c .before .before .loop-test .taken) in
     search needs
 
 part-hash-leaf-end-3 : tie.Need-part-hash-leaf-end-3 Inv-loop μ-loop
 part-hash-leaf-end-3 c =
-    let f = leaf-fits (sizesIn (c .before .before .before .before .before .before .before .before .before .args .s)) (c .before .before .before .before .before .before .before .before .before .args .table .now) (c .before .before .before .before .before .before .before .before .before .args .nonces .now) (c .before .before .before .before .before .before .before .before .before .args .tree .now) (c .before .before .before .before .record-values .result) (c .before .before .before .before .before .leaf-count .result) (c .before .before .before .loop .index) (c .before .before .before .before .before .before .before .before .before .pre) (c .before .before .before .before .record-values .ensures) (c .before .before .before .before .before .leaf-count .ensures) (c .before .before .loop-test .taken) in
+    let f = leaf-fits (sizesIn (c .before .before .before .before .before .before .before .before .before .args .s)) (c .before .before .before .before .before .before .before .before .before .args .table .now)
+    (c .before .before .before .before .before .before .before .before .before .args .nonces .now) (c .before .before .before .before .before .before .before .before .before .args .tree .now)
+    (c .before .before .before .before .record-values .result) (c .before .before .before .before .before .leaf-count .result) (c .before .before .before .loop .index)
+    (c .before .before .before .before .before .before .before .before .before .pre) (c .before .before .before .before .record-values .ensures) (c .before .before .before .before .before .leaf-count .ensures)
+    (c .before .before .loop-test .taken) in
     search needs
 
 hash-leaf-requires : tie.Need-hash-leaf-requires Inv-loop μ-loop
 hash-leaf-requires c κs =
     let s = c .before .before .before .before .before .before .before .before .before .before .args in
-    let f = leaf-fits (sizesIn (c .before .before .before .before .before .before .before .before .before .before .args .s)) (c .before .before .before .before .before .before .before .before .before .before .args .table .now) (c .before .before .before .before .before .before .before .before .before .before .args .nonces .now) (c .before .before .before .before .before .before .before .before .before .before .args .tree .now) (c .before .before .before .before .before .record-values .result) (c .before .before .before .before .before .before .leaf-count .result) (c .before .before .before .before .loop .index) (c .before .before .before .before .before .before .before .before .before .before .pre) (c .before .before .before .before .before .record-values .ensures) (c .before .before .before .before .before .before .leaf-count .ensures) (c .before .before .before .loop-test .taken) in
+    let f = leaf-fits (sizesIn (c .before .before .before .before .before .before .before .before .before .before .args .s)) (c .before .before .before .before .before .before .before .before .before .before .args .table .now)
+    (c .before .before .before .before .before .before .before .before .before .before .args .nonces .now) (c .before .before .before .before .before .before .before .before .before .before .args .tree .now)
+    (c .before .before .before .before .before .record-values .result) (c .before .before .before .before .before .before .leaf-count .result) (c .before .before .before .before .loop .index)
+    (c .before .before .before .before .before .before .before .before .before .before .pre) (c .before .before .before .before .before .record-values .ensures)
+    (c .before .before .before .before .before .before .leaf-count .ensures) (c .before .before .before .loop-test .taken) in
     let k : ℕ = c .before .before .before .before .before .record-values .result in
     let i : ℕ = c .before .before .before .before .loop .index in (
       omega (arith, f .index-small),
@@ -115,7 +157,13 @@ hash-leaf-requires c κs =
 
 add-index : tie.Need-add-index Inv-loop μ-loop
 add-index c =
-    let f = leaf-fits (sizesIn (c .before .before .before .before .before .before .before .before .before .before .before .before .before .args .s)) (c .before .before .before .before .before .before .before .before .before .before .before .before .before .args .table .now) (c .before .before .before .before .before .before .before .before .before .before .before .before .before .args .nonces .now) (c .before .before .before .before .before .before .before .before .before .before .before .before .before .args .tree .now) (c .before .before .before .before .before .before .before .before .record-values .result) (c .before .before .before .before .before .before .before .before .before .leaf-count .result) (c .before .before .before .before .before .before .before .loop .index) (c .before .before .before .before .before .before .before .before .before .before .before .before .before .pre) (c .before .before .before .before .before .before .before .before .record-values .ensures) (c .before .before .before .before .before .before .before .before .before .leaf-count .ensures) (c .before .before .before .before .before .before .loop-test .taken) in
+    let f = leaf-fits (sizesIn (c .before .before .before .before .before .before .before .before .before .before .before .before .before .args .s))
+    (c .before .before .before .before .before .before .before .before .before .before .before .before .before .args .table .now)
+    (c .before .before .before .before .before .before .before .before .before .before .before .before .before .args .nonces .now)
+    (c .before .before .before .before .before .before .before .before .before .before .before .before .before .args .tree .now) (c .before .before .before .before .before .before .before .before .record-values .result)
+    (c .before .before .before .before .before .before .before .before .before .leaf-count .result) (c .before .before .before .before .before .before .before .loop .index)
+    (c .before .before .before .before .before .before .before .before .before .before .before .before .before .pre) (c .before .before .before .before .before .before .before .before .record-values .ensures)
+    (c .before .before .before .before .before .before .before .before .before .leaf-count .ensures) (c .before .before .before .before .before .before .loop-test .taken) in
     omega (arith, f .index-small)
 
 loop-less : tie.Need-loop-less Inv-loop μ-loop

@@ -5,7 +5,7 @@ use native.Mathlib.Omega.{arith}
 use borrow.Author.Needs.{needs}
 use lib.ListN.{length, drop, length-set}
 use lib.Seq.{paste, paste-zero}
-use Rattle.digests.proofs.Copies.{copy-step}
+use Rattle.lists.specs.Copies.{copy-step}
 use Rattle.digests.proofs.copy.Statement.{statement}
 use Rattle.digests.proofs.copy.Tie as tie
 

@@ -1,7 +1,7 @@
 -- `copy_front` meets its contract.
 use mathlib.Core.Path.{ap, _∙_}
 use lib.ListN.{take}
-use Rattle.digests.proofs.Copies.{paste-front}
+use Rattle.lists.specs.Copies.{paste-front}
 use borrow.Author.Needs.{needs}
 use Rattle.digests.proofs.copy_front.Statement.{statement}
 use Rattle.digests.proofs.copy_front.Tie as tie

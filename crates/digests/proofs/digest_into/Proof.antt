@@ -1,10 +1,9 @@
 -- `digest_into` meets its contract.
 use mathlib.Core.Path.{ap, _∙_}
 use lib.Seq.{paste}
-use Rattle.sponge.specs.Digest.{digest-length}
-use Rattle.sponge.specs.Digest.{digest}
+use Rattle.sponge.specs.Digest.{digest-length, digest}
 use Rattle.lists.specs.Bytes.{Bytes}
-use Rattle.digests.proofs.Copies.{paste-all}
+use Rattle.lists.specs.Copies.{paste-all}
 use borrow.Author.Needs.{needs}
 use Rattle.digests.proofs.digest_into.Statement.{statement}
 use Rattle.digests.proofs.digest_into.Tie as tie

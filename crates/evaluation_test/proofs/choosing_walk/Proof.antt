@@ -26,8 +26,26 @@ part-table-end c = search needs
 tabled-walk-requires : tie.Need-tabled-walk-requires
 tabled-walk-requires c κs =
     let b : length (c .before .before .before .before .blank-short-table .result) ≡ 384 = search needs in
-    let e : length (take (c .before .before .before .before .before .before .table-length .result - 0) (drop 0 (c .before .before .before .before .blank-short-table .result))) ≡ c .before .before .before .before .before .before .table-length .result = front-length (c .before .before .before .before .before .before .table-length .result) (c .before .before .before .before .blank-short-table .result) (omega arith) in
-    (c .before .before .before .before .before .before .before .before .before .before .before .before .before .before .before .pre .0, omega arith, c .before .before .before .before .before .before .before .before .before .before .before .before .before .before .before .pre .3, c .before .before .before .before .before .before .before .before .before .before .before .before .before .before .before .pre .4, omega (arith, e, c .before .before .before .before .before .before .table-length .ensures .0), omega (arith, e, c .before .before .before .before .before .before .table-length .ensures .1), omega arith, c .before .before .before .before .before .before .before .before .before .before .before .before .before .before .before .pre .7, (c .before .before .before .before .before .before .before .before .before .before .before .before .before .before .before .pre .8 .0, c .before .before .before .before .before .before .before .before .before .before .before .before .before .before .before .pre .8 .1, c .before .before .before .before .before .before .before .before .before .before .before .before .before .before .before .pre .8 .2, c .before .before .before .before .before .before .before .before .before .before .before .before .before .before .before .pre .8 .3, c .before .before .before .before .before .before .before .before .before .before .before .before .before .before .before .pre .8 .4, c .before .before .before .before .before .before .before .before .before .before .before .before .before .before .before .pre .8 .5))
+    let e : length (take (c .before .before .before .before .before .before .table-length .result - 0) (drop 0 (c .before .before .before .before .blank-short-table .result))) ≡
+    c .before .before .before .before .before .before .table-length .result = front-length (c .before .before .before .before .before .before .table-length .result) (c .before .before .before .before .blank-short-table .result)
+    (omega arith) in (
+      c .before .before .before .before .before .before .before .before .before .before .before .before .before .before .before .pre .0,
+      omega arith,
+      c .before .before .before .before .before .before .before .before .before .before .before .before .before .before .before .pre .3,
+      c .before .before .before .before .before .before .before .before .before .before .before .before .before .before .before .pre .4,
+      omega (arith, e, c .before .before .before .before .before .before .table-length .ensures .0),
+      omega (arith, e, c .before .before .before .before .before .before .table-length .ensures .1),
+      omega arith,
+      c .before .before .before .before .before .before .before .before .before .before .before .before .before .before .before .pre .7,
+      (
+        c .before .before .before .before .before .before .before .before .before .before .before .before .before .before .before .pre .8 .0,
+        c .before .before .before .before .before .before .before .before .before .before .before .before .before .before .before .pre .8 .1,
+        c .before .before .before .before .before .before .before .before .before .before .before .before .before .before .before .pre .8 .2,
+        c .before .before .before .before .before .before .before .before .before .before .before .before .before .before .before .pre .8 .3,
+        c .before .before .before .before .before .before .before .before .before .before .before .before .before .before .before .pre .8 .4,
+        c .before .before .before .before .before .before .before .before .before .before .before .before .before .before .before .pre .8 .5,
+      ),
+    )
 
 blank-table-requires : tie.Need-blank-table-requires
 blank-table-requires c κs = search needs
@@ -44,8 +62,26 @@ part-table-end-2 c = search needs
 tabled-walk-requires-2 : tie.Need-tabled-walk-requires-2
 tabled-walk-requires-2 c κs =
     let b : length (c .before .before .before .before .blank-table .result) ≡ 4416 = search needs in
-    let e : length (take (c .before .before .before .before .before .before .table-length .result - 0) (drop 0 (c .before .before .before .before .blank-table .result))) ≡ c .before .before .before .before .before .before .table-length .result = front-length (c .before .before .before .before .before .before .table-length .result) (c .before .before .before .before .blank-table .result) (omega (arith, c .before .before .before .before .before .before .table-length .ensures .1)) in
-    (c .before .before .before .before .before .before .before .before .before .before .before .before .before .before .before .pre .0, omega arith, c .before .before .before .before .before .before .before .before .before .before .before .before .before .before .before .pre .3, c .before .before .before .before .before .before .before .before .before .before .before .before .before .before .before .pre .4, omega (arith, e, c .before .before .before .before .before .before .table-length .ensures .0), omega (arith, e, c .before .before .before .before .before .before .table-length .ensures .1), omega arith, c .before .before .before .before .before .before .before .before .before .before .before .before .before .before .before .pre .7, (c .before .before .before .before .before .before .before .before .before .before .before .before .before .before .before .pre .8 .0, c .before .before .before .before .before .before .before .before .before .before .before .before .before .before .before .pre .8 .1, c .before .before .before .before .before .before .before .before .before .before .before .before .before .before .before .pre .8 .2, c .before .before .before .before .before .before .before .before .before .before .before .before .before .before .before .pre .8 .3, c .before .before .before .before .before .before .before .before .before .before .before .before .before .before .before .pre .8 .4, c .before .before .before .before .before .before .before .before .before .before .before .before .before .before .before .pre .8 .5))
+    let e : length (take (c .before .before .before .before .before .before .table-length .result - 0) (drop 0 (c .before .before .before .before .blank-table .result))) ≡
+    c .before .before .before .before .before .before .table-length .result = front-length (c .before .before .before .before .before .before .table-length .result) (c .before .before .before .before .blank-table .result)
+    (omega (arith, c .before .before .before .before .before .before .table-length .ensures .1)) in (
+      c .before .before .before .before .before .before .before .before .before .before .before .before .before .before .before .pre .0,
+      omega arith,
+      c .before .before .before .before .before .before .before .before .before .before .before .before .before .before .before .pre .3,
+      c .before .before .before .before .before .before .before .before .before .before .before .before .before .before .before .pre .4,
+      omega (arith, e, c .before .before .before .before .before .before .table-length .ensures .0),
+      omega (arith, e, c .before .before .before .before .before .before .table-length .ensures .1),
+      omega arith,
+      c .before .before .before .before .before .before .before .before .before .before .before .before .before .before .before .pre .7,
+      (
+        c .before .before .before .before .before .before .before .before .before .before .before .before .before .before .before .pre .8 .0,
+        c .before .before .before .before .before .before .before .before .before .before .before .before .before .before .before .pre .8 .1,
+        c .before .before .before .before .before .before .before .before .before .before .before .before .before .before .before .pre .8 .2,
+        c .before .before .before .before .before .before .before .before .before .before .before .before .before .before .before .pre .8 .3,
+        c .before .before .before .before .before .before .before .before .before .before .before .before .before .before .before .pre .8 .4,
+        c .before .before .before .before .before .before .before .before .before .before .before .before .before .before .before .pre .8 .5,
+      ),
+    )
 
 same-length : tie.Need-same-length
 same-length c = search needs

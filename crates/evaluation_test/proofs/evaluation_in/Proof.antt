@@ -21,11 +21,13 @@ weights-requires c κs = search needs
 weigh-answers-requires : tie.Need-weigh-answers-requires
 weigh-answers-requires c κs =
     let s = c .before .before .before .before .before .before .before .before .before .before .before .before .before .before .before .before .before .before .before .args in
-    subst (λ (k : ℕ). k * length (s .points .now) ≤ length (s .answers .now)) (sym (c .before .before .before .before .weights .kept .0)) (c .before .before .before .before .before .before .before .before .before .before .before .before .before .before .before .before .before .before .before .pre .8 .0)
+    subst (λ (k : ℕ). k * length (s .points .now) ≤ length (s .answers .now)) (sym (c .before .before .before .before .weights .kept .0))
+    (c .before .before .before .before .before .before .before .before .before .before .before .before .before .before .before .before .before .before .before .pre .8 .0)
 
 choosing-walk-requires : tie.Need-choosing-walk-requires
 choosing-walk-requires c κs =
-    let s = c .before .before .before .before .before .before .before .before .before .before .before .before .before .before .before .before .before .before .before .before .before .before .before .before .before .before .before .before .args in
+    let s = c .before .before .before .before .before .before .before .before .before .before .before .before .before .before .before .before .before .before .before .before .before .before .before .before .before .before .before .before .args
+    in
     let w : List ℕ = c .before .before .before .before .before .before .before .before .before .before .before .before .before .weights .last .0 in
     let y : List ℕ = c .before .before .before .before .before .before .before .before .weigh-answers .last .1 .1 .0 in
     let t : List ℕ = c .before .before .before .before .before .before .before .before .before .before .before .before .before .before .before .before .before .fill-powers .last .1 .1 .0 in
@@ -39,7 +41,19 @@ choosing-walk-requires c κs =
       c .before .before .before .before .before .before .before .before .before .before .before .before .before .before .before .before .before .before .before .before .before .before .before .before .before .before .before .before .pre .4,
       subst (λ (k : ℕ). 0 < k) e (c .before .before .before .before .before .before .before .before .before .before .before .before .before .before .before .before .before .before .before .before .before .before .before .before .before .before .before .before .pre .5),
       subst (λ (k : ℕ). k ≤ tableSize) e (c .before .before .before .before .before .before .before .before .before .before .before .before .before .before .before .before .before .before .before .before .before .before .before .before .before .before .before .before .pre .6),
-      omega (arith, c .before .before .before .before .before .before .before .before .before .before .before .before .before .before .before .before .before .before .before .before .before .before .before .before .before .before .before .before .pre .7), (subst (λ (k : ℕ). length w * length (s .points .now) ≤ k) f (subst (λ (k : ℕ). k * length (s .points .now) ≤ length (s .answers .now)) e (c .before .before .before .before .before .before .before .before .before .before .before .before .before .before .before .before .before .before .before .before .before .before .before .before .before .before .before .before .pre .8 .0)), subst (λ (k : ℕ). length (s .rows .now) * length (s .points .now) ≤ k) g (c .before .before .before .before .before .before .before .before .before .before .before .before .before .before .before .before .before .before .before .before .before .before .before .before .before .before .before .before .pre .8 .1), c .before .before .before .before .before .before .before .before .before .before .before .before .before .before .before .before .before .before .before .before .before .before .before .before .before .before .before .before .pre .8 .2, c .before .before .before .before .before .before .before .before .before .before .before .before .before .before .before .before .before .before .before .before .before .before .before .before .before .before .before .before .pre .8 .3, c .before .before .before .before .before .before .before .before .before .before .before .before .before .before .before .before .before .before .before .before .before .before .before .before .before .before .before .before .pre .8 .4 ∙ e, c .before .before .before .before .before .before .before .before .before .before .before .before .before .before .before .before .before .before .before .before .before .before .before .before .before .before .before .before .pre .8 .5 ∙ e))
+      omega (arith, c .before .before .before .before .before .before .before .before .before .before .before .before .before .before .before .before .before .before .before .before .before .before .before .before .before .before .before .before .pre .7),
+      (
+        subst (λ (k : ℕ). length w * length (s .points .now) ≤ k) f (subst (λ (k : ℕ). k * length (s .points .now) ≤ length (s .answers .now)) e
+            (c .before .before .before .before .before .before .before .before .before .before .before .before .before .before .before .before .before .before .before .before .before .before .before .before .before .before .before .before .pre .8 .0)),
+        subst (λ (k : ℕ). length (s .rows .now) * length (s .points .now) ≤ k) g (c .before .before .before .before .before .before .before .before .before .before .before .before .before .before .before .before .before .before .before .before .before .before .before .before .before .before .before .before .pre .8 .1),
+        c .before .before .before .before .before .before .before .before .before .before .before .before .before .before .before .before .before .before .before .before .before .before .before .before .before .before .before .before .pre .8 .2,
+        c .before .before .before .before .before .before .before .before .before .before .before .before .before .before .before .before .before .before .before .before .before .before .before .before .before .before .before .before .pre .8 .3,
+        c .before .before .before .before .before .before .before .before .before .before .before .before .before .before .before .before .before .before .before .before .before .before .before .before .before .before .before .before .pre .8 .4
+            ∙ e,
+        c .before .before .before .before .before .before .before .before .before .before .before .before .before .before .before .before .before .before .before .before .before .before .before .before .before .before .before .before .pre .8 .5
+            ∙ e,
+      ),
+    )
 
 same-length : tie.Need-same-length
 same-length c = search needs
@@ -61,15 +75,24 @@ same-length-6 c = search needs
 
 returns : tie.Need-returns
 returns c =
-    let s = c .before .before .before .before .before .before .before .before .before .before .before .before .before .before .before .before .before .before .before .before .before .before .before .before .before .before .before .before .before .before .before .before .before .before .before .args in
+    let s = c .before .before .before .before .before .before .before .before .before .before .before .before .before .before .before .before .before .before .before .before .before .before .before .before .before .before .before .before .before .before .before .before .before .before .before .args
+    in
     let w : List ℕ = c .before .before .before .before .before .before .before .before .before .before .before .before .before .before .before .before .before .before .before .before .weights .last .0 in
     let y : List ℕ = c .before .before .before .before .before .before .before .before .before .before .before .before .before .before .before .weigh-answers .last .1 .1 .0 in
-    let t : List ℕ = c .before .before .before .before .before .before .before .before .before .before .before .before .before .before .before .before .before .before .before .before .before .before .before .before .fill-powers .last .1 .1 .0 in
-    let few = c .before .before .before .before .before .before .before .before .before .before .before .before .before .before .before .before .before .before .before .before .before .before .before .before .before .before .before .before .before .before .before .before .before .before .before .pre .6 in
-    let low = c .before .before .before .before .before .before .before .before .before .before .before .before .before .before .before .before .before .before .before .before .before .before .before .before .before .before .before .before .before .before .before .before .before .before .before .pre .2 in
+    let t : List ℕ = c .before .before .before .before .before .before .before .before .before .before .before .before .before .before .before .before .before .before .before .before .before .before .before .before .fill-powers .last .1 .1 .0
+    in
+    let few = c .before .before .before .before .before .before .before .before .before .before .before .before .before .before .before .before .before .before .before .before .before .before .before .before .before .before .before .before .before .before .before .before .before .before .before .pre .6
+    in
+    let low = c .before .before .before .before .before .before .before .before .before .before .before .before .before .before .before .before .before .before .before .before .before .before .before .before .before .before .before .before .before .before .before .before .before .before .before .pre .2
+    in
     c .before .before .before .before .before .before .choosing-walk .ensures
-    ∙ evaluated-is (s .leaves) (length (s .weights .now)) (length (s .rows .now)) (s .points .now) (s .answers .now) (s .indices .now) w y t (drop (length w * length (s .points .now)) (s .answers .now)) (drop (length (s .rows .now) * length (s .points .now)) (s .scales .now))
-    (recordWordsAt (s .at) (s .size) (length (s .rows .now)) (s .reply .now)) (c .before .before .before .before .before .before .before .before .before .before .before .before .before .before .before .before .before .before .before .before .before .before .before .before .before .before .before .before .before .before .before .before .before .before .before .pre .5) few (omega arith) (c .before .before .before .before .before .before .before .before .before .before .before .before .before .before .before .before .before .before .before .before .before .before .before .before .before .before .before .before .before .before .before .before .before .before .before .pre .3) (length-recordWordsAt (s .at) (s .size) (length (s .rows .now)) (s .reply .now)) (c .before .before .before .before .before .before .before .before .before .before .before .before .before .before .before .before .before .before .before .before .weights .ensures) (c .before .before .before .before .before .before .before .before .before .before .before .before .before .before .before .weigh-answers .ensures) (c .before .before .before .before .before .before .before .before .before .before .before .before .before .before .before .before .before .before .before .before .before .before .before .before .fill-powers .ensures)
+    ∙ evaluated-is (s .leaves) (length (s .weights .now)) (length (s .rows .now)) (s .points .now) (s .answers .now) (s .indices .now) w y t (drop (length w * length (s .points .now)) (s .answers .now))
+    (drop (length (s .rows .now) * length (s .points .now)) (s .scales .now))
+    (recordWordsAt (s .at) (s .size) (length (s .rows .now)) (s .reply .now)) (c .before .before .before .before .before .before .before .before .before .before .before .before .before .before .before .before .before .before .before .before .before .before .before .before .before .before .before .before .before .before .before .before .before .before .before .pre .5)
+    few (omega arith) (c .before .before .before .before .before .before .before .before .before .before .before .before .before .before .before .before .before .before .before .before .before .before .before .before .before .before .before .before .before .before .before .before .before .before .before .pre .3)
+    (length-recordWordsAt (s .at) (s .size) (length (s .rows .now)) (s .reply .now)) (c .before .before .before .before .before .before .before .before .before .before .before .before .before .before .before .before .before .before .before .before .weights .ensures)
+    (c .before .before .before .before .before .before .before .before .before .before .before .before .before .before .before .weigh-answers .ensures)
+    (c .before .before .before .before .before .before .before .before .before .before .before .before .before .before .before .before .before .before .before .before .before .before .before .before .fill-powers .ensures)
 
 pub evaluation-in-spec : {M : Type 1} → statement M
 evaluation-in-spec =

@@ -94,7 +94,10 @@ evaluation-in-requires c κs =
     let g = f .0 in
     let k : s .mu * length (s .points .now) ≤ 8 * 8 = mul-le-mul {n₂ = 8} {m₂ = 8} (f .1) (c .before .before .before .before .before .before .before .before .before .before .before .before .before .before .before .before .before .pre .7) in
     let m = c .before .before .before .before .before .before .before .before .before .before .before .before .before .before .before .before .before .pre .6 in
-    rooms-do (s .leaves) (s .width) (s .mu) (s .at) (s .size) (s .points .now) (s .answers .now) (s .indices .now) (s .reply .now) (c .before .before .before .before .before .before .before .before .before .small-scales .result) (c .before .before .before .before .before .before .before .before .small-row .result) (c .before .before .before .before .before .before .before .before .before .before .before .before .blank-leaf .result) (c .before .before .before .before .before .before .before .small-row2 .result) (c .before .before .before .before .before .before .small-row3 .result) (c .before .before .before .before .before .before .before .before .before .before .before .before .before .before .before .before .before .pre) (omega arith) (omega arith) (omega arith) (omega arith) (omega arith)
+    rooms-do (s .leaves) (s .width) (s .mu) (s .at) (s .size) (s .points .now) (s .answers .now) (s .indices .now) (s .reply .now) (c .before .before .before .before .before .before .before .before .before .small-scales .result)
+    (c .before .before .before .before .before .before .before .before .small-row .result) (c .before .before .before .before .before .before .before .before .before .before .before .before .blank-leaf .result)
+    (c .before .before .before .before .before .before .before .small-row2 .result) (c .before .before .before .before .before .before .small-row3 .result)
+    (c .before .before .before .before .before .before .before .before .before .before .before .before .before .before .before .before .before .pre) (omega arith) (omega arith) (omega arith) (omega arith) (omega arith)
 
 blank-scales-requires : tie.Need-blank-scales-requires
 blank-scales-requires c κs = search needs
@@ -155,10 +158,14 @@ evaluation-in-requires-2 c κs =
     let r : length (c .before .before .before .before .before .before .blank-row3 .result) ≡ 320 = search needs in
     let l : length (c .before .before .before .before .before .before .before .before .before .before .before .before .blank-leaf .result) ≡ 64 = search needs in
     let t : length (c .before .before .before .before .before .before .before .before .before .blank-scales .result) ≡ 512 = search needs in
-    let k : s .mu * length (s .points .now) ≤ 64 * 8 = mul-le-mul {n₂ = 64} {m₂ = 8} (c .before .before .before .before .before .before .before .before .before .before .before .before .before .before .before .before .before .pre .6) (c .before .before .before .before .before .before .before .before .before .before .before .before .before .before .before .before .before .pre .7) in
+    let k : s .mu * length (s .points .now) ≤ 64 * 8 = mul-le-mul {n₂ = 64} {m₂ = 8} (c .before .before .before .before .before .before .before .before .before .before .before .before .before .before .before .before .before .pre .6)
+    (c .before .before .before .before .before .before .before .before .before .before .before .before .before .before .before .before .before .pre .7) in
     let g = c .before .before .before .before .before .before .before .before .before .before .before .before .before .before .before .before .before .pre .5 in
     let m = c .before .before .before .before .before .before .before .before .before .before .before .before .before .before .before .before .before .pre .6 in
-    rooms-do (s .leaves) (s .width) (s .mu) (s .at) (s .size) (s .points .now) (s .answers .now) (s .indices .now) (s .reply .now) (c .before .before .before .before .before .before .before .before .before .blank-scales .result) (c .before .before .before .before .before .before .before .before .blank-row .result) (c .before .before .before .before .before .before .before .before .before .before .before .before .blank-leaf .result) (c .before .before .before .before .before .before .before .blank-row2 .result) (c .before .before .before .before .before .before .blank-row3 .result) (c .before .before .before .before .before .before .before .before .before .before .before .before .before .before .before .before .before .pre) (omega arith) (omega arith) (omega arith) (omega arith) (omega arith)
+    rooms-do (s .leaves) (s .width) (s .mu) (s .at) (s .size) (s .points .now) (s .answers .now) (s .indices .now) (s .reply .now) (c .before .before .before .before .before .before .before .before .before .blank-scales .result)
+    (c .before .before .before .before .before .before .before .before .blank-row .result) (c .before .before .before .before .before .before .before .before .before .before .before .before .blank-leaf .result)
+    (c .before .before .before .before .before .before .before .blank-row2 .result) (c .before .before .before .before .before .before .blank-row3 .result)
+    (c .before .before .before .before .before .before .before .before .before .before .before .before .before .before .before .before .before .pre) (omega arith) (omega arith) (omega arith) (omega arith) (omega arith)
 
 same-length : tie.Need-same-length
 same-length c = search needs
@@ -168,11 +175,14 @@ returns c =
     let s = c .before .before .before .before .before .before .before .before .before .before .before .before .before .before .before .before .before .before .before .before .before .before .before .before .before .args in
     let w : length (c .before .before .before .before .before .before .before .before .before .before .before .before .before .before .before .before .small-row .result) ≡ 32 = search needs in
     let l : length (c .before .before .before .before .before .before .before .before .before .before .before .before .before .before .before .before .before .before .before .before .blank-leaf .result) ≡ 64 = search needs in
-    let f = c .before .before .before .before .before .before .before .before .before .before .before .before .before .before .before .before .before .before .before .is-small .ensures (c .before .before .before .before .before .before .before .before .before .before .before .before .before .before .before .before .before .before .if1 .taken) in
+    let f = c .before .before .before .before .before .before .before .before .before .before .before .before .before .before .before .before .before .before .before .is-small .ensures
+    (c .before .before .before .before .before .before .before .before .before .before .before .before .before .before .before .before .before .before .if1 .taken) in
     let g = f .0 in
     let m = c .before .before .before .before .before .before .before .before .before .before .before .before .before .before .before .before .before .before .before .before .before .before .before .before .before .pre .6 in
     c .before .before .before .before .before .before .before .evaluation-in .ensures
-    ∙ ap₂ (λ (i j : ℕ). each (length (s .indices .now)) (evaluatedLeaf (s .leaves) i (s .points .now) (s .answers .now) (s .indices .now) (recordWordsAt (s .at) (s .size) j (s .reply .now)))) (front-length (s .width) (c .before .before .before .before .before .before .before .before .before .before .before .before .before .before .before .before .small-row .result) (omega arith)) (front-length (s .mu) (c .before .before .before .before .before .before .before .before .before .before .before .before .before .before .before .before .before .before .before .before .blank-leaf .result) (omega arith))
+    ∙ ap₂ (λ (i j : ℕ). each (length (s .indices .now)) (evaluatedLeaf (s .leaves) i (s .points .now) (s .answers .now) (s .indices .now) (recordWordsAt (s .at) (s .size) j (s .reply .now))))
+    (front-length (s .width) (c .before .before .before .before .before .before .before .before .before .before .before .before .before .before .before .before .small-row .result) (omega arith))
+    (front-length (s .mu) (c .before .before .before .before .before .before .before .before .before .before .before .before .before .before .before .before .before .before .before .before .blank-leaf .result) (omega arith))
 
 same-length-2 : tie.Need-same-length-2
 same-length-2 c = search needs
@@ -185,7 +195,9 @@ returns-2 c =
     let g = c .before .before .before .before .before .before .before .before .before .before .before .before .before .before .before .before .before .before .before .before .before .before .before .before .before .pre .5 in
     let m = c .before .before .before .before .before .before .before .before .before .before .before .before .before .before .before .before .before .before .before .before .before .before .before .before .before .pre .6 in
     c .before .before .before .before .before .before .before .evaluation-in2 .ensures
-    ∙ ap₂ (λ (i j : ℕ). each (length (s .indices .now)) (evaluatedLeaf (s .leaves) i (s .points .now) (s .answers .now) (s .indices .now) (recordWordsAt (s .at) (s .size) j (s .reply .now)))) (front-length (s .width) (c .before .before .before .before .before .before .before .before .before .before .before .before .before .before .before .before .blank-row .result) (omega arith)) (front-length (s .mu) (c .before .before .before .before .before .before .before .before .before .before .before .before .before .before .before .before .before .before .before .before .blank-leaf .result) (omega arith))
+    ∙ ap₂ (λ (i j : ℕ). each (length (s .indices .now)) (evaluatedLeaf (s .leaves) i (s .points .now) (s .answers .now) (s .indices .now) (recordWordsAt (s .at) (s .size) j (s .reply .now))))
+    (front-length (s .width) (c .before .before .before .before .before .before .before .before .before .before .before .before .before .before .before .before .blank-row .result) (omega arith))
+    (front-length (s .mu) (c .before .before .before .before .before .before .before .before .before .before .before .before .before .before .before .before .before .before .before .before .blank-leaf .result) (omega arith))
 
 pub evaluation-ok-spec : {M : Type 1} → statement M
 evaluation-ok-spec =

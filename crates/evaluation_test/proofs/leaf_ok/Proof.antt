@@ -38,7 +38,8 @@ weighed-ok-requires-2 c κs = search needs
 returns : tie.Need-returns
 returns c =
     let s = c .before .before .before .before .before .before .before .before .before .before .args in
-    by-table (s .m) (s .near) (s .weights .now) (s .weighed .now) (s .scales .now) (s .rows .now) (s .near + length (s .weights .now)) (s .table .now) (c .weighed-ok .result) (c .before .before .before .before .before .before .before .before .before .before .pre .1) refl (omega arith) (c .before .before .before .before .before .before .before .before .before .before .pre .3) (c .weighed-ok .ensures)
+    by-table (s .m) (s .near) (s .weights .now) (s .weighed .now) (s .scales .now) (s .rows .now) (s .near + length (s .weights .now)) (s .table .now) (c .weighed-ok .result)
+    (c .before .before .before .before .before .before .before .before .before .before .pre .1) refl (omega arith) (c .before .before .before .before .before .before .before .before .before .before .pre .3) (c .weighed-ok .ensures)
 
 same-length : tie.Need-same-length
 same-length c = search needs
@@ -49,7 +50,10 @@ same-length-2 c = search needs
 returns-2 : tie.Need-returns-2
 returns-2 c =
     let s = c .before .before .before .before .before .before .before .before .before .before .before .before .before .before .before .before .before .args in
-    by-products (s .m) (s .near) (s .weights .now) (s .weighed .now) (s .scales .now) (s .rows .now) (length (s .products .now)) (c .before .before .before .before .before .before .cofactors .last .1 .0) (c .weighed-ok2 .result) (c .before .before .before .before .before .before .before .before .before .before .before .before .before .before .before .before .before .pre .1) (c .before .before .before .before .before .before .before .before .before .before .before .before .before .before .before .before .before .pre .8) (omega arith) (c .before .before .before .before .before .before .cofactors .ensures) (c .weighed-ok2 .ensures)
+    by-products (s .m) (s .near) (s .weights .now) (s .weighed .now) (s .scales .now) (s .rows .now) (length (s .products .now)) (c .before .before .before .before .before .before .cofactors .last .1 .0) (c .weighed-ok2 .result)
+    (c .before .before .before .before .before .before .before .before .before .before .before .before .before .before .before .before .before .pre .1)
+    (c .before .before .before .before .before .before .before .before .before .before .before .before .before .before .before .before .before .pre .8) (omega arith)
+    (c .before .before .before .before .before .before .cofactors .ensures) (c .weighed-ok2 .ensures)
 
 pub leaf-ok-spec : {M : Type 1} → statement M
 leaf-ok-spec =

@@ -11,8 +11,25 @@ inverses-requires : tie.Need-inverses-requires
 inverses-requires c κs = search needs
 
 evaluation-walk-requires : tie.Need-evaluation-walk-requires
-evaluation-walk-requires c κs =
-    (c .before .before .before .before .before .before .before .before .before .before .before .before .before .before .before .before .before .pre .0, c .before .before .before .before .before .before .before .before .before .before .before .before .before .before .before .before .before .pre .1, c .before .before .before .before .before .before .before .before .before .before .before .before .before .before .before .before .before .pre .2, c .before .before .before .before .before .before .before .before .before .before .before .before .before .before .before .before .before .pre .3, subst (λ (k : ℕ). Filled invN (c .before .before .before .before .before .before .inverses .last .0) 1 k) (sym (c .before .before .before .before .before .before .inverses .kept .0)) (c .before .before .before .before .before .before .inverses .ensures), c .before .before .before .before .before .before .before .before .before .before .before .before .before .before .before .before .before .pre .6, c .before .before .before .before .before .before .before .before .before .before .before .before .before .before .before .before .before .pre .7, (c .before .before .before .before .before .before .before .before .before .before .before .before .before .before .before .before .before .pre .8 .0, c .before .before .before .before .before .before .before .before .before .before .before .before .before .before .before .before .before .pre .8 .1, c .before .before .before .before .before .before .before .before .before .before .before .before .before .before .before .before .before .pre .8 .2, c .before .before .before .before .before .before .before .before .before .before .before .before .before .before .before .before .before .pre .8 .3, c .before .before .before .before .before .before .before .before .before .before .before .before .before .before .before .before .before .pre .8 .4, c .before .before .before .before .before .before .before .before .before .before .before .before .before .before .before .before .before .pre .8 .5))
+evaluation-walk-requires c κs = (
+  c .before .before .before .before .before .before .before .before .before .before .before .before .before .before .before .before .before .pre .0,
+  c .before .before .before .before .before .before .before .before .before .before .before .before .before .before .before .before .before .pre .1,
+  c .before .before .before .before .before .before .before .before .before .before .before .before .before .before .before .before .before .pre .2,
+  c .before .before .before .before .before .before .before .before .before .before .before .before .before .before .before .before .before .pre .3,
+  subst
+      (λ (k : ℕ). Filled invN (c .before .before .before .before .before .before .inverses .last .0) 1 k) (sym (c .before .before .before .before .before .before .inverses .kept .0))
+      (c .before .before .before .before .before .before .inverses .ensures),
+  c .before .before .before .before .before .before .before .before .before .before .before .before .before .before .before .before .before .pre .6,
+  c .before .before .before .before .before .before .before .before .before .before .before .before .before .before .before .before .before .pre .7,
+  (
+    c .before .before .before .before .before .before .before .before .before .before .before .before .before .before .before .before .before .pre .8 .0,
+    c .before .before .before .before .before .before .before .before .before .before .before .before .before .before .before .before .before .pre .8 .1,
+    c .before .before .before .before .before .before .before .before .before .before .before .before .before .before .before .before .before .pre .8 .2,
+    c .before .before .before .before .before .before .before .before .before .before .before .before .before .before .before .before .before .pre .8 .3,
+    c .before .before .before .before .before .before .before .before .before .before .before .before .before .before .before .before .before .pre .8 .4,
+    c .before .before .before .before .before .before .before .before .before .before .before .before .before .before .before .before .before .pre .8 .5,
+  ),
+)
 
 same-length : tie.Need-same-length
 same-length c = search needs

@@ -68,7 +68,8 @@ loop-again c =
       refl,
       omega arith,
       same-len-mid (w * p) (w * p + w - w * p) t r (c .before .before .weigh .kept .1 .0) ∙ c .before .before .before .before .before .loop .inv .2,
-      row-turn w (weighedRow ws d) (length-weighedRow ws d) d t r p (c .before .before .before .before .before .loop .inv .3) (weigh-turn ws d t r p (c .before .before .before .before .before .loop .inv .3) (c .before .before .weigh .ensures)),
+      row-turn w (weighedRow ws d) (length-weighedRow ws d) d t r p (c .before .before .before .before .before .loop .inv .3)
+          (weigh-turn ws d t r p (c .before .before .before .before .before .loop .inv .3) (c .before .before .weigh .ensures)),
     )
 
 same-length : tie.Need-same-length Inv-loop μ-loop

@@ -17,7 +17,8 @@ use Rattle.evaluation_test.proofs.weighed_ok.Tie as tie
 
 abbrev Inv-loop : tie.InvT-loop
 Inv-loop m inverses weights weighed scales rows total lefts sums p₀ p =
-    (p ≤ m) × (length lefts ≡ 8) × (length sums ≡ 8) × (total .0 ≡ dotN inverses weights) × (take (m - 0) lefts ≡ dotsOf inverses m weighed) × (take (m - 0) sums ≡ dotsOf rows m scales) × (each p (weighedAt inverses weights weighed scales rows) ≡ true)
+    (p ≤ m) × (length lefts ≡ 8) × (length sums ≡ 8) × (total .0 ≡ dotN inverses weights) × (take (m - 0) lefts ≡ dotsOf inverses m weighed) × (take (m - 0) sums ≡ dotsOf rows m scales) ×
+    (each p (weighedAt inverses weights weighed scales rows) ≡ true)
 
 abbrev μ-loop : tie.MeasureT-loop
 μ-loop m inverses weights weighed scales rows total lefts sums p₀ p = m - p
@@ -43,8 +44,12 @@ dots-requires c κs =
     let s = c .before .before .before .before .before .before .before .before .args in
     let b : length (c .before .blank-points .result) ≡ 8 = search needs in
     let f = c .before .before .before .before .before .before .before .before .pre .0 in
-    let e : length (take (s .m - 0) (drop 0 (c .before .blank-points .result))) ≡ s .m = front-length (s .m) (c .before .blank-points .result) (omega arith) in
-    (subst (λ (k : ℕ). length (s .inverses .now) * k ≤ length (s .weighed .now)) (sym e) (subst (λ (k : ℕ). k * s .m ≤ length (s .weighed .now)) (sym (c .before .before .before .before .before .before .before .before .pre .1)) (c .before .before .before .before .before .before .before .before .pre .4)), subst (λ (k : ℕ). k ≤ longest) (sym (c .before .before .before .before .before .before .before .before .pre .1)) (c .before .before .before .before .before .before .before .before .pre .2))
+    let e : length (take (s .m - 0) (drop 0 (c .before .blank-points .result))) ≡ s .m = front-length (s .m) (c .before .blank-points .result) (omega arith) in (
+      subst (λ (k : ℕ). length (s .inverses .now) * k ≤ length (s .weighed .now)) (sym e)
+          (subst (λ (k : ℕ). k * s .m ≤ length (s .weighed .now)) (sym (c .before .before .before .before .before .before .before .before .pre .1)) (c .before .before .before .before .before .before .before .before .pre .4)),
+      subst
+          (λ (k : ℕ). k ≤ longest) (sym (c .before .before .before .before .before .before .before .before .pre .1)) (c .before .before .before .before .before .before .before .before .pre .2),
+    )
 
 blank-points-requires-2 : tie.Need-blank-points-requires-2 Inv-loop μ-loop
 blank-points-requires-2 c κs = search needs
@@ -63,8 +68,10 @@ dots-requires-2 c κs =
     let s = c .before .before .before .before .before .before .before .before .before .before .before .before .args in
     let b : length (c .before .blank-points2 .result) ≡ 8 = search needs in
     let f = c .before .before .before .before .before .before .before .before .before .before .before .before .pre .0 in
-    let e : length (take (s .m - 0) (drop 0 (c .before .blank-points2 .result))) ≡ s .m = front-length (s .m) (c .before .blank-points2 .result) (omega arith) in
-    (subst (λ (k : ℕ). length (s .rows .now) * k ≤ length (s .scales .now)) (sym e) (c .before .before .before .before .before .before .before .before .before .before .before .before .pre .5), c .before .before .before .before .before .before .before .before .before .before .before .before .pre .3)
+    let e : length (take (s .m - 0) (drop 0 (c .before .blank-points2 .result))) ≡ s .m = front-length (s .m) (c .before .blank-points2 .result) (omega arith) in (
+      subst (λ (k : ℕ). length (s .rows .now) * k ≤ length (s .scales .now)) (sym e) (c .before .before .before .before .before .before .before .before .before .before .before .before .pre .5),
+      c .before .before .before .before .before .before .before .before .before .before .before .before .pre .3,
+    )
 
 loop-holds : tie.Need-loop-holds Inv-loop μ-loop
 loop-holds c =
@@ -72,13 +79,16 @@ loop-holds c =
     let b : length (c .before .before .before .before .before .before .before .blank-points .result) ≡ 8 = search needs in
     let c₂ : length (c .before .before .before .blank-points2 .result) ≡ 8 = search needs in
     let f = c .before .before .before .before .before .before .before .before .before .before .before .before .before .before .pre .0 in
-    let e : length (take (s .m - 0) (drop 0 (c .before .before .before .before .before .before .before .blank-points .result))) ≡ s .m = front-length (s .m) (c .before .before .before .before .before .before .before .blank-points .result) (omega arith) in
+    let e : length (take (s .m - 0) (drop 0 (c .before .before .before .before .before .before .before .blank-points .result))) ≡ s .m = front-length (s .m)
+    (c .before .before .before .before .before .before .before .blank-points .result) (omega arith) in
     let g : length (take (s .m - 0) (drop 0 (c .before .before .before .blank-points2 .result))) ≡ s .m = front-length (s .m) (c .before .before .before .blank-points2 .result) (omega arith) in (
       omega arith,
-      put-length 0 (s .m - 0) (c .before .before .before .before .before .before .before .blank-points .result) (c .before .before .before .before .before .dots .last .1 .1 .0) (omega arith) (c .before .before .before .before .before .dots .kept .1 .1 .0 ∙ e ∙ sym (sub-zero (s .m))) ∙ b,
+      put-length 0 (s .m - 0) (c .before .before .before .before .before .before .before .blank-points .result) (c .before .before .before .before .before .dots .last .1 .1 .0) (omega arith)
+          (c .before .before .before .before .before .dots .kept .1 .1 .0 ∙ e ∙ sym (sub-zero (s .m))) ∙ b,
       put-length 0 (s .m - 0) (c .before .before .before .blank-points2 .result) (c .before .dots2 .last .1 .1 .0) (omega arith) (c .before .dots2 .kept .1 .1 .0 ∙ g ∙ sym (sub-zero (s .m))) ∙ c₂,
       c .before .before .before .before .before .before .before .before .dot .ensures,
-      front-is (s .m) (c .before .before .before .before .before .dots .last .1 .1 .0) _ (c .before .before .before .before .before .dots .kept .1 .1 .0 ∙ e) ∙ c .before .before .before .before .before .dots .ensures ∙ ap (λ (k : ℕ). dotsOf (s .inverses .now) k (s .weighed .now)) e,
+      front-is (s .m) (c .before .before .before .before .before .dots .last .1 .1 .0) _ (c .before .before .before .before .before .dots .kept .1 .1 .0 ∙ e) ∙ c .before .before .before .before .before .dots .ensures ∙ ap
+          (λ (k : ℕ). dotsOf (s .inverses .now) k (s .weighed .now)) e,
       front-is (s .m) (c .before .dots2 .last .1 .1 .0) _ (c .before .dots2 .kept .1 .1 .0 ∙ g) ∙ c .before .dots2 .ensures ∙ ap (λ (k : ℕ). dotsOf (s .rows .now) k (s .scales .now)) g,
       each-none (weighedAt (s .inverses .now) (s .weights .now) (s .weighed .now) (s .scales .now) (s .rows .now)),
     )
@@ -100,7 +110,10 @@ returns : tie.Need-returns Inv-loop μ-loop
 returns c =
     let s = c .before .before .before .before .before .before .before .before .before .before .before .before .before .before .before .before .before .before .before .before .args in
     let loop = c .before .before .before .before .before .loop in
-    let h : c .before .answer-ok .result ≡ weighedAt (s .inverses .now) (s .weights .now) (s .weighed .now) (s .scales .now) (s .rows .now) (loop .p) = sides (s .m) (s .inverses .now) (s .weights .now) (s .weighed .now) (s .scales .now) (s .rows .now) _ _ (loop .p) (c .before .before .before .before .before .before .before .before .before .before .before .before .before .before .dot .result .0) (c .before .answer-ok .result) (omega arith) (c .before .before .before .before .before .before .before .before .before .before .before .before .before .before .before .before .before .before .before .before .pre .1) (loop .inv .3) (loop .inv .4) (loop .inv .5) (c .before .answer-ok .ensures) in
+    let h : c .before .answer-ok .result ≡ weighedAt (s .inverses .now) (s .weights .now) (s .weighed .now) (s .scales .now) (s .rows .now) (loop .p) = sides (s .m) (s .inverses .now) (s .weights .now) (s .weighed .now)
+    (s .scales .now) (s .rows .now) _ _ (loop .p) (c .before .before .before .before .before .before .before .before .before .before .before .before .before .before .dot .result .0) (c .before .answer-ok .result) (omega arith)
+    (c .before .before .before .before .before .before .before .before .before .before .before .before .before .before .before .before .before .before .before .before .pre .1) (loop .inv .3) (loop .inv .4) (loop .inv .5)
+    (c .before .answer-ok .ensures) in
     sym (each-stop (s .m) (weighedAt (s .inverses .now) (s .weights .now) (s .weighed .now) (s .scales .now) (s .rows .now)) (loop .p) (omega arith) (sym h ∙ not-true (c .before .answer-ok .result) (c .if1 .taken)))
 
 add-p : tie.Need-add-p Inv-loop μ-loop
@@ -113,7 +126,10 @@ loop-again : tie.Need-loop-again Inv-loop μ-loop
 loop-again c =
     let s = c .before .before .before .before .before .before .before .before .before .before .before .before .before .before .before .before .before .before .before .before .args in
     let loop = c .before .before .before .before .before .loop in
-    let h : c .before .answer-ok .result ≡ weighedAt (s .inverses .now) (s .weights .now) (s .weighed .now) (s .scales .now) (s .rows .now) (loop .p) = sides (s .m) (s .inverses .now) (s .weights .now) (s .weighed .now) (s .scales .now) (s .rows .now) _ _ (loop .p) (c .before .before .before .before .before .before .before .before .before .before .before .before .before .before .dot .result .0) (c .before .answer-ok .result) (omega arith) (c .before .before .before .before .before .before .before .before .before .before .before .before .before .before .before .before .before .before .before .before .pre .1) (loop .inv .3) (loop .inv .4) (loop .inv .5) (c .before .answer-ok .ensures) in (
+    let h : c .before .answer-ok .result ≡ weighedAt (s .inverses .now) (s .weights .now) (s .weighed .now) (s .scales .now) (s .rows .now) (loop .p) = sides (s .m) (s .inverses .now) (s .weights .now) (s .weighed .now)
+    (s .scales .now) (s .rows .now) _ _ (loop .p) (c .before .before .before .before .before .before .before .before .before .before .before .before .before .before .dot .result .0) (c .before .answer-ok .result) (omega arith)
+    (c .before .before .before .before .before .before .before .before .before .before .before .before .before .before .before .before .before .before .before .before .pre .1) (loop .inv .3) (loop .inv .4) (loop .inv .5)
+    (c .before .answer-ok .ensures) in (
       omega arith,
       loop .inv .1,
       loop .inv .2,

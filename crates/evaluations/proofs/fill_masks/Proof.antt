@@ -3,7 +3,7 @@ use mathlib.Core.Path.{sym}
 use mathlib.Core.List.{List}
 use Prim.Native.Nat.{ℕ}
 use lib.ListN.{length, take}
-use Rattle.scheme.specs.Sizes.{rows, width}
+use Rattle.scheme.specs.Sizes.{rows}
 use Rattle.commitment.specs.Shape.{sizesIn}
 use Rattle.evaluations.proofs.Columns.{leaves-most, front-count, masks-asked, extrapolation-asked, mask-columns, kept-columns}
 use borrow.Author.Needs.{needs}
@@ -29,7 +29,9 @@ cast-eta c = search needs
 cast-t13 : tie.Need-cast-t13
 cast-t13 c =
     let a = c .before .before .before .before .before .before .before .before .before .before .args in
-    let h = leaves-most (sizesIn (a .s)) (c .before .before .before .before .before .before .before .before .before .before .pre .0) (c .before .before .before .before .leaf-count .result) (c .before .before .before .row-width .result) (c .before .before .record-values .result) (c .before .before .before .before .leaf-count .ensures) (c .before .before .before .row-width .ensures) (c .before .before .record-values .ensures) in
+    let h = leaves-most (sizesIn (a .s)) (c .before .before .before .before .before .before .before .before .before .before .pre .0) (c .before .before .before .before .leaf-count .result)
+    (c .before .before .before .row-width .result) (c .before .before .record-values .result) (c .before .before .before .before .leaf-count .ensures) (c .before .before .before .row-width .ensures)
+    (c .before .before .record-values .ensures) in
     search needs
 
 slice-relend-prefix-gather-masks : tie.Need-slice-relend-prefix-gather-masks
@@ -38,18 +40,32 @@ slice-relend-prefix-gather-masks c = search needs
 slice-aggregate-gather-masks : tie.Need-slice-aggregate-gather-masks
 slice-aggregate-gather-masks c =
     let a = c .before .before .before .before .before .before .before .before .before .before .before .args in
-    sym (front-count (sizesIn (a .s)) (c .before .before .before .before .before .before .before .before .before .before .before .pre .0) (c .before .before .before .before .before .leaf-count .result) (c .before .before .before .before .row-width .result) (c .before .before .before .record-values .result) (c .before .before .before .before .before .leaf-count .ensures) (c .before .before .before .before .row-width .ensures) (c .before .before .before .record-values .ensures) (a .weights .now) (c .before .before .before .before .before .before .before .before .before .before .before .pre .2))
+    sym (front-count (sizesIn (a .s)) (c .before .before .before .before .before .before .before .before .before .before .before .pre .0) (c .before .before .before .before .before .leaf-count .result)
+    (c .before .before .before .before .row-width .result) (c .before .before .before .record-values .result) (c .before .before .before .before .before .leaf-count .ensures)
+    (c .before .before .before .before .row-width .ensures) (c .before .before .before .record-values .ensures) (a .weights .now) (c .before .before .before .before .before .before .before .before .before .before .before .pre .2))
 
 gather-masks-requires : tie.Need-gather-masks-requires
 gather-masks-requires c κs =
     let a = c .before .before .before .before .before .before .before .before .before .before .before .before .args in let pre = c .before .before .before .before .before .before .before .before .before .before .before .before .pre in
-    let count = front-count (sizesIn (a .s)) (pre .0) (c .before .before .before .before .before .before .leaf-count .result) (c .before .before .before .before .before .row-width .result) (c .before .before .before .before .record-values .result) (c .before .before .before .before .before .before .leaf-count .ensures) (c .before .before .before .before .before .row-width .ensures) (c .before .before .before .before .record-values .ensures) (a .weights .now) (pre .2) in
-    masks-asked (sizesIn (a .s)) (pre .0) (c .before .before .before .before .before .before .leaf-count .result) (c .before .before .before .before .before .row-width .result) (c .before .before .before .before .record-values .result) (c .before .before .before .before .before .before .leaf-count .ensures) (c .before .before .before .before .before .row-width .ensures) (c .before .before .before .before .record-values .ensures) (length (take (c .before .before .before .before .before .row-width .result) (a .weights .now))) (a .masks .now) (a .values .now) count (pre .1) (pre .3 .points)
+    let count = front-count (sizesIn (a .s)) (pre .0) (c .before .before .before .before .before .before .leaf-count .result) (c .before .before .before .before .before .row-width .result)
+    (c .before .before .before .before .record-values .result) (c .before .before .before .before .before .before .leaf-count .ensures) (c .before .before .before .before .before .row-width .ensures)
+    (c .before .before .before .before .record-values .ensures) (a .weights .now) (pre .2) in
+    masks-asked (sizesIn (a .s)) (pre .0) (c .before .before .before .before .before .before .leaf-count .result) (c .before .before .before .before .before .row-width .result)
+    (c .before .before .before .before .record-values .result) (c .before .before .before .before .before .before .leaf-count .ensures) (c .before .before .before .before .before .row-width .ensures)
+    (c .before .before .before .before .record-values .ensures) (length (take (c .before .before .before .before .before .row-width .result) (a .weights .now))) (a .masks .now) (a .values .now) count (pre .1) (pre .3 .points)
 
 extrapolate-requires : tie.Need-extrapolate-requires
 extrapolate-requires c κs =
-    let a = c .before .before .before .before .before .before .before .before .before .before .before .before .before .before .before .before .before .before .before .before .args in let pre = c .before .before .before .before .before .before .before .before .before .before .before .before .before .before .before .before .before .before .before .before .pre in
-    extrapolation-asked (sizesIn (a .s)) (pre .0) (c .before .before .before .before .before .before .before .before .before .before .before .before .before .before .leaf-count .result) (c .before .before .before .before .before .before .before .before .before .before .before .before .before .row-width .result) (c .before .before .before .before .before .before .before .before .before .before .before .before .record-values .result) (c .before .before .before .before .before .before .before .before .before .before .before .before .before .before .leaf-count .ensures) (c .before .before .before .before .before .before .before .before .before .before .before .before .before .row-width .ensures) (c .before .before .before .before .before .before .before .before .before .before .before .before .record-values .ensures) (rows (sizesIn (a .s))) (a .s .eta) (c .before .before .before .before .before .before .before .gather-masks .last .1 .1 .1 .1 .0) (a .lines .now) (a .table .now) (pre .0 .η-high) (omega arith) (omega (arith, pre .3 .points, c .before .before .before .before .before .before .before .gather-masks .kept .1 .1 .1 .1 .0)) (pre .3 .orders) (pre .3 .small) (pre .4)
+    let a = c .before .before .before .before .before .before .before .before .before .before .before .before .before .before .before .before .before .before .before .before .args in let pre =
+    c .before .before .before .before .before .before .before .before .before .before .before .before .before .before .before .before .before .before .before .before .pre in
+    extrapolation-asked (sizesIn (a .s)) (pre .0) (c .before .before .before .before .before .before .before .before .before .before .before .before .before .before .leaf-count .result)
+    (c .before .before .before .before .before .before .before .before .before .before .before .before .before .row-width .result)
+    (c .before .before .before .before .before .before .before .before .before .before .before .before .record-values .result)
+    (c .before .before .before .before .before .before .before .before .before .before .before .before .before .before .leaf-count .ensures)
+    (c .before .before .before .before .before .before .before .before .before .before .before .before .before .row-width .ensures)
+    (c .before .before .before .before .before .before .before .before .before .before .before .before .record-values .ensures) (rows (sizesIn (a .s))) (a .s .eta)
+    (c .before .before .before .before .before .before .before .gather-masks .last .1 .1 .1 .1 .0) (a .lines .now) (a .table .now) (pre .0 .η-high) (omega arith)
+    (omega (arith, pre .3 .points, c .before .before .before .before .before .before .before .gather-masks .kept .1 .1 .1 .1 .0)) (pre .3 .orders) (pre .3 .small) (pre .4)
 
 same-length : tie.Need-same-length
 same-length c = search needs
@@ -65,11 +81,32 @@ same-length-4 c = search needs
 
 returns : tie.Need-returns
 returns c =
-    let a = c .before .before .before .before .before .before .before .before .before .before .before .before .before .before .before .before .before .before .before .before .before .before .before .before .before .before .before .args in let pre = c .before .before .before .before .before .before .before .before .before .before .before .before .before .before .before .before .before .before .before .before .before .before .before .before .before .before .before .pre in
-    let count = front-count (sizesIn (a .s)) (pre .0) (c .before .before .before .before .before .before .before .before .before .before .before .before .before .before .before .before .before .before .before .before .before .leaf-count .result) (c .before .before .before .before .before .before .before .before .before .before .before .before .before .before .before .before .before .before .before .before .row-width .result) (c .before .before .before .before .before .before .before .before .before .before .before .before .before .before .before .before .before .before .before .record-values .result) (c .before .before .before .before .before .before .before .before .before .before .before .before .before .before .before .before .before .before .before .before .before .leaf-count .ensures) (c .before .before .before .before .before .before .before .before .before .before .before .before .before .before .before .before .before .before .before .before .row-width .ensures) (c .before .before .before .before .before .before .before .before .before .before .before .before .before .before .before .before .before .before .before .record-values .ensures) (a .weights .now) (pre .2) in
+    let a = c .before .before .before .before .before .before .before .before .before .before .before .before .before .before .before .before .before .before .before .before .before .before .before .before .before .before .before .args
+    in let pre = c .before .before .before .before .before .before .before .before .before .before .before .before .before .before .before .before .before .before .before .before .before .before .before .before .before .before .before .pre
+    in
+    let count = front-count (sizesIn (a .s)) (pre .0) (c .before .before .before .before .before .before .before .before .before .before .before .before .before .before .before .before .before .before .before .before .before .leaf-count .result)
+    (c .before .before .before .before .before .before .before .before .before .before .before .before .before .before .before .before .before .before .before .before .row-width .result)
+    (c .before .before .before .before .before .before .before .before .before .before .before .before .before .before .before .before .before .before .before .record-values .result)
+    (c .before .before .before .before .before .before .before .before .before .before .before .before .before .before .before .before .before .before .before .before .before .leaf-count .ensures)
+    (c .before .before .before .before .before .before .before .before .before .before .before .before .before .before .before .before .before .before .before .before .row-width .ensures)
+    (c .before .before .before .before .before .before .before .before .before .before .before .before .before .before .before .before .before .before .before .record-values .ensures) (a .weights .now) (pre .2) in
     let t : List ℕ = c .before .before .before .before .before .before .extrapolate .last .1 .1 .1 .1 .1 .1 .1 .0 in (
-      kept-columns (sizesIn (a .s)) (pre .0) (c .before .before .before .before .before .before .before .before .before .before .before .before .before .before .before .before .before .before .before .before .before .leaf-count .result) (c .before .before .before .before .before .before .before .before .before .before .before .before .before .before .before .before .before .before .before .before .row-width .result) (c .before .before .before .before .before .before .before .before .before .before .before .before .before .before .before .before .before .before .before .record-values .result) (c .before .before .before .before .before .before .before .before .before .before .before .before .before .before .before .before .before .before .before .before .before .leaf-count .ensures) (c .before .before .before .before .before .before .before .before .before .before .before .before .before .before .before .before .before .before .before .before .row-width .ensures) (c .before .before .before .before .before .before .before .before .before .before .before .before .before .before .before .before .before .before .before .record-values .ensures) (a .table .now) t (c .before .before .before .before .before .before .extrapolate .ensures .1),
-      mask-columns (sizesIn (a .s)) (pre .0) (c .before .before .before .before .before .before .before .before .before .before .before .before .before .before .before .before .before .before .before .before .before .leaf-count .result) (c .before .before .before .before .before .before .before .before .before .before .before .before .before .before .before .before .before .before .before .before .row-width .result) (c .before .before .before .before .before .before .before .before .before .before .before .before .before .before .before .before .before .before .before .record-values .result) (c .before .before .before .before .before .before .before .before .before .before .before .before .before .before .before .before .before .before .before .before .before .leaf-count .ensures) (c .before .before .before .before .before .before .before .before .before .before .before .before .before .before .before .before .before .before .before .before .row-width .ensures) (c .before .before .before .before .before .before .before .before .before .before .before .before .before .before .before .before .before .before .before .record-values .ensures) (length (take (c .before .before .before .before .before .before .before .before .before .before .before .before .before .before .before .before .before .before .before .before .row-width .result) (a .weights .now))) (a .masks .now) (c .before .before .before .before .before .before .before .before .before .before .before .before .before .before .gather-masks .last .1 .1 .1 .1 .0) t count (pre .1) (c .before .before .before .before .before .before .before .before .before .before .before .before .before .before .gather-masks .ensures) (c .before .before .before .before .before .before .extrapolate .ensures .2),
+      kept-columns (sizesIn (a .s)) (pre .0) (c .before .before .before .before .before .before .before .before .before .before .before .before .before .before .before .before .before .before .before .before .before .leaf-count .result)
+          (c .before .before .before .before .before .before .before .before .before .before .before .before .before .before .before .before .before .before .before .before .row-width .result)
+          (c .before .before .before .before .before .before .before .before .before .before .before .before .before .before .before .before .before .before .before .record-values .result)
+          (c .before .before .before .before .before .before .before .before .before .before .before .before .before .before .before .before .before .before .before .before .before .leaf-count .ensures)
+          (c .before .before .before .before .before .before .before .before .before .before .before .before .before .before .before .before .before .before .before .before .row-width .ensures)
+          (c .before .before .before .before .before .before .before .before .before .before .before .before .before .before .before .before .before .before .before .record-values .ensures) (a .table .now) t
+          (c .before .before .before .before .before .before .extrapolate .ensures .1),
+      mask-columns (sizesIn (a .s)) (pre .0) (c .before .before .before .before .before .before .before .before .before .before .before .before .before .before .before .before .before .before .before .before .before .leaf-count .result)
+          (c .before .before .before .before .before .before .before .before .before .before .before .before .before .before .before .before .before .before .before .before .row-width .result)
+          (c .before .before .before .before .before .before .before .before .before .before .before .before .before .before .before .before .before .before .before .record-values .result)
+          (c .before .before .before .before .before .before .before .before .before .before .before .before .before .before .before .before .before .before .before .before .before .leaf-count .ensures)
+          (c .before .before .before .before .before .before .before .before .before .before .before .before .before .before .before .before .before .before .before .before .row-width .ensures)
+          (c .before .before .before .before .before .before .before .before .before .before .before .before .before .before .before .before .before .before .before .record-values .ensures)
+          (length (take (c .before .before .before .before .before .before .before .before .before .before .before .before .before .before .before .before .before .before .before .before .row-width .result) (a .weights .now)))
+          (a .masks .now) (c .before .before .before .before .before .before .before .before .before .before .before .before .before .before .gather-masks .last .1 .1 .1 .1 .0) t count (pre .1)
+          (c .before .before .before .before .before .before .before .before .before .before .before .before .before .before .gather-masks .ensures) (c .before .before .before .before .before .before .extrapolate .ensures .2),
     )
 
 pub fill-masks-spec : {M : Type 1} → statement M

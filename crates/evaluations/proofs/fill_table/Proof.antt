@@ -3,7 +3,6 @@ use mathlib.Core.Path.{_≡_}
 use Prim.Native.Nat.{_≤_}
 use lib.ListN.{length}
 use Rattle.scheme.specs.Sizes.{width}
-use Rattle.scheme.proofs.Accepted.{sizes-in-order}
 use Rattle.commitment.specs.Shape.{sizesIn}
 use borrow.Author.Needs.{needs}
 use native.Mathlib.Omega.{arith}
@@ -37,8 +36,12 @@ fill-columns-requires c κs =
     let w : width (sizesIn (a .s)) ≤ 40 = omega (arith, c .before .before .before .before .before .before .before .before .row-width .ensures, c .before .before .before .before .before .before .before .if1 .taken) in
     let l : length (c .before .before .before .before .before .before .blank-few-weights .result) ≡ 40 = search needs in
     let m : length (c .before .before .before .before .before .blank-few-values .result) ≡ 160 = search needs in
-    let n : length (c .before .before .before .before .blank-few-lines .result) ≡ 160 = search needs in
-    (c .before .before .before .before .before .before .before .before .before .before .before .before .before .pre, omega (arith, w, l), record { points = omega (arith, w, m); orders = omega (arith, w, n); small = c .before .before .before .before .blank-few-lines .ensures })
+    let n : length (c .before .before .before .before .blank-few-lines .result) ≡ 160 = search needs in (
+      c .before .before .before .before .before .before .before .before .before .before .before .before .before .pre,
+      omega (arith, w, l),
+      record
+          { points = omega (arith, w, m); orders = omega (arith, w, n); small = c .before .before .before .before .blank-few-lines .ensures },
+    )
 
 blank-weights-requires : tie.Need-blank-weights-requires
 blank-weights-requires c κs = search needs
@@ -65,8 +68,12 @@ fill-columns-requires-2 c κs =
     let w : width (sizesIn (a .s)) ≤ 320 = omega (arith, g .columns-high, g .ℓ-high) in
     let l : length (c .before .before .before .before .before .before .blank-weights .result) ≡ 320 = search needs in
     let m : length (c .before .before .before .before .before .blank-values .result) ≡ 1280 = search needs in
-    let n : length (c .before .before .before .before .blank-lines .result) ≡ 1280 = search needs in
-    (c .before .before .before .before .before .before .before .before .before .before .before .before .before .pre, omega (arith, w, l), record { points = omega (arith, w, m); orders = omega (arith, w, n); small = c .before .before .before .before .blank-lines .ensures })
+    let n : length (c .before .before .before .before .blank-lines .result) ≡ 1280 = search needs in (
+      c .before .before .before .before .before .before .before .before .before .before .before .before .before .pre,
+      omega (arith, w, l),
+      record
+          { points = omega (arith, w, m); orders = omega (arith, w, n); small = c .before .before .before .before .blank-lines .ensures },
+    )
 
 same-length : tie.Need-same-length
 same-length c = search needs

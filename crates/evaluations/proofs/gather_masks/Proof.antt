@@ -13,7 +13,8 @@ use Rattle.evaluations.proofs.gather_masks.Tie as tie
 
 abbrev Inv-loop : tie.InvT-loop
 Inv-loop first masks eta weights₀ values₀ width t₀ weights values t =
-    (t ≤ width) × (width ≡ length weights) × (length weights ≡ length weights₀) × (first .0 + width ≤ q) × (width ≤ 320) × (width * eta ≤ length masks) × (eta ≤ 4) × (4 * width ≤ length values) × (length values ≡ length values₀) × MaskLanes (first .0) masks width eta t values
+    (t ≤ width) × (width ≡ length weights) × (length weights ≡ length weights₀) × (first .0 + width ≤ q) × (width ≤ 320) × (width * eta ≤ length masks) × (eta ≤ 4) × (4 * width ≤ length values) × (length values ≡ length values₀)
+    × MaskLanes (first .0) masks width eta t values
 
 abbrev μ-loop : tie.MeasureT-loop
 μ-loop first masks eta weights₀ values₀ width t₀ weights values t = width - t
@@ -64,7 +65,8 @@ loop-again c =
     let ys : List ℕ = c .before .before .before .before .mask-values .last .1 .1 .1 .0 in
     let e = part-count (s .eta) (loop .t) (loop .values) room (loop .inv .6) in
     let kept = c .before .before .before .before .mask-values .kept .1 .1 .0 in
-    let is = part-values (length (loop .weights)) w (length (take (4 * loop .t + s .eta - 4 * loop .t) (drop (4 * loop .t) (loop .values)))) (s .eta) (c .before .before .before .before .before .before .before .point .result .0) (s .masks .now) ys (sym (loop .inv .1)) e (c .before .before .before .before .mask-values .ensures) in
+    let is = part-values (length (loop .weights)) w (length (take (4 * loop .t + s .eta - 4 * loop .t) (drop (4 * loop .t) (loop .values)))) (s .eta) (c .before .before .before .before .before .before .before .point .result .0)
+    (s .masks .now) ys (sym (loop .inv .1)) e (c .before .before .before .before .mask-values .ensures) in
     let long = masks-length (s .masks .now) w (s .eta) (loop .t) (c .before .before .before .before .before .before .before .point .result .0) (loop .values) ys room (loop .inv .6) is in (
       omega (arith, c .before .before .before .before .before .before .before .before .loop-test .taken),
       loop .inv .1 ∙ sym kept,
@@ -75,7 +77,8 @@ loop-again c =
       loop .inv .6,
       omega (arith, loop .inv .7, long),
       long ∙ loop .inv .8,
-      masks-turn (s .first .0) (s .masks .now) w (s .eta) (loop .t) (c .before .before .before .before .before .before .before .point .result .0) (loop .values) ys room (loop .inv .6) (c .before .before .before .before .before .before .before .point .ensures) is (loop .inv .9),
+      masks-turn (s .first .0) (s .masks .now) w (s .eta) (loop .t) (c .before .before .before .before .before .before .before .point .result .0) (loop .values) ys room (loop .inv .6)
+          (c .before .before .before .before .before .before .before .point .ensures) is (loop .inv .9),
     )
 
 same-length : tie.Need-same-length Inv-loop μ-loop

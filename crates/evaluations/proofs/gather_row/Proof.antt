@@ -1,9 +1,7 @@
 -- `evaluations::gather_row` meets its contract: the entries, and then the tails.
 use mathlib.Core.List.{List, []}
 use Prim.Native.Nat.{ℕ}
-use lib.ListN.{length}
 use Rattle.scheme.specs.Layers.{Lent, lentOf}
-use Rattle.scheme.proofs.Accepted.{sizes-in-order}
 use Rattle.commitment.specs.Shape.{sizesIn}
 use Rattle.lent.proofs.Rows.{entries-there, tails-there}
 use Rattle.evaluations.proofs.Gathering.{row-lane, both-kept}
@@ -24,8 +22,12 @@ cast-gather-lane c = search needs
 gather-lane-requires : tie.Need-gather-lane-requires
 gather-lane-requires c κs =
     let a = c .before .before .before .before .before .before .before .args in let pre = c .before .before .before .before .before .before .before .pre in
-    let l : Lent = lentOf (a .coefficients .now) (a .tails .now) [] [] in
-    (pre .2, entries-there (sizesIn (a .s)) l (pre .0) (a .row) (c .before .before .before .column-count .result) (pre .1) (c .before .before .before .column-count .ensures), omega (arith, pre .3, c .before .before .before .column-count .ensures))
+    let l : Lent = lentOf (a .coefficients .now) (a .tails .now) [] [] in (
+      pre .2,
+      entries-there (sizesIn (a .s)) l (pre .0) (a .row) (c .before .before .before .column-count .result) (pre .1) (c .before .before .before .column-count .ensures),
+      omega
+          (arith, pre .3, c .before .before .before .column-count .ensures),
+    )
 
 mul-gather-lane : tie.Need-mul-gather-lane
 mul-gather-lane c =
@@ -44,10 +46,15 @@ same-length c = search needs
 
 returns : tie.Need-returns
 returns c =
-    let a = c .before .before .before .before .before .before .before .before .before .before .before .before .before .before .args in let pre = c .before .before .before .before .before .before .before .before .before .before .before .before .before .before .pre in
+    let a = c .before .before .before .before .before .before .before .before .before .before .before .before .before .before .args in let pre =
+    c .before .before .before .before .before .before .before .before .before .before .before .before .before .before .pre in
     let v₁ : List ℕ = c .before .before .before .before .before .before .gather-lane .last .1 .1 .1 .1 .1 .1 .0 in
-    let v₂ : List ℕ = c .before .before .gather-lane2 .last .1 .1 .1 .1 .1 .1 .0 in
-    (both-kept (a .j) (a .values .now) v₁ v₂ (c .before .before .before .before .before .before .gather-lane .ensures .0) (c .before .before .gather-lane2 .ensures .0), row-lane (sizesIn (a .s)) (lentOf (a .coefficients .now) (a .tails .now) [] []) (pre .0) (a .row) (c .before .before .before .before .before .before .before .before .before .before .column-count .result) (a .j) (a .values .now) v₁ v₂ (pre .1) (c .before .before .before .before .before .before .before .before .before .before .column-count .ensures) (c .before .before .before .before .before .before .gather-lane .ensures .1) (c .before .before .gather-lane2 .ensures .1))
+    let v₂ : List ℕ = c .before .before .gather-lane2 .last .1 .1 .1 .1 .1 .1 .0 in (
+      both-kept (a .j) (a .values .now) v₁ v₂ (c .before .before .before .before .before .before .gather-lane .ensures .0) (c .before .before .gather-lane2 .ensures .0),
+      row-lane (sizesIn (a .s))
+          (lentOf (a .coefficients .now) (a .tails .now) [] []) (pre .0) (a .row) (c .before .before .before .before .before .before .before .before .before .before .column-count .result) (a .j) (a .values .now) v₁ v₂ (pre .1)
+          (c .before .before .before .before .before .before .before .before .before .before .column-count .ensures) (c .before .before .before .before .before .before .gather-lane .ensures .1) (c .before .before .gather-lane2 .ensures .1),
+    )
 
 pub gather-row-spec : {M : Type 1} → statement M
 gather-row-spec =

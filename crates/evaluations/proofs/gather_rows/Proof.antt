@@ -16,7 +16,8 @@ use Rattle.evaluations.proofs.gather_rows.Tie as tie
 
 abbrev Inv-loop : tie.InvT-loop
 Inv-loop s coefficients tails lo lanes values₀ j₀ values j =
-    (j ≤ lanes) × CanExtend (sizesIn s) coefficients tails × (lo + lanes ≤ rows (sizesIn s)) × (lanes ≤ 4) × (4 * width (sizesIn s) ≤ length values) × (length values ≡ length values₀) × RowLanes (sizesIn s) (lentOf coefficients tails [] []) lo j values
+    (j ≤ lanes) × CanExtend (sizesIn s) coefficients tails × (lo + lanes ≤ rows (sizesIn s)) × (lanes ≤ 4) × (4 * width (sizesIn s) ≤ length values) × (length values ≡ length values₀) × RowLanes (sizesIn s)
+    (lentOf coefficients tails [] []) lo j values
 
 abbrev μ-loop : tie.MeasureT-loop
 μ-loop s coefficients tails lo lanes values₀ j₀ values j = lanes - j
@@ -50,7 +51,8 @@ loop-again c =
       loop .inv .3,
       omega (arith, loop .inv .4, kept),
       kept ∙ loop .inv .5,
-      rows-turn (sizesIn (a .s)) (lentOf (a .coefficients .now) (a .tails .now) [] []) (a .lo) (loop .j) (loop .values) (c .before .before .gather-row .last .1 .1 .1 .1 .1 .0) (omega (arith, loop .inv .3, c .before .before .before .before .loop-test .taken)) (loop .inv .6) (c .before .before .gather-row .ensures .0) (c .before .before .gather-row .ensures .1),
+      rows-turn (sizesIn (a .s)) (lentOf (a .coefficients .now) (a .tails .now) [] []) (a .lo) (loop .j) (loop .values) (c .before .before .gather-row .last .1 .1 .1 .1 .1 .0)
+          (omega (arith, loop .inv .3, c .before .before .before .before .loop-test .taken)) (loop .inv .6) (c .before .before .gather-row .ensures .0) (c .before .before .gather-row .ensures .1),
     )
 
 same-length : tie.Need-same-length Inv-loop μ-loop

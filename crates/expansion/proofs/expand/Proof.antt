@@ -55,8 +55,13 @@ loop-again c =
     let points : List ℕ = c .before .before .before .before .before .before .before .before .before .args .points .now in
     let s₀ : List ℕ = c .before .before .before .before .before .before .before .before .before .args .s .now in
     let r : putMid (loop .k - 1) (length (loop .s) - (loop .k - 1)) (loop .s) (c .before .before .sweep .last .0) ≡ expanded points s₀ (loop .k - 1) =
-    expand-loop points s₀ (loop .s) (c .before .before .sweep .last .0) (loop .k) (omega arith) (omega arith) (c .before .before .before .before .before .before .before .before .before .pre .1) (loop .inv .1) (c .before .before .sweep .ensures) in
-    (omega arith, r, ap length r ∙ length-expanded points s₀ (loop .k - 1) (c .before .before .before .before .before .before .before .before .before .pre .1) (omega arith) ∙ c .before .before .before .before .before .before .before .before .before .pre .1)
+    expand-loop points s₀ (loop .s) (c .before .before .sweep .last .0) (loop .k) (omega arith) (omega arith) (c .before .before .before .before .before .before .before .before .before .pre .1) (loop .inv .1)
+    (c .before .before .sweep .ensures) in (
+      omega arith,
+      r,
+      ap length r ∙ length-expanded points s₀ (loop .k - 1) (c .before .before .before .before .before .before .before .before .before .pre .1) (omega arith) ∙
+          c .before .before .before .before .before .before .before .before .before .pre .1,
+    )
 
 same-length : tie.Need-same-length Inv-loop μ-loop
 same-length c = search needs

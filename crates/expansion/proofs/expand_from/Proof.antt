@@ -72,11 +72,13 @@ slice-read-three-terms-3 c = search needs
 
 mul-three-terms-4 : tie.Need-mul-three-terms-4 Inv-loop μ-loop Inv-loop2 μ-loop2
 mul-three-terms-4 c =
-    let h : c .before .before .before .before .before .before .point .result .0 * c .before .before .before .before .before .point2 .result .0 ≤ 268435456 = mul-le-mul {n₂ = pointsEnd} {m₂ = pointsEnd} (omega arith) (omega arith) in search needs
+    let h : c .before .before .before .before .before .before .point .result .0 * c .before .before .before .before .before .point2 .result .0 ≤ 268435456 = mul-le-mul {n₂ = pointsEnd} {m₂ = pointsEnd} (omega arith) (omega arith)
+    in search needs
 
 three-terms-requires : tie.Need-three-terms-requires Inv-loop μ-loop Inv-loop2 μ-loop2
 three-terms-requires c κs =
-    let h : c .before .before .before .before .before .before .point .result .0 * c .before .before .before .before .before .point2 .result .0 ≤ 268435456 = mul-le-mul {n₂ = pointsEnd} {m₂ = pointsEnd} (omega arith) (omega arith) in (omega arith, h)
+    let h : c .before .before .before .before .before .before .point .result .0 * c .before .before .before .before .before .point2 .result .0 ≤ 268435456 = mul-le-mul {n₂ = pointsEnd} {m₂ = pointsEnd} (omega arith) (omega arith)
+    in (omega arith, h)
 
 mul-s : tie.Need-mul-s Inv-loop μ-loop Inv-loop2 μ-loop2
 mul-s c = search needs
@@ -92,20 +94,34 @@ mul-sweep-twice c = search needs
 
 sub-sweep-twice : tie.Need-sub-sweep-twice Inv-loop μ-loop Inv-loop2 μ-loop2
 sub-sweep-twice c =
-    let h : length (set (c .before .before .before .before .before .before .before .before .before .loop .s) (c .before .before .before .before .before .before .before .before .before .loop .k - 2) (c .three-terms .result)) ≡ length (c .before .before .before .before .before .before .before .before .before .loop .s) = length-set (c .before .before .before .before .before .before .before .before .before .loop .s) (c .before .before .before .before .before .before .before .before .before .loop .k - 2) (c .three-terms .result) in search needs
+    let h : length (set (c .before .before .before .before .before .before .before .before .before .loop .s) (c .before .before .before .before .before .before .before .before .before .loop .k - 2) (c .three-terms .result)) ≡
+    length (c .before .before .before .before .before .before .before .before .before .loop .s) = length-set (c .before .before .before .before .before .before .before .before .before .loop .s)
+    (c .before .before .before .before .before .before .before .before .before .loop .k - 2) (c .three-terms .result) in search needs
 
 part-sweep-twice-start : tie.Need-part-sweep-twice-start Inv-loop μ-loop Inv-loop2 μ-loop2
 part-sweep-twice-start c =
-    let h : length (set (c .before .before .before .before .before .before .before .before .before .loop .s) (c .before .before .before .before .before .before .before .before .before .loop .k - 2) (c .three-terms .result)) ≡ length (c .before .before .before .before .before .before .before .before .before .loop .s) = length-set (c .before .before .before .before .before .before .before .before .before .loop .s) (c .before .before .before .before .before .before .before .before .before .loop .k - 2) (c .three-terms .result) in search needs
+    let h : length (set (c .before .before .before .before .before .before .before .before .before .loop .s) (c .before .before .before .before .before .before .before .before .before .loop .k - 2) (c .three-terms .result)) ≡
+    length (c .before .before .before .before .before .before .before .before .before .loop .s) = length-set (c .before .before .before .before .before .before .before .before .before .loop .s)
+    (c .before .before .before .before .before .before .before .before .before .loop .k - 2) (c .three-terms .result) in search needs
 
 part-sweep-twice-end : tie.Need-part-sweep-twice-end Inv-loop μ-loop Inv-loop2 μ-loop2
 part-sweep-twice-end c = search needs
 
 sweep-twice-requires : tie.Need-sweep-twice-requires Inv-loop μ-loop Inv-loop2 μ-loop2
 sweep-twice-requires c κs =
-    let s : List ℕ = set (c .before .before .before .before .before .before .before .before .before .before .loop .s) (c .before .before .before .before .before .before .before .before .before .before .loop .k - 2) (c .before .three-terms .result) in
-    let h : length s ≡ length (c .before .before .before .before .before .before .before .before .before .before .loop .s) = length-set (c .before .before .before .before .before .before .before .before .before .before .loop .s) (c .before .before .before .before .before .before .before .before .before .before .loop .k - 2) (c .before .three-terms .result) in
-    (omega (arith, ap length (mid-tail (c .before .before .before .before .before .before .before .before .before .before .loop .k - 2 + 1) s), length-drop (c .before .before .before .before .before .before .before .before .before .before .loop .k - 2 + 1) s), omega arith, omega arith)
+    let s : List ℕ = set (c .before .before .before .before .before .before .before .before .before .before .loop .s) (c .before .before .before .before .before .before .before .before .before .before .loop .k - 2)
+    (c .before .three-terms .result) in
+    let h : length s ≡ length (c .before .before .before .before .before .before .before .before .before .before .loop .s) = length-set (c .before .before .before .before .before .before .before .before .before .before .loop .s)
+    (c .before .before .before .before .before .before .before .before .before .before .loop .k - 2) (c .before .three-terms .result) in (
+      omega (
+        arith,
+        ap length (mid-tail (c .before .before .before .before .before .before .before .before .before .before .loop .k - 2 + 1) s),
+        length-drop
+            (c .before .before .before .before .before .before .before .before .before .before .loop .k - 2 + 1) s,
+      ),
+      omega arith,
+      omega arith,
+    )
 
 loop-less : tie.Need-loop-less Inv-loop μ-loop Inv-loop2 μ-loop2
 loop-less c = search needs
@@ -118,8 +134,11 @@ loop-again c =
     let v : ℕ = c .before .before .before .before .three-terms .result in
     let s : List ℕ = set (loop .s) (loop .k - 2) v in
     let r : putMid (loop .k - 2 + 1) (length s - (loop .k - 2 + 1)) s (c .before .before .sweep-twice .last .0) ≡ expanded (upFrom a (length s₀)) s₀ (loop .k - 2) =
-    pair-loop (upFrom a (length s₀)) s₀ (loop .s) (c .before .before .sweep-twice .last .0) (loop .k) (c .before .before .before .before .before .before .before .before .before .before .before .point .result .0) (c .before .before .before .before .before .before .before .before .before .before .point2 .result .0) v (omega arith) (omega (arith, length-upFrom a (length s₀))) (sym (length-upFrom a (length s₀))) (loop .inv .1)
-    (c .before .before .before .before .before .before .before .before .before .before .before .point .ensures ∙ sym (upFrom-at a (length s₀) (loop .k - 2) (omega arith))) (c .before .before .before .before .before .before .before .before .before .before .point2 .ensures ∙ sym (upFrom-at a (length s₀) (loop .k - 2 + 1) (omega arith))) (c .before .before .before .before .three-terms .ensures .1) (c .before .before .before .before .three-terms .ensures .0) (c .before .before .sweep-twice .ensures) in
+    pair-loop (upFrom a (length s₀)) s₀ (loop .s) (c .before .before .sweep-twice .last .0) (loop .k) (c .before .before .before .before .before .before .before .before .before .before .before .point .result .0)
+    (c .before .before .before .before .before .before .before .before .before .before .point2 .result .0) v (omega arith) (omega (arith, length-upFrom a (length s₀))) (sym (length-upFrom a (length s₀))) (loop .inv .1)
+    (c .before .before .before .before .before .before .before .before .before .before .before .point .ensures ∙ sym (upFrom-at a (length s₀) (loop .k - 2) (omega arith)))
+    (c .before .before .before .before .before .before .before .before .before .before .point2 .ensures ∙ sym (upFrom-at a (length s₀) (loop .k - 2 + 1) (omega arith))) (c .before .before .before .before .three-terms .ensures .1)
+    (c .before .before .before .before .three-terms .ensures .0) (c .before .before .sweep-twice .ensures) in
     (omega arith, r, ap length r ∙ length-expanded (upFrom a (length s₀)) s₀ (loop .k - 2) (sym (length-upFrom a (length s₀))) (omega (arith, length-upFrom a (length s₀))))
 
 loop2-holds : tie.Need-loop2-holds Inv-loop μ-loop Inv-loop2 μ-loop2
@@ -156,10 +175,17 @@ loop2-again c =
     let a : ℕ = c .before .before .before .before .before .before .before .before .before .before .args .first .0 in
     let xs : List ℕ = upFrom a (length s₀) in
     let n : length xs ≡ length s₀ = length-upFrom a (length s₀) in
-    let turn : (t : List ℕ) → length t ≡ length (c .before .before .before .before .before .before .before .before .loop .s) → c .before .before .before .before .before .before .before .before .loop .s ≡ expanded (upFrom a (length t)) t (c .before .before .before .before .before .before .before .before .loop .k) → putMid (loop .k - 1) (length (loop .s) - (loop .k - 1)) (loop .s) (c .before .before .sweep .last .0) ≡ expanded (upFrom a (length t)) t (loop .k - 1) =
+    let turn : (t : List ℕ) → length t ≡ length (c .before .before .before .before .before .before .before .before .loop .s) → c .before .before .before .before .before .before .before .before .loop .s ≡ expanded
+    (upFrom a (length t)) t (c .before .before .before .before .before .before .before .before .loop .k) → putMid (loop .k - 1) (length (loop .s) - (loop .k - 1)) (loop .s) (c .before .before .sweep .last .0) ≡ expanded
+    (upFrom a (length t)) t (loop .k - 1) =
     λ t l e. expand-loop (upFrom a (length t)) t (loop .s) (c .before .before .sweep .last .0) (loop .k) (omega arith) (omega (arith, length-upFrom a (length t))) (sym (length-upFrom a (length t))) (loop .inv .2 t l e)
-    (c .before .before .sweep .ensures ∙ ap (λ (x : ℕ). sweepN x (midOf (loop .k - 1) (length (loop .s) - (loop .k - 1)) (loop .s))) (c .before .before .before .before .point3 .ensures ∙ sym (upFrom-at a (length t) (loop .k - 1) (omega arith)))) in
-    (omega arith, ap length (turn s₀ (sym (c .before .before .before .before .before .before .before .before .loop .inv .2)) (c .before .before .before .before .before .before .before .before .loop .inv .1)) ∙ length-expanded xs s₀ (loop .k - 1) (sym n) (omega arith) ∙ sym (c .before .before .before .before .before .before .before .before .loop .inv .2), turn)
+    (c .before .before .sweep .ensures ∙ ap (λ (x : ℕ). sweepN x (midOf (loop .k - 1) (length (loop .s) - (loop .k - 1)) (loop .s)))
+    (c .before .before .before .before .point3 .ensures ∙ sym (upFrom-at a (length t) (loop .k - 1) (omega arith)))) in (
+      omega arith,
+      ap length (turn s₀ (sym (c .before .before .before .before .before .before .before .before .loop .inv .2)) (c .before .before .before .before .before .before .before .before .loop .inv .1)) ∙ length-expanded xs
+          s₀ (loop .k - 1) (sym n) (omega arith) ∙ sym (c .before .before .before .before .before .before .before .before .loop .inv .2),
+      turn,
+    )
 
 same-length : tie.Need-same-length Inv-loop μ-loop Inv-loop2 μ-loop2
 same-length c = search needs

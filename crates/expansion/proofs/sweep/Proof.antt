@@ -58,7 +58,8 @@ loop-again c =
       refl,
       omega arith,
       omega arith,
-      sweep-turn (c .before .before .before .before .before .before .args .s .now) (loop .s) x (loop .i) (x * getD (loop .s) (loop .i) 0 % q) (c .subtract-product .result .0) (omega arith) (omega arith) (loop .inv .3) refl (c .subtract-product .ensures),
+      sweep-turn (c .before .before .before .before .before .before .args .s .now) (loop .s) x (loop .i) (x * getD (loop .s) (loop .i) 0 % q) (c .subtract-product .result .0) (omega arith) (omega arith) (loop .inv .3) refl
+          (c .subtract-product .ensures),
       simp length-set (loop .inv .4),
     )
 

@@ -51,11 +51,13 @@ add-three-terms-3 c = search needs
 
 mul-three-terms-4 : tie.Need-mul-three-terms-4 Inv-loop μ-loop
 mul-three-terms-4 c =
-    let h : c .before .before .before .before .before .before .before .before .before .before .args .x .0 * c .before .before .before .before .before .before .before .before .before .before .args .y .0 ≤ 268435456 = mul-le-mul {n₂ = pointsEnd} {m₂ = pointsEnd} (omega arith) (omega arith) in search needs
+    let h : c .before .before .before .before .before .before .before .before .before .before .args .x .0 * c .before .before .before .before .before .before .before .before .before .before .args .y .0 ≤ 268435456 = mul-le-mul
+    {n₂ = pointsEnd} {m₂ = pointsEnd} (omega arith) (omega arith) in search needs
 
 three-terms-requires : tie.Need-three-terms-requires Inv-loop μ-loop
 three-terms-requires c κs =
-    let h : c .before .before .before .before .before .before .before .before .before .before .args .x .0 * c .before .before .before .before .before .before .before .before .before .before .args .y .0 ≤ 268435456 = mul-le-mul {n₂ = pointsEnd} {m₂ = pointsEnd} (omega arith) (omega arith) in (omega arith, h)
+    let h : c .before .before .before .before .before .before .before .before .before .before .args .x .0 * c .before .before .before .before .before .before .before .before .before .before .args .y .0 ≤ 268435456 = mul-le-mul
+    {n₂ = pointsEnd} {m₂ = pointsEnd} (omega arith) (omega arith) in (omega arith, h)
 
 mul-s : tie.Need-mul-s Inv-loop μ-loop
 mul-s c = search needs
@@ -76,7 +78,8 @@ loop-again c =
     let y : ℕ = c .before .before .before .before .before .before .before .before .before .before .before .args .y .0 in (
       omega arith,
       omega arith,
-      twice-turn x y (c .before .before .before .before .before .before .before .before .before .before .before .args .s .now) (loop .s) (loop .i) (c .three-terms .result) (omega arith) (loop .inv .2) (c .three-terms .ensures .1) (c .three-terms .ensures .0),
+      twice-turn x y (c .before .before .before .before .before .before .before .before .before .before .before .args .s .now) (loop .s) (loop .i) (c .three-terms .result) (omega arith) (loop .inv .2) (c .three-terms .ensures .1)
+          (c .three-terms .ensures .0),
       length-set (loop .s) (loop .i) (c .three-terms .result) ∙ loop .inv .3,
     )
 
@@ -100,11 +103,13 @@ add-three-terms-5 c = search needs
 
 mul-three-terms-7 : tie.Need-mul-three-terms-7 Inv-loop μ-loop
 mul-three-terms-7 c =
-    let h : c .before .before .before .before .before .before .before .before .before .args .x .0 * c .before .before .before .before .before .before .before .before .before .args .y .0 ≤ 268435456 = mul-le-mul {n₂ = pointsEnd} {m₂ = pointsEnd} (omega arith) (omega arith) in search needs
+    let h : c .before .before .before .before .before .before .before .before .before .args .x .0 * c .before .before .before .before .before .before .before .before .before .args .y .0 ≤ 268435456 = mul-le-mul {n₂ = pointsEnd}
+    {m₂ = pointsEnd} (omega arith) (omega arith) in search needs
 
 three-terms-requires-2 : tie.Need-three-terms-requires-2 Inv-loop μ-loop
 three-terms-requires-2 c κs =
-    let h : c .before .before .before .before .before .before .before .before .before .args .x .0 * c .before .before .before .before .before .before .before .before .before .args .y .0 ≤ 268435456 = mul-le-mul {n₂ = pointsEnd} {m₂ = pointsEnd} (omega arith) (omega arith) in (omega arith, h)
+    let h : c .before .before .before .before .before .before .before .before .before .args .x .0 * c .before .before .before .before .before .before .before .before .before .args .y .0 ≤ 268435456 = mul-le-mul {n₂ = pointsEnd}
+    {m₂ = pointsEnd} (omega arith) (omega arith) in (omega arith, h)
 
 mul-s-2 : tie.Need-mul-s-2 Inv-loop μ-loop
 mul-s-2 c = search needs
@@ -122,7 +127,9 @@ returns c =
     let y : ℕ = c .before .before .before .before .before .before .before .before .before .before .args .y .0 in
     let last : ℕ = length (c .before .before .before .before .before .before .before .before .before .before .args .s .now) - 2 in
     let i : loop .i ≡ last = omega arith in
-    twice-done x y (c .before .before .before .before .before .before .before .before .before .before .args .s .now) (loop .s) last (c .three-terms2 .result) (omega arith) (subst (λ (k : ℕ). loop .s ≡ stage (twiceN x y (c .before .before .before .before .before .before .before .before .before .before .args .s .now)) (c .before .before .before .before .before .before .before .before .before .before .args .s .now) k) i (loop .inv .2)) (c .three-terms2 .ensures .1) (c .three-terms2 .ensures .0)
+    twice-done x y (c .before .before .before .before .before .before .before .before .before .before .args .s .now) (loop .s) last (c .three-terms2 .result) (omega arith)
+    (subst (λ (k : ℕ). loop .s ≡ stage (twiceN x y (c .before .before .before .before .before .before .before .before .before .before .args .s .now))
+    (c .before .before .before .before .before .before .before .before .before .before .args .s .now) k) i (loop .inv .2)) (c .three-terms2 .ensures .1) (c .three-terms2 .ensures .0)
 
 pub sweep-twice-spec : {M : Type 1} → statement M
 sweep-twice-spec =

@@ -27,13 +27,29 @@ mul-load-2 c = search needs
 
 load-requires-2 : tie.Need-load-requires-2
 load-requires-2 c κs =
-    let pre = c .before .before .before .before .before .before .before .before .before .before .before .before .before .before .before .before .before .pre in
-    (pre .1, omega (arith, pre .4, c .before .before .before .before .before .before .before .before .before .before .before .load .kept .1 .1 .1 .1 .0, c .before .before .before .before .before .before .walk .kept .0), c .before .before .before .before .before .before .walk .ensures .0, omega (arith, pre .3, c .before .before .before .before .before .before .walk .kept .1 .1 .1 .1 .1 .1 .1 .0))
+    let pre = c .before .before .before .before .before .before .before .before .before .before .before .before .before .before .before .before .before .pre in (
+      pre .1,
+      omega (arith, pre .4, c .before .before .before .before .before .before .before .before .before .before .before .load .kept .1 .1 .1 .1 .0, c .before .before .before .before .before .before .walk .kept .0),
+      c .before .before .before .before .before .before .walk .ensures .0,
+      omega (arith, pre .3, c .before .before .before .before .before .before .walk .kept .1 .1 .1 .1 .1 .1 .1 .0),
+    )
 
 walk-requires-2 : tie.Need-walk-requires-2
 walk-requires-2 c κs =
-    let pre = c .before .before .before .before .before .before .before .before .before .before .before .before .before .before .before .before .before .before .before .before .before .before .pre in
-    (omega (arith, pre .4, c .before .before .before .before .before .before .before .before .before .before .before .before .before .before .before .before .load .kept .1 .1 .1 .1 .0, c .before .before .before .before .before .before .before .before .before .before .before .walk .kept .0, c .before .before .before .before .load2 .kept .1 .1 .1 .1 .0), pre .1, c .before .before .before .before .load2 .ensures .0, pre .6, pre .7, pre .2)
+    let pre = c .before .before .before .before .before .before .before .before .before .before .before .before .before .before .before .before .before .before .before .before .before .before .pre in (
+      omega (
+        arith,
+        pre .4,
+        c .before .before .before .before .before .before .before .before .before .before .before .before .before .before .before .before .load .kept .1 .1 .1 .1 .0,
+        c .before .before .before .before .before .before .before .before .before .before .before .walk .kept .0,
+        c .before .before .before .before .load2 .kept .1 .1 .1 .1 .0,
+      ),
+      pre .1,
+      c .before .before .before .before .load2 .ensures .0,
+      pre .6,
+      pre .7,
+      pre .2,
+    )
 
 same-length : tie.Need-same-length
 same-length c = search needs
@@ -46,10 +62,18 @@ same-length-3 c = search needs
 
 returns : tie.Need-returns
 returns c =
-    let s = c .before .before .before .before .before .before .before .before .before .before .before .before .before .before .before .before .before .before .before .before .before .before .before .before .before .before .before .args in let pre = c .before .before .before .before .before .before .before .before .before .before .before .before .before .before .before .before .before .before .before .before .before .before .before .before .before .before .before .pre in (
+    let s = c .before .before .before .before .before .before .before .before .before .before .before .before .before .before .before .before .before .before .before .before .before .before .before .before .before .before .before .args
+    in let pre = c .before .before .before .before .before .before .before .before .before .before .before .before .before .before .before .before .before .before .before .before .before .before .before .before .before .before .before .pre
+    in (
       c .before .before .before .before .walk2 .ensures .0,
       c .before .before .before .before .walk2 .ensures .1,
-      extrapolated (s .values .now) (s .lanes) (s .width) (5 * ((s .width + 4) / 5)) (s .n) (s .lo) (s .stride) (c .before .before .before .before .before .before .before .before .before .before .before .before .before .before .before .before .before .before .before .before .before .load .last .1 .1 .1 .1 .0) (c .before .before .before .before .before .before .before .before .before .before .before .before .before .before .before .before .walk .last .1 .1 .1 .1 .1 .1 .1 .0) (c .before .before .before .before .before .before .before .before .before .load2 .last .1 .1 .1 .1 .0) (c .before .before .before .before .walk2 .last .1 .1 .1 .1 .1 .1 .1 .0) (pre .0) (enough-lines (s .width)) (c .before .before .before .before .before .before .before .before .before .before .before .before .before .before .before .before .before .before .before .before .before .load .ensures .1) (c .before .before .before .before .before .before .before .before .before .before .before .before .before .before .before .before .walk .ensures .2) (c .before .before .before .before .before .before .before .before .before .load2 .ensures .1) (c .before .before .before .before .walk2 .ensures .2),
+      extrapolated (s .values .now) (s .lanes) (s .width) (5 * ((s .width + 4) / 5)) (s .n) (s .lo) (s .stride)
+          (c .before .before .before .before .before .before .before .before .before .before .before .before .before .before .before .before .before .before .before .before .before .load .last .1 .1 .1 .1 .0)
+          (c .before .before .before .before .before .before .before .before .before .before .before .before .before .before .before .before .walk .last .1 .1 .1 .1 .1 .1 .1 .0)
+          (c .before .before .before .before .before .before .before .before .before .load2 .last .1 .1 .1 .1 .0) (c .before .before .before .before .walk2 .last .1 .1 .1 .1 .1 .1 .1 .0) (pre .0) (enough-lines (s .width))
+          (c .before .before .before .before .before .before .before .before .before .before .before .before .before .before .before .before .before .before .before .before .before .load .ensures .1)
+          (c .before .before .before .before .before .before .before .before .before .before .before .before .before .before .before .before .walk .ensures .2)
+          (c .before .before .before .before .before .before .before .before .before .load2 .ensures .1) (c .before .before .before .before .walk2 .ensures .2),
     )
 
 pub extrapolate-spec : {M : Type 1} → statement M

@@ -53,8 +53,16 @@ loop-less c = search needs
 
 loop-again : tie.Need-loop-again Inv-loop μ-loop
 loop-again c =
-    let loop = c .before .before .loop in let args = c .before .before .before .args in
-    (omega arith, loop .inv .1, loop .inv .2, loop .inv .3, simp length-set (loop .inv .4), simp length-set (loop .inv .5), put-turn (args .w .now) (args .n) (loop .j) (args .start) (args .out .now) (loop .out) _ (omega (arith, loop .inv .4, c .before .loop-test .taken)) refl (loop .inv .6))
+    let loop = c .before .before .loop in let args = c .before .before .before .args in (
+      omega arith,
+      loop .inv .1,
+      loop .inv .2,
+      loop .inv .3,
+      simp length-set (loop .inv .4),
+      simp length-set (loop .inv .5),
+      put-turn (args .w .now) (args .n) (loop .j) (args .start) (args .out .now) (loop .out) _
+          (omega (arith, loop .inv .4, c .before .loop-test .taken)) refl (loop .inv .6),
+    )
 
 same-length : tie.Need-same-length Inv-loop μ-loop
 same-length c = search needs

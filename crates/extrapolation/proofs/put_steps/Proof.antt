@@ -12,7 +12,8 @@ use Rattle.extrapolation.proofs.put_steps.Tie as tie
 
 abbrev Inv-loop : tie.InvT-loop
 Inv-loop w i lanes first count stride lo out₀ end to n₀ out n =
-    (end ≡ first + count) × (to ≤ run) × (to ≤ end - i) × (first ≤ i + n) × (n ≤ 65560) × (lanes ≤ 4) × (length w ≡ 4 * run) × (lo + lanes ≤ stride) × (count * stride ≤ length out) × (length out ≡ length out₀) × (i < end) × (end ≤ 65536) × StepsInv w i lanes first (first + count) stride lo out₀ out n
+    (end ≡ first + count) × (to ≤ run) × (to ≤ end - i) × (first ≤ i + n) × (n ≤ 65560) × (lanes ≤ 4) × (length w ≡ 4 * run) × (lo + lanes ≤ stride) × (count * stride ≤ length out) × (length out ≡ length out₀) × (i < end) ×
+    (end ≤ 65536) × StepsInv w i lanes first (first + count) stride lo out₀ out n
 
 abbrev μ-loop : tie.MeasureT-loop
 μ-loop w i lanes first count stride lo out₀ end to n₀ out n = to - n
@@ -31,8 +32,21 @@ less-requires c κs = search needs
 
 loop-holds : tie.Need-loop-holds Inv-loop μ-loop
 loop-holds c =
-    let s = c .before .before .before .before .args in
-    (refl, c .before .least .ensures .0, c .before .least .ensures .1, omega (arith, c .less .ensures), omega (arith, c .less .ensures, c .before .before .before .before .pre .4), c .before .before .before .before .pre .0, c .before .before .before .before .pre .1, c .before .before .before .before .pre .2, c .before .before .before .before .pre .3, refl, c .before .before .before .before .pre .5, c .before .before .before .before .pre .4, steps-none (s .w .now) (s .i) (s .lanes) (s .first) (s .first + s .count) (s .stride) (s .lo) (s .out .now) (c .less .result) (c .less .ensures))
+    let s = c .before .before .before .before .args in (
+      refl,
+      c .before .least .ensures .0,
+      c .before .least .ensures .1,
+      omega (arith, c .less .ensures),
+      omega (arith, c .less .ensures, c .before .before .before .before .pre .4),
+      c .before .before .before .before .pre .0,
+      c .before .before .before .before .pre .1,
+      c .before .before .before .before .pre .2,
+      c .before .before .before .before .pre .3,
+      refl,
+      c .before .before .before .before .pre .5,
+      c .before .before .before .before .pre .4,
+      steps-none (s .w .now) (s .i) (s .lanes) (s .first) (s .first + s .count) (s .stride) (s .lo) (s .out .now) (c .less .result) (c .less .ensures),
+    )
 
 sub-x : tie.Need-sub-x Inv-loop μ-loop
 sub-x c = search needs
@@ -74,8 +88,23 @@ loop-again : tie.Need-loop-again Inv-loop μ-loop
 loop-again c =
     let loop = c .before .before .before .before .before .loop in let s = c .before .before .before .before .before .before .before .before .before .before .args in
     let x : ℕ = s .first + s .count - 1 - (s .i + loop .n) in
-    let t = steps-turn (s .w .now) (loop .n) (s .lanes) x (s .stride) (s .lo) (loop .out) (c .before .before .put-lanes .last .1 .1 .1 .1 .0) (loop .inv .7) (c .before .before .put-lanes .ensures) (s .i) (s .first) (s .first + s .count) (s .out .now) (omega (arith, loop .inv .2, loop .inv .3, c .before .before .before .before .loop-test .taken)) (loop .inv .12) in
-    (loop .inv .0, loop .inv .1, loop .inv .2, omega (arith, loop .inv .3), omega (arith, loop .inv .1, c .before .before .before .before .loop-test .taken), loop .inv .5, loop .inv .6, loop .inv .7, omega (arith, loop .inv .8, c .before .before .put-lanes .kept .1 .1 .1 .1 .0), c .before .before .put-lanes .kept .1 .1 .1 .1 .0 ∙ loop .inv .9, loop .inv .10, loop .inv .11, t)
+    let t = steps-turn (s .w .now) (loop .n) (s .lanes) x (s .stride) (s .lo) (loop .out) (c .before .before .put-lanes .last .1 .1 .1 .1 .0) (loop .inv .7) (c .before .before .put-lanes .ensures) (s .i) (s .first)
+    (s .first + s .count) (s .out .now) (omega (arith, loop .inv .2, loop .inv .3, c .before .before .before .before .loop-test .taken)) (loop .inv .12) in (
+      loop .inv .0,
+      loop .inv .1,
+      loop .inv .2,
+      omega (arith, loop .inv .3),
+      omega (arith, loop .inv .1, c .before .before .before .before .loop-test .taken),
+      loop .inv .5,
+      loop .inv .6,
+      loop .inv .7,
+      omega
+          (arith, loop .inv .8, c .before .before .put-lanes .kept .1 .1 .1 .1 .0),
+      c .before .before .put-lanes .kept .1 .1 .1 .1 .0 ∙ loop .inv .9,
+      loop .inv .10,
+      loop .inv .11,
+      t,
+    )
 
 same-length : tie.Need-same-length Inv-loop μ-loop
 same-length c = search needs
@@ -83,7 +112,8 @@ same-length c = search needs
 returns : tie.Need-returns Inv-loop μ-loop
 returns c =
     let loop = c .before .loop in let s = c .before .before .before .before .before .before .args in
-    steps-done (s .w .now) (s .i) (s .lanes) (s .first) (s .first + s .count) (s .stride) (s .lo) (s .out .now) (loop .out) (loop .n) (c .before .before .before .least .result) (c .loop-test .left) (c .before .before .before .least .ensures .2) (loop .inv .12)
+    steps-done (s .w .now) (s .i) (s .lanes) (s .first) (s .first + s .count) (s .stride) (s .lo) (s .out .now) (loop .out) (loop .n) (c .before .before .before .least .result) (c .loop-test .left)
+    (c .before .before .before .least .ensures .2) (loop .inv .12)
 
 pub put-steps-spec : {M : Type 1} → statement M
 put-steps-spec =

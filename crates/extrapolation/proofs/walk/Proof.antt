@@ -11,7 +11,8 @@ use Rattle.extrapolation.proofs.walk.Tie as tie
 
 abbrev Inv-loop : tie.InvT-loop
 Inv-loop t₀ blocks lanes first count stride lo out₀ end i₀ t out i =
-    (end ≡ first + count) × (i ≤ 65560) × (20 * blocks ≤ length t) × (length t ≡ length t₀) × (lanes ≤ 4) × (lo + lanes ≤ stride) × (count * stride ≤ length out) × (length out ≡ length out₀) × (end ≤ 65536) × WalkInv (5 * blocks) lanes first (first + count) stride lo t₀ out₀ t out i
+    (end ≡ first + count) × (i ≤ 65560) × (20 * blocks ≤ length t) × (length t ≡ length t₀) × (lanes ≤ 4) × (lo + lanes ≤ stride) × (count * stride ≤ length out) × (length out ≡ length out₀) × (end ≤ 65536) × WalkInv (5 * blocks)
+    lanes first (first + count) stride lo t₀ out₀ t out i
 
 abbrev μ-loop : tie.MeasureT-loop
 μ-loop t₀ blocks lanes first count stride lo out₀ end i₀ t out i = end - i
@@ -21,8 +22,19 @@ add-end c = search needs
 
 loop-holds : tie.Need-loop-holds Inv-loop μ-loop
 loop-holds c =
-    let s = c .before .before .args in
-    (refl, omega arith, c .before .before .pre .0, refl, c .before .before .pre .1, c .before .before .pre .3, c .before .before .pre .4, refl, c .before .before .pre .5, walk-none (5 * s .blocks) (s .lanes) (s .first) (s .first + s .count) (s .stride) (s .lo) (s .t .now) (s .out .now) (c .before .before .pre .2))
+    let s = c .before .before .args in (
+      refl,
+      omega arith,
+      c .before .before .pre .0,
+      refl,
+      c .before .before .pre .1,
+      c .before .before .pre .3,
+      c .before .before .pre .4,
+      refl,
+      c .before .before .pre .5,
+      walk-none (5 * s .blocks) (s .lanes) (s .first)
+          (s .first + s .count) (s .stride) (s .lo) (s .t .now) (s .out .now) (c .before .before .pre .2),
+    )
 
 blank-feed-requires : tie.Need-blank-feed-requires Inv-loop μ-loop
 blank-feed-requires c κs = search needs
@@ -42,8 +54,15 @@ slice-aggregate-put-steps c = search needs
 put-steps-requires : tie.Need-put-steps-requires Inv-loop μ-loop
 put-steps-requires c κs =
     let loop = c .before .before .before .before .before .before .before .before .before .before .loop in
-    let l : length (c .before .before .before .before .before .before .before .before .blank-feed .result) ≡ 4 * run = search needs in
-    (loop .inv .4, c .before .before .before .before .before .steps .kept .1 .1 .0 ∙ l, loop .inv .5, loop .inv .6, loop .inv .8, omega (arith, loop .inv .0, c .before .before .before .before .before .before .before .before .before .loop-test .taken))
+    let l : length (c .before .before .before .before .before .before .before .before .blank-feed .result) ≡ 4 * run = search needs in (
+      loop .inv .4,
+      c .before .before .before .before .before .steps .kept .1 .1 .0 ∙ l,
+      loop .inv .5,
+      loop .inv .6,
+      loop .inv .8,
+      omega
+          (arith, loop .inv .0, c .before .before .before .before .before .before .before .before .before .loop-test .taken),
+    )
 
 add-i : tie.Need-add-i Inv-loop μ-loop
 add-i c = search needs
@@ -53,8 +72,22 @@ loop-less c = search needs
 
 loop-again : tie.Need-loop-again Inv-loop μ-loop
 loop-again c =
-    let loop = c .before .before .before .before .before .before .before .before .before .before .before .before .before .loop in let s = c .before .before .before .before .before .before .before .before .before .before .before .before .before .before .before .before .args in
-    (loop .inv .0, omega arith, omega (arith, loop .inv .2, c .before .before .before .before .before .before .before .before .steps .kept .0), c .before .before .before .before .before .before .before .before .steps .kept .0 ∙ loop .inv .3, loop .inv .4, loop .inv .5, omega (arith, loop .inv .6, c .before .before .put-steps .kept .1 .1 .1 .1 .1 .1 .1 .0), c .before .before .put-steps .kept .1 .1 .1 .1 .1 .1 .1 .0 ∙ loop .inv .7, loop .inv .8, walk-turn (5 * s .blocks) (s .lanes) (s .first) (s .first + s .count) (s .stride) (s .lo) (s .t .now) (s .out .now) (loop .t) (loop .out) (loop .i) (c .before .before .before .before .before .before .before .before .steps .last .0) (c .before .before .before .before .before .before .before .before .steps .last .1 .1 .0) (c .before .before .put-steps .last .1 .1 .1 .1 .1 .1 .1 .0) (loop .inv .9) (c .before .before .before .before .before .before .before .before .steps .ensures) (c .before .before .put-steps .ensures))
+    let loop = c .before .before .before .before .before .before .before .before .before .before .before .before .before .loop in let s =
+    c .before .before .before .before .before .before .before .before .before .before .before .before .before .before .before .before .args in (
+      loop .inv .0,
+      omega arith,
+      omega (arith, loop .inv .2, c .before .before .before .before .before .before .before .before .steps .kept .0),
+      c .before .before .before .before .before .before .before .before .steps .kept .0 ∙
+          loop .inv .3,
+      loop .inv .4,
+      loop .inv .5,
+      omega (arith, loop .inv .6, c .before .before .put-steps .kept .1 .1 .1 .1 .1 .1 .1 .0),
+      c .before .before .put-steps .kept .1 .1 .1 .1 .1 .1 .1 .0 ∙ loop .inv .7,
+      loop .inv .8,
+      walk-turn (5 * s .blocks) (s .lanes) (s .first) (s .first + s .count) (s .stride) (s .lo) (s .t .now) (s .out .now) (loop .t) (loop .out) (loop .i)
+          (c .before .before .before .before .before .before .before .before .steps .last .0) (c .before .before .before .before .before .before .before .before .steps .last .1 .1 .0)
+          (c .before .before .put-steps .last .1 .1 .1 .1 .1 .1 .1 .0) (loop .inv .9) (c .before .before .before .before .before .before .before .before .steps .ensures) (c .before .before .put-steps .ensures),
+    )
 
 same-length : tie.Need-same-length Inv-loop μ-loop
 same-length c = search needs

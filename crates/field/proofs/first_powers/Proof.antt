@@ -52,7 +52,8 @@ returns c =
     let loop = c .before .loop in
     let e : loop .i ≡ length (c .before .before .before .args .out .now) = omega arith in (
       loop .inv .3 ∙ ap (powN (c .before .before .before .args .x .0)) e,
-      filled-is (powN (c .before .before .before .args .x .0)) (loop .out) (length (c .before .before .before .args .out .now)) (loop .inv .2) (subst (λ (k : ℕ). Filled (powN (c .before .before .before .args .x .0)) (loop .out) 0 k) e (loop .inv .4)),
+      filled-is (powN (c .before .before .before .args .x .0)) (loop .out) (length (c .before .before .before .args .out .now)) (loop .inv .2)
+          (subst (λ (k : ℕ). Filled (powN (c .before .before .before .args .x .0)) (loop .out) 0 k) e (loop .inv .4)),
     )
 
 pub first-powers-spec : {M : Type 1} → statement M

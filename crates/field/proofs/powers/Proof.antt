@@ -41,7 +41,8 @@ loop-holds : tie.Need-loop-holds Inv-loop μ-loop
 loop-holds c =
     let out : List ℕ = c .before .before .before .before .before .before .args .out .now in
     let head : ℕ = c .before .before .before .before .first-count .result in
-    let l : length (putMid 0 (head - 0) out (c .before .before .first-powers .last .1 .0)) ≡ length out = put-length 0 (head - 0) out (c .before .before .first-powers .last .1 .0) (omega arith) (c .before .before .first-powers .kept .1 .0 ∙ front-length head out (c .before .before .before .before .first-count .ensures .0) ∙ sym (sub-zero head)) in
+    let l : length (putMid 0 (head - 0) out (c .before .before .first-powers .last .1 .0)) ≡ length out = put-length 0 (head - 0) out (c .before .before .first-powers .last .1 .0) (omega arith)
+    (c .before .before .first-powers .kept .1 .0 ∙ front-length head out (c .before .before .before .before .first-count .ensures .0) ∙ sym (sub-zero head)) in
     (sym l, omega arith, c .before .before .before .before .first-count .ensures .0, c .before .before .before .before .first-count .ensures .1, l, λ (z : ℕ) h f. f)
 
 sub-t13 : tie.Need-sub-t13 Inv-loop μ-loop

@@ -108,7 +108,8 @@ dot-requires c κs =
     let f₀ = f .0 in
     let f₁ = f .1 in
     let p : List ℕ = c .before .before .before .before .before .before .args .coefficients .now in
-    let e : length (take (n - w * (n / w) - 0) (c .before .before .before .before .before .before .args .powers .now)) ≡ n - w * (n / w) = front-length (n - w * (n / w)) (c .before .before .before .before .before .before .args .powers .now) (omega arith) in
+    let e : length (take (n - w * (n / w) - 0) (c .before .before .before .before .before .before .args .powers .now)) ≡ n - w * (n / w) = front-length (n - w * (n / w))
+    (c .before .before .before .before .before .before .args .powers .now) (omega arith) in
     (ap length (mid-tail (w * (n / w)) p) ∙ length-drop (w * (n / w)) p ∙ sym e, omega (arith, e, c .before .before .before .before .before .before .pre .2))
 
 loop-holds : tie.Need-loop-holds Inv-loop μ-loop
@@ -117,8 +118,13 @@ loop-holds c =
     let w : ℕ = length (c .before .before .before .before .before .before .before .args .powers .now) in
     let f = spans-fit n w (c .before .before .before .before .before .before .before .pre .1) in
     let f₀ = f .0 in
-    let f₁ = f .1 in
-    (refl, f₀, λ (x : ℕ) h k. spans-start (c .before .before .before .before .before .before .before .args .powers .now) (c .before .before .before .before .before .before .before .args .coefficients .now) x (n - w * (n / w)) (w * (n / w)) (c .dot .result .0) h f₁ (omega arith) (c .dot .ensures ∙ ap (dotN (take (n - w * (n / w) - 0) (c .before .before .before .before .before .before .before .args .powers .now))) (mid-tail (w * (n / w)) (c .before .before .before .before .before .before .before .args .coefficients .now))))
+    let f₁ = f .1 in (
+      refl,
+      f₀,
+      λ (x : ℕ) h k. spans-start (c .before .before .before .before .before .before .before .args .powers .now) (c .before .before .before .before .before .before .before .args .coefficients .now) x (n - w * (n / w))
+          (w * (n / w)) (c .dot .result .0) h f₁ (omega arith) (c .dot .ensures ∙ ap (dotN (take (n - w * (n / w) - 0) (c .before .before .before .before .before .before .before .args .powers .now)))
+          (mid-tail (w * (n / w)) (c .before .before .before .before .before .before .before .args .coefficients .now))),
+    )
 
 sub-spans : tie.Need-sub-spans Inv-loop μ-loop
 sub-spans c = search needs
@@ -161,8 +167,10 @@ dot-requires-2 : tie.Need-dot-requires-2 Inv-loop μ-loop
 dot-requires-2 c κs =
     let w : ℕ = length (c .before .before .before .before .before .before .before .before .before .before .args .powers .now) in
     let l = c .before .before .loop .inv .1 in
-    let e = span-back w (c .before .before .loop .spans) (c .before .loop-test .taken) in
-    (span-length (w * (c .before .before .loop .spans - 1)) w (c .before .before .before .before .before .before .before .before .before .before .args .coefficients .now) (omega arith), c .before .before .before .before .before .before .before .before .before .before .pre .2)
+    let e = span-back w (c .before .before .loop .spans) (c .before .loop-test .taken) in (
+      span-length (w * (c .before .before .loop .spans - 1)) w (c .before .before .before .before .before .before .before .before .before .before .args .coefficients .now) (omega arith),
+      c .before .before .before .before .before .before .before .before .before .before .pre .2,
+    )
 
 multiply-add-requires : tie.Need-multiply-add-requires Inv-loop μ-loop
 multiply-add-requires c κs = search needs
@@ -180,7 +188,8 @@ loop-again c =
     let ps : List ℕ = c .before .before .before .before .before .before .before .before .before .before .before .before .args .powers .now in (
       refl,
       omega arith,
-      λ (x : ℕ) h k. spans-turn ps p x (w * (loop .spans - 1)) (w * (loop .spans - 1) + w) (c .before .before .before .before .before .before .before .before .multiply .result .0) (c .before .dot2 .result .0) (loop .value .0) (c .multiply-add .result .0) h k refl (omega arith)
+      λ (x : ℕ) h k. spans-turn ps p x (w * (loop .spans - 1)) (w * (loop .spans - 1) + w) (c .before .before .before .before .before .before .before .before .multiply .result .0) (c .before .dot2 .result .0) (loop .value .0)
+          (c .multiply-add .result .0) h k refl (omega arith)
           (loop .inv .2 x h k ∙ ap (λ (i : ℕ). evalN (drop i p) x) (sym e)) (c .before .dot2 .ensures) (c .multiply-add .ensures),
     )
 
@@ -191,7 +200,9 @@ returns c =
     let ps : List ℕ = c .before .before .before .before .before .before .before .before .before .args .powers .now in
     let p : List ℕ = c .before .before .before .before .before .before .before .before .before .args .coefficients .now in
     let z : length ps * loop .spans ≡ 0 = (let s : loop .spans ≡ 0 = omega arith in rw s (mul-zero (length ps))) in
-    loop .inv .2 x (c .before .before .before .before .before .before .before .before .before .pre .0) (next-power ps x (c .before .before .before .before .before .multiply .result .0) (c .before .before .before .before .before .before .before .before .before .pre .1) (c .before .before .before .before .before .before .before .before .before .pre .0) (c .before .before .before .before .before .multiply .ensures)) ∙ ap (λ (i : ℕ). evalN (drop i p) x) z
+    loop .inv .2 x (c .before .before .before .before .before .before .before .before .before .pre .0)
+    (next-power ps x (c .before .before .before .before .before .multiply .result .0) (c .before .before .before .before .before .before .before .before .before .pre .1)
+    (c .before .before .before .before .before .before .before .before .before .pre .0) (c .before .before .before .before .before .multiply .ensures)) ∙ ap (λ (i : ℕ). evalN (drop i p) x) z
 
 pub evaluate-by-spec : {M : Type 1} → statement M
 evaluate-by-spec =

@@ -33,7 +33,8 @@ returns c =
     c .before .before .expand-from .ensures
     ∙ ap (λ (t : List ℕ). nformN (upFrom a (length t)) t) (c .before .before .before .before .before .before .before .before .newton-from .ensures)
     ∙ ap (λ (k : ℕ). nformN (upFrom a k) (tabulate n (newtonN ys))) (length-tabulate n (newtonN ys))
-    ∙ forward-interpN a n ys (c .before .before .before .before .before .before .before .before .before .before .before .before .before .pre .3) refl (c .before .before .before .before .before .before .before .before .before .before .before .before .before .pre .2) u
+    ∙ forward-interpN a n ys (c .before .before .before .before .before .before .before .before .before .before .before .before .before .pre .3) refl
+    (c .before .before .before .before .before .before .before .before .before .before .before .before .before .pre .2) u
 
 pub interpolate-from-spec : {M : Type 1} → statement M
 interpolate-from-spec =

@@ -39,8 +39,11 @@ shared-slice-read-t17 c = search needs
 
 newton-at-requires : tie.Need-newton-at-requires Inv-loop μ-loop
 newton-at-requires c κs =
-    let points : List ℕ = c .before .before .before .before .before .before .before .before .before .args .points .now in
-    (below-take (c .before .before .before .before .loop .k) points (c .before .before .before .before .before .before .before .before .before .pre .points-below), length-take-le (c .before .before .before .before .loop .k) (c .before .before .before .before .loop .out) (omega arith) ∙ sym (length-take-le (c .before .before .before .before .loop .k) points (omega arith)))
+    let points : List ℕ = c .before .before .before .before .before .before .before .before .before .args .points .now in (
+      below-take (c .before .before .before .before .loop .k) points (c .before .before .before .before .before .before .before .before .before .pre .points-below),
+      length-take-le (c .before .before .before .before .loop .k)
+          (c .before .before .before .before .loop .out) (omega arith) ∙ sym (length-take-le (c .before .before .before .before .loop .k) points (omega arith)),
+    )
 
 mul-t15-2 : tie.Need-mul-t15-2 Inv-loop μ-loop
 mul-t15-2 c = search needs
@@ -51,7 +54,8 @@ shared-slice-read-t17-2 c = search needs
 subtract-requires : tie.Need-subtract-requires Inv-loop μ-loop
 subtract-requires c κs =
     let points : List ℕ = c .before .before .before .before .before .before .before .before .before .before .before .args .points .now in
-    subst (λ (m : ℕ). m ≤ q) (sym (c .before .newton-at .ensures)) (le-of-lt (nevN-below (take (c .before .before .before .before .before .before .loop .k) points) (take (c .before .before .before .before .before .before .loop .k) (c .before .before .before .before .before .before .loop .out)) (getD points (c .before .before .before .before .before .before .loop .k) 0)))
+    subst (λ (m : ℕ). m ≤ q) (sym (c .before .newton-at .ensures)) (le-of-lt (nevN-below (take (c .before .before .before .before .before .before .loop .k) points)
+    (take (c .before .before .before .before .before .before .loop .k) (c .before .before .before .before .before .before .loop .out)) (getD points (c .before .before .before .before .before .before .loop .k) 0)))
 
 mul-t15-3 : tie.Need-mul-t15-3 Inv-loop μ-loop
 mul-t15-3 c = search needs
@@ -83,7 +87,8 @@ loop-again c =
     let l : loop .k < length (args .points .now) = omega arith in
     let r : Elements (take (loop .k + 1) (set (loop .out) (loop .k) v)) × Good (args .points .now) (args .values .now) (set (loop .out) (loop .k) v) (loop .k + 1) =
     newton-turn (args .points .now) (args .values .now) (loop .out) (loop .k) (c .before .before .before .before .newton-at .result .0) (getD (args .weights .now) (loop .k) 0) (c .before .before .subtract .result .0) v
-    (pre .points-below) (pre .values-below) (loop .inv .2) (pre .values-count) l (c .before .before .before .before .newton-at .ensures) (pre .weights-right (loop .k) l) (c .before .before .subtract .ensures) (c .multiply .ensures) (loop .inv .3) (loop .inv .4) in
+    (pre .points-below) (pre .values-below) (loop .inv .2) (pre .values-count) l (c .before .before .before .before .newton-at .ensures) (pre .weights-right (loop .k) l) (c .before .before .subtract .ensures)
+    (c .multiply .ensures) (loop .inv .3) (loop .inv .4) in
     (refl, omega arith, simp length-set (loop .inv .2), r .0, r .1)
 
 expand-requires : tie.Need-expand-requires Inv-loop μ-loop
@@ -97,7 +102,8 @@ returns c =
     let loop = c .before .before .before .before .before .loop in
     let args = c .before .before .before .before .before .before .before .before .before .before .args in
     let pre = c .before .before .before .before .before .before .before .before .before .before .pre in
-    newton-done (args .points .now) (args .values .now) (loop .out) (c .before .before .expand .last .1 .0) (loop .k) (pre .points-below) (pre .points-differ) (pre .values-below) (loop .inv .2) (pre .values-count) (omega arith) (loop .inv .3) (loop .inv .4) (c .before .before .expand .ensures)
+    newton-done (args .points .now) (args .values .now) (loop .out) (c .before .before .expand .last .1 .0) (loop .k) (pre .points-below) (pre .points-differ) (pre .values-below) (loop .inv .2) (pre .values-count) (omega arith)
+    (loop .inv .3) (loop .inv .4) (c .before .before .expand .ensures)
 
 pub interpolate-with-spec : {M : Type 1} → statement M
 interpolate-with-spec =

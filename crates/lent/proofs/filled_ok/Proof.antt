@@ -1,5 +1,5 @@
 -- `lent::filled_ok` meets its contract.
-use mathlib.Core.Path.{_≡_, sym, ap₂, subst}
+use mathlib.Core.Path.{sym, ap₂, subst}
 use Prim.Native.Nat.{ℕ, _*_, _≤_, _<_}
 use Rattle.scheme.specs.Sizes.{Sizes}
 use Rattle.scheme.proofs.Accepted.{leaves-high}
@@ -18,7 +18,8 @@ record-values-requires c κs = c .before .before .before .pre
 mul-both : tie.Need-mul-both
 mul-both c =
     let s : Sizes = sizesIn (c .before .before .before .before .args .s) in
-    let b : c .before .leaf-count .result * c .record-values .result ≤ 278528 = subst (λ (k : ℕ). k ≤ 278528) (sym (ap₂ _*_ (c .before .leaf-count .ensures) (c .record-values .ensures))) (table-bound s (c .before .before .before .before .pre)) in
+    let b : c .before .leaf-count .result * c .record-values .result ≤ 278528 = subst (λ (k : ℕ). k ≤ 278528) (sym (ap₂ _*_ (c .before .leaf-count .ensures) (c .record-values .ensures)))
+    (table-bound s (c .before .before .before .before .pre)) in
     search needs
 
 mul-both-2 : tie.Need-mul-both-2
@@ -47,7 +48,8 @@ both-requires c κs = search needs
 
 returns : tie.Need-returns
 returns c =
-    filled-tests (sizesIn (c .before .before .before .before .before .args .s)) (c .before .before .before .before .before .args .table .now) (c .before .before .before .before .before .args .tree .now) (c .before .before .leaf-count .result) (c .before .record-values .result) (c .both .result) (c .before .before .leaf-count .ensures) (c .before .record-values .ensures) (c .both .ensures)
+    filled-tests (sizesIn (c .before .before .before .before .before .args .s)) (c .before .before .before .before .before .args .table .now) (c .before .before .before .before .before .args .tree .now)
+    (c .before .before .leaf-count .result) (c .before .record-values .result) (c .both .result) (c .before .before .leaf-count .ensures) (c .before .record-values .ensures) (c .both .ensures)
 
 pub filled-ok-spec : {M : Type 1} → statement M
 filled-ok-spec =

@@ -22,7 +22,8 @@ both-requires-2 c κs = search needs
 returns : tie.Need-returns
 returns c =
     let args = c .before .before .before .before .before .before .before .before .args in
-    element-tests (args .coefficients .now) (args .tails .now) (args .masks .now) (c .before .before .before .before .elements-ok .result) (c .before .before .before .elements-ok2 .result) (c .before .before .elements-ok3 .result) (c .both2 .result) (c .before .both .result)
+    element-tests (args .coefficients .now) (args .tails .now) (args .masks .now) (c .before .before .before .before .elements-ok .result) (c .before .before .before .elements-ok2 .result)
+    (c .before .before .elements-ok3 .result) (c .both2 .result) (c .before .both .result)
     (c .before .before .before .before .elements-ok .ensures) (c .before .before .before .elements-ok2 .ensures) (c .before .before .elements-ok3 .ensures) (c .before .both .ensures) (c .both2 .ensures)
 
 pub lent-elements-spec : {M : Type 1} → statement M

@@ -1,9 +1,6 @@
 -- `lent::lent_ok` meets its contract.
-use mathlib.Core.Path.{_≡_, sym, ap, _∙_, subst}
-use mathlib.Core.Bool.{_&&_}
+use mathlib.Core.Path.{sym, subst}
 use Prim.Native.Nat.{ℕ, _*_, _≤_}
-use lib.Dec.{eqb}
-use lib.ListN.{length}
 use Rattle.scheme.specs.Sizes.{Sizes}
 use Rattle.scheme.specs.Layers.{lentOf}
 use Rattle.scheme.proofs.Accepted.{leaves-high}
@@ -28,7 +25,8 @@ leaf-count-requires c κs = c .before .before .before .before .before .before .b
 mul-c : tie.Need-mul-c
 mul-c c =
     let s : Sizes = sizesIn (c .before .before .before .before .before .before .before .before .args .s) in
-    let b : s .μ * c .before .before .column-count .result ≤ 16384 = subst (λ (k : ℕ). s .μ * k ≤ 16384) (sym (c .before .before .column-count .ensures)) (coefficients-bound s (c .before .before .before .before .before .before .before .before .pre)) in
+    let b : s .μ * c .before .before .column-count .result ≤ 16384 = subst (λ (k : ℕ). s .μ * k ≤ 16384) (sym (c .before .before .column-count .ensures))
+    (coefficients-bound s (c .before .before .before .before .before .before .before .before .pre)) in
     search needs
 
 row-count-requires : tie.Need-row-count-requires
@@ -49,12 +47,14 @@ cast-m c = search needs
 mul-m : tie.Need-mul-m
 mul-m c =
     let s : Sizes = sizesIn (c .before .before .before .before .before .before .before .before .before .before .before .args .s) in
-    let b : s .η * c .before .before .before .before .row-width .result ≤ 1280 = subst (λ (k : ℕ). s .η * k ≤ 1280) (sym (c .before .before .before .before .row-width .ensures)) (masks-bound s (c .before .before .before .before .before .before .before .before .before .before .before .pre)) in
+    let b : s .η * c .before .before .before .before .row-width .result ≤ 1280 = subst (λ (k : ℕ). s .η * k ≤ 1280) (sym (c .before .before .before .before .row-width .ensures))
+    (masks-bound s (c .before .before .before .before .before .before .before .before .before .before .before .pre)) in
     search needs
 
 mul-o : tie.Need-mul-o
 mul-o c =
-    let b : c .before .before .before .leaf-count .result ≤ 4096 = subst (λ (k : ℕ). k ≤ 4096) (sym (c .before .before .before .leaf-count .ensures)) (leaves-high (sizesIn (c .before .before .before .before .before .before .before .before .before .before .before .args .s)) (c .before .before .before .before .before .before .before .before .before .before .before .pre)) in
+    let b : c .before .before .before .leaf-count .result ≤ 4096 = subst (λ (k : ℕ). k ≤ 4096) (sym (c .before .before .before .leaf-count .ensures))
+    (leaves-high (sizesIn (c .before .before .before .before .before .before .before .before .before .before .before .args .s)) (c .before .before .before .before .before .before .before .before .before .before .before .pre)) in
     search needs
 
 both-requires : tie.Need-both-requires
@@ -69,8 +69,11 @@ both-requires-3 c κs = search needs
 returns : tie.Need-returns
 returns c =
     let args = c .before .before .before .before .before .before .before .before .before .before .before .before .before .before .args in
-    lent-tests (sizesIn (args .s)) (lentOf (args .coefficients .now) (args .tails .now) (args .masks .now) (args .nonces .now)) (c .before .before .before .before .before .before .before .before .column-count .result) (c .before .before .before .before .before .row-count .result) (c .before .before .before .before .before .before .before .row-width .result) (c .before .before .before .before .before .before .leaf-count .result)
-    (c .both3 .result) (c .before .both2 .result) (c .before .before .both .result) (c .before .before .before .before .before .before .before .before .column-count .ensures) (c .before .before .before .before .before .row-count .ensures) (c .before .before .before .before .before .before .before .row-width .ensures) (c .before .before .before .before .before .before .leaf-count .ensures) (c .before .before .both .ensures) (c .before .both2 .ensures) (c .both3 .ensures)
+    lent-tests (sizesIn (args .s)) (lentOf (args .coefficients .now) (args .tails .now) (args .masks .now) (args .nonces .now)) (c .before .before .before .before .before .before .before .before .column-count .result)
+    (c .before .before .before .before .before .row-count .result) (c .before .before .before .before .before .before .before .row-width .result) (c .before .before .before .before .before .before .leaf-count .result)
+    (c .both3 .result) (c .before .both2 .result) (c .before .before .both .result) (c .before .before .before .before .before .before .before .before .column-count .ensures)
+    (c .before .before .before .before .before .row-count .ensures) (c .before .before .before .before .before .before .before .row-width .ensures) (c .before .before .before .before .before .before .leaf-count .ensures)
+    (c .before .before .both .ensures) (c .before .both2 .ensures) (c .both3 .ensures)
 
 pub lent-ok-spec : {M : Type 1} → statement M
 lent-ok-spec =

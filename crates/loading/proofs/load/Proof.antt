@@ -34,8 +34,17 @@ loop-less c = search needs
 loop-again : tie.Need-loop-again Inv-loop μ-loop
 loop-again c =
     let loop = c .before .before .before .before .before .loop in let s = c .before .before .before .before .before .before .before .before .args in
-    let kept = c .before .before .load-lane .kept .1 .1 .1 .1 .0 in
-    (omega arith, loop .inv .1, omega (arith, loop .inv .2, kept), kept ∙ loop .inv .3, c .before .before .load-lane .ensures .0, loop .inv .5, lanes-turn (s .values .now) (s .width) (s .lines) (loop .t) (c .before .before .load-lane .last .1 .1 .1 .1 .0) (loop .j) (omega (arith, loop .inv .1, c .before .before .before .before .loop-test .taken)) (loop .inv .6) (c .before .before .load-lane .ensures .1) (c .before .before .load-lane .ensures .2))
+    let kept = c .before .before .load-lane .kept .1 .1 .1 .1 .0 in (
+      omega arith,
+      loop .inv .1,
+      omega (arith, loop .inv .2, kept),
+      kept ∙ loop .inv .3,
+      c .before .before .load-lane .ensures .0,
+      loop .inv .5,
+      lanes-turn (s .values .now) (s .width) (s .lines) (loop .t)
+          (c .before .before .load-lane .last .1 .1 .1 .1 .0) (loop .j) (omega (arith, loop .inv .1, c .before .before .before .before .loop-test .taken)) (loop .inv .6) (c .before .before .load-lane .ensures .1)
+          (c .before .before .load-lane .ensures .2),
+    )
 
 same-length : tie.Need-same-length Inv-loop μ-loop
 same-length c = search needs

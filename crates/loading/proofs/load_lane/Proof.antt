@@ -49,8 +49,15 @@ loop-less c = search needs
 
 loop-again : tie.Need-loop-again Inv-loop μ-loop
 loop-again c =
-    let loop = c .before .before .loop in let s = c .before .before .before .before .before .args in
-    (omega arith, loop .inv .1, simp length-set (loop .inv .2), simp length-set (loop .inv .3), loop .inv .4, load-turn (s .values .now) (s .width) (s .lines) (s .j) (s .t .now) (loop .t) (loop .r) (c .signed-value .result) (loop .inv .1) (c .before .loop-test .taken) (loop .inv .2) (loop .inv .5) (c .signed-value .ensures))
+    let loop = c .before .before .loop in let s = c .before .before .before .before .before .args in (
+      omega arith,
+      loop .inv .1,
+      simp length-set (loop .inv .2),
+      simp length-set (loop .inv .3),
+      loop .inv .4,
+      load-turn (s .values .now) (s .width) (s .lines) (s .j) (s .t .now) (loop .t) (loop .r) (c .signed-value .result)
+          (loop .inv .1) (c .before .loop-test .taken) (loop .inv .2) (loop .inv .5) (c .signed-value .ensures),
+    )
 
 same-length : tie.Need-same-length Inv-loop μ-loop
 same-length c = search needs

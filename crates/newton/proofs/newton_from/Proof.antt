@@ -24,8 +24,15 @@ inverse-factorials-requires : tie.Need-inverse-factorials-requires Inv-loop μ-l
 inverse-factorials-requires c κs = search needs
 
 loop-holds : tie.Need-loop-holds Inv-loop μ-loop
-loop-holds c =
-    (refl, omega arith, refl, c .before .before .before .pre .2, difference-start (c .before .before .before .args .values .now) (length (c .before .before .before .args .values .now) - 0), c .before .before .before .pre .0, filled-none (newtonN (c .before .before .before .args .values .now)) (c .before .before .before .args .out .now) 0 0 (omega arith))
+loop-holds c = (
+  refl,
+  omega arith,
+  refl,
+  c .before .before .before .pre .2,
+  difference-start (c .before .before .before .args .values .now) (length (c .before .before .before .args .values .now) - 0),
+  c .before .before .before .pre .0,
+  filled-none (newtonN (c .before .before .before .args .values .now)) (c .before .before .before .args .out .now) 0 0 (omega arith),
+)
 
 mul-t10 : tie.Need-mul-t10 Inv-loop μ-loop
 mul-t10 c = search needs
@@ -62,7 +69,8 @@ loop-again c =
     let loop = c .before .before .before .before .before .before .before .loop in
     let ys : List ℕ = c .before .before .before .before .before .before .before .before .before .before .before .args .values .now in
     let v : ℕ = c .before .before .before .before .multiply .result .0 in
-    let e : v ≡ newtonN ys (loop .k) = c .before .before .before .before .multiply .ensures ∙ ap₂ (λ (a b : ℕ). a * b % q) (loop .inv .4 0 (omega arith) (omega arith)) (ap (λ (t : List ℕ). getD t (loop .k) 0) (c .before .before .before .before .before .before .before .before .inverse-factorials .ensures)) in (
+    let e : v ≡ newtonN ys (loop .k) = c .before .before .before .before .multiply .ensures ∙ ap₂ (λ (a b : ℕ). a * b % q) (loop .inv .4 0 (omega arith) (omega arith))
+    (ap (λ (t : List ℕ). getD t (loop .k) 0) (c .before .before .before .before .before .before .before .before .inverse-factorials .ensures)) in (
       refl,
       omega arith,
       c .before .before .take-differences .kept .0 ∙ loop .inv .2,
@@ -81,7 +89,8 @@ same-length-2 c = search needs
 returns : tie.Need-returns Inv-loop μ-loop
 returns c =
     let e : c .before .loop .k ≡ length (c .before .before .before .before .before .args .values .now) = omega arith in
-    filled-is (newtonN (c .before .before .before .before .before .args .values .now)) (c .before .loop .out) (length (c .before .before .before .before .before .args .values .now)) (c .before .loop .inv .3) (subst (λ (j : ℕ). Filled (newtonN (c .before .before .before .before .before .args .values .now)) (c .before .loop .out) 0 j) e (c .before .loop .inv .6))
+    filled-is (newtonN (c .before .before .before .before .before .args .values .now)) (c .before .loop .out) (length (c .before .before .before .before .before .args .values .now)) (c .before .loop .inv .3)
+    (subst (λ (j : ℕ). Filled (newtonN (c .before .before .before .before .before .args .values .now)) (c .before .loop .out) 0 j) e (c .before .loop .inv .6))
 
 pub newton-from-spec : {M : Type 1} → statement M
 newton-from-spec =

@@ -41,8 +41,11 @@ slice-read-difference-2 : tie.Need-slice-read-difference-2 Inv-loop μ-loop
 slice-read-difference-2 c = search needs
 
 difference-requires : tie.Need-difference-requires Inv-loop μ-loop
-difference-requires c κs =
-    (elements-at (c .before .before .before .loop .s) (c .before .before .before .loop .inv .4) (c .before .before .before .loop .i + 1), elements-at (c .before .before .before .loop .s) (c .before .before .before .loop .inv .4) (c .before .before .before .loop .i))
+difference-requires c κs = (
+  elements-at (c .before .before .before .loop .s) (c .before .before .before .loop .inv .4) (c .before .before .before .loop .i + 1),
+  elements-at (c .before .before .before .loop .s) (c .before .before .before .loop .inv .4)
+      (c .before .before .before .loop .i),
+)
 
 mul-s : tie.Need-mul-s Inv-loop μ-loop
 mul-s c = search needs

@@ -3,7 +3,7 @@ use mathlib.Core.Path.{_≡_, refl, sym, ap, _∙_}
 use Prim.Native.Nat.{ℕ, _-_, _≤_, _<_}
 use lib.ListN.{length, getD, take, length-set}
 use lib.Seq.{take-length}
-use Rattle.node_sets.proofs.Copies.{index-step}
+use Rattle.lists.specs.Copies.{index-step}
 use borrow.Author.Needs.{needs}
 use native.Mathlib.Omega.{arith}
 use Rattle.node_sets.proofs.copy_indices.Statement.{statement}

@@ -27,7 +27,8 @@ both-requires-2 c κs = search needs
 returns : tie.Need-returns
 returns c =
     let n : ℕ = length (c .before .before .before .before .before .before .before .before .before .before .before .before .before .args .reply .now) in
-    every-three _ _ _ (c .both2 .result) (c .before .both .result) (c .before .both .ensures ∙ ap₂ _&&_ (c .before .before .before .filled-ok .ensures) (ap (eqb n) (c .before .before .length-for .ensures))) (c .both2 .ensures ∙ ap (λ (x : Bool). x && c .before .both .result) (c .before .before .before .before .lent-ok .ensures))
+    every-three _ _ _ (c .both2 .result) (c .before .both .result) (c .before .both .ensures ∙ ap₂ _&&_ (c .before .before .before .filled-ok .ensures) (ap (eqb n) (c .before .before .length-for .ensures)))
+    (c .both2 .ensures ∙ ap (λ (x : Bool). x && c .before .both .result) (c .before .before .before .before .lent-ok .ensures))
 
 pub lengths-ok-spec : {M : Type 1} → statement M
 lengths-ok-spec =

@@ -41,7 +41,9 @@ mul-put-record c =
     let size : ℕ = c .before .before .before .before .record-length .result in
     let e : size ≡ recordLength t = c .before .before .before .before .record-length .ensures in
     let h : s .at + size * k + size ≤ length (s .out .now) =
-    subst (λ (n : ℕ). s .at + n * k + n ≤ length (s .out .now)) (sym e) (upTo-room (leafRecord t (s .table .now) (s .nonces .now)) (s .indices .now) (recordLength t) (s .at) (s .out .now) (record-sized t (s .table .now) (s .nonces .now) (s .indices .now) (c .before .before .before .before .before .before .before .before .before .pre .0)) (c .before .before .before .before .before .before .before .before .before .pre .1) k (omega arith)) in
+    subst (λ (n : ℕ). s .at + n * k + n ≤ length (s .out .now)) (sym e) (upTo-room (leafRecord t (s .table .now) (s .nonces .now)) (s .indices .now) (recordLength t) (s .at) (s .out .now)
+    (record-sized t (s .table .now) (s .nonces .now) (s .indices .now) (c .before .before .before .before .before .before .before .before .before .pre .0))
+    (c .before .before .before .before .before .before .before .before .before .pre .1) k (omega arith)) in
     search needs
 
 add-put-record : tie.Need-add-put-record Inv-loop μ-loop
@@ -52,7 +54,9 @@ add-put-record c =
     let size : ℕ = c .before .before .before .before .record-length .result in
     let e : size ≡ recordLength t = c .before .before .before .before .record-length .ensures in
     let h : s .at + size * k + size ≤ length (s .out .now) =
-    subst (λ (n : ℕ). s .at + n * k + n ≤ length (s .out .now)) (sym e) (upTo-room (leafRecord t (s .table .now) (s .nonces .now)) (s .indices .now) (recordLength t) (s .at) (s .out .now) (record-sized t (s .table .now) (s .nonces .now) (s .indices .now) (c .before .before .before .before .before .before .before .before .before .pre .0)) (c .before .before .before .before .before .before .before .before .before .pre .1) k (omega arith)) in
+    subst (λ (n : ℕ). s .at + n * k + n ≤ length (s .out .now)) (sym e) (upTo-room (leafRecord t (s .table .now) (s .nonces .now)) (s .indices .now) (recordLength t) (s .at) (s .out .now)
+    (record-sized t (s .table .now) (s .nonces .now) (s .indices .now) (c .before .before .before .before .before .before .before .before .before .pre .0))
+    (c .before .before .before .before .before .before .before .before .before .pre .1) k (omega arith)) in
     search needs
 
 put-record-requires : tie.Need-put-record-requires Inv-loop μ-loop
@@ -63,9 +67,11 @@ put-record-requires c κs =
     let size : ℕ = c .before .before .before .before .record-length .result in
     let e : size ≡ recordLength t = c .before .before .before .before .record-length .ensures in
     let h : s .at + size * k + size ≤ length (s .out .now) =
-    subst (λ (n : ℕ). s .at + n * k + n ≤ length (s .out .now)) (sym e) (upTo-room (leafRecord t (s .table .now) (s .nonces .now)) (s .indices .now) (recordLength t) (s .at) (s .out .now) (record-sized t (s .table .now) (s .nonces .now) (s .indices .now) (c .before .before .before .before .before .before .before .before .before .pre .0)) (c .before .before .before .before .before .before .before .before .before .pre .1) k (omega arith)) in
-    (
-      subst (CanCopy t (s .table .now) (s .nonces .now)) (sym (c .before .opened-index .ensures)) (leaf-fits t (s .table .now) (s .nonces .now) (s .indices .now) (c .before .before .before .before .before .before .before .before .before .pre .0) k (omega arith)),
+    subst (λ (n : ℕ). s .at + n * k + n ≤ length (s .out .now)) (sym e) (upTo-room (leafRecord t (s .table .now) (s .nonces .now)) (s .indices .now) (recordLength t) (s .at) (s .out .now)
+    (record-sized t (s .table .now) (s .nonces .now) (s .indices .now) (c .before .before .before .before .before .before .before .before .before .pre .0))
+    (c .before .before .before .before .before .before .before .before .before .pre .1) k (omega arith)) in (
+      subst (CanCopy t (s .table .now) (s .nonces .now)) (sym (c .before .opened-index .ensures))
+          (leaf-fits t (s .table .now) (s .nonces .now) (s .indices .now) (c .before .before .before .before .before .before .before .before .before .pre .0) k (omega arith)),
       omega (arith, h, e, c .before .before .before .loop .inv .3),
     )
 
@@ -80,9 +86,13 @@ loop-again c =
     let s = c .before .before .before .before .before .before .before .before .before .before .before .before .args in
     let t : Sizes = sizesIn (s .s) in
     let k : ℕ = c .before .before .before .before .before .before .loop .a in
-    let f : c .before .before .put-record .last .1 .1 .1 .1 .0 ≡ spliced (s .at + recordLength t * k) (recordLength t) (leafRecord t (s .table .now) (s .nonces .now) (getD (s .indices .now) k 0)) (c .before .before .before .before .before .before .loop .out) =
-    c .before .before .put-record .ensures ∙ ap₂ (λ (n i : ℕ). spliced (s .at + n * k) (recordLength t) (leafRecord t (s .table .now) (s .nonces .now) i) (c .before .before .before .before .before .before .loop .out)) (c .before .before .before .before .before .before .before .record-length .ensures) (c .before .before .before .before .opened-index .ensures) in
-    let r = upTo-turn (leafRecord t (s .table .now) (s .nonces .now)) (s .indices .now) (recordLength t) (s .at) (s .out .now) (record-sized t (s .table .now) (s .nonces .now) (s .indices .now) (c .before .before .before .before .before .before .before .before .before .before .before .before .pre .0)) (c .before .before .before .before .before .before .before .before .before .before .before .before .pre .1)
+    let f : c .before .before .put-record .last .1 .1 .1 .1 .0 ≡ spliced (s .at + recordLength t * k) (recordLength t) (leafRecord t (s .table .now) (s .nonces .now) (getD (s .indices .now) k 0))
+    (c .before .before .before .before .before .before .loop .out) =
+    c .before .before .put-record .ensures ∙ ap₂ (λ (n i : ℕ). spliced (s .at + n * k) (recordLength t) (leafRecord t (s .table .now) (s .nonces .now) i) (c .before .before .before .before .before .before .loop .out))
+    (c .before .before .before .before .before .before .before .record-length .ensures) (c .before .before .before .before .opened-index .ensures) in
+    let r = upTo-turn (leafRecord t (s .table .now) (s .nonces .now)) (s .indices .now) (recordLength t) (s .at) (s .out .now)
+    (record-sized t (s .table .now) (s .nonces .now) (s .indices .now) (c .before .before .before .before .before .before .before .before .before .before .before .before .pre .0))
+    (c .before .before .before .before .before .before .before .before .before .before .before .before .pre .1)
     k (c .before .before .before .before .before .before .loop .out) (c .before .before .put-record .last .1 .1 .1 .1 .0) (omega arith) (c .before .before .before .before .before .before .loop .inv .2) f in
     (refl, omega arith, r .0, r .1)
 

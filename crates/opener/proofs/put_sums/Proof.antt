@@ -22,7 +22,9 @@ challenges-at-requires c κs = search needs
 put-batchings-requires : tie.Need-put-batchings-requires
 put-batchings-requires c κs =
     let s = c .before .before .before .before .before .before .before .before .before .args in
-    batchings-ask (sizesIn (s .s)) (s .m) (s .question .now) (s .coefficients .now) (s .tails .now) (s .masks .now) (s .reply .now) (c .before .before .before .before .before .before .before .before .before .pre) (c .before .before .before .row-width .result) (c .before .before .leaf-count .result) (c .before .challenges-at .result) (c .before .before .before .row-width .ensures) (c .before .before .leaf-count .ensures) (c .before .challenges-at .ensures)
+    batchings-ask (sizesIn (s .s)) (s .m) (s .question .now) (s .coefficients .now) (s .tails .now) (s .masks .now) (s .reply .now) (c .before .before .before .before .before .before .before .before .before .pre)
+    (c .before .before .before .row-width .result) (c .before .before .leaf-count .result) (c .before .challenges-at .result) (c .before .before .before .row-width .ensures) (c .before .before .leaf-count .ensures)
+    (c .before .challenges-at .ensures)
 
 points-at-requires : tie.Need-points-at-requires
 points-at-requires c κs = search needs
@@ -33,7 +35,11 @@ answers-at-requires c κs = c .before .before .before .before .before .before .b
 put-answers-requires : tie.Need-put-answers-requires
 put-answers-requires c κs =
     let s = c .before .before .before .before .before .before .before .before .before .before .before .before .before .before .before .args in
-    answers-ask (sizesIn (s .s)) (s .m) (s .question .now) (s .coefficients .now) (s .tails .now) (s .masks .now) (s .reply .now) (c .before .before .before .before .before .before .before .before .before .before .before .before .before .before .before .pre) (c .before .before .before .before .before .before .before .before .before .row-width .result) (c .before .before .points-at .result) (c .answers-at .result) (c .before .before .before .before .before .put-batchings .last .1 .1 .1 .1 .1 .1 .1 .1 .0) (c .before .before .before .before .before .before .before .before .before .row-width .ensures) (c .before .before .points-at .ensures) (c .answers-at .ensures) (c .before .before .before .before .before .put-batchings .kept .1 .1 .1 .1 .1 .1 .1 .1 .0)
+    answers-ask (sizesIn (s .s)) (s .m) (s .question .now) (s .coefficients .now) (s .tails .now) (s .masks .now) (s .reply .now)
+    (c .before .before .before .before .before .before .before .before .before .before .before .before .before .before .before .pre) (c .before .before .before .before .before .before .before .before .before .row-width .result)
+    (c .before .before .points-at .result) (c .answers-at .result) (c .before .before .before .before .before .put-batchings .last .1 .1 .1 .1 .1 .1 .1 .1 .0)
+    (c .before .before .before .before .before .before .before .before .before .row-width .ensures) (c .before .before .points-at .ensures) (c .answers-at .ensures)
+    (c .before .before .before .before .before .put-batchings .kept .1 .1 .1 .1 .1 .1 .1 .1 .0)
 
 same-length : tie.Need-same-length
 same-length c = search needs
@@ -41,8 +47,16 @@ same-length c = search needs
 returns : tie.Need-returns
 returns c =
     let s = c .before .before .before .before .before .before .before .before .before .before .before .before .before .before .before .before .before .before .args in
-    sums-are (sizesIn (s .s)) (s .m) (s .question .now) (s .coefficients .now) (s .tails .now) (s .masks .now) (s .reply .now) (c .before .before .before .before .before .before .before .before .before .before .before .before .before .before .before .before .before .before .pre) (c .before .before .before .before .before .before .before .before .before .before .before .before .row-width .result) (c .before .before .before .before .before .before .before .before .before .before .before .leaf-count .result) (c .before .before .before .before .before .before .before .before .before .before .challenges-at .result) (c .before .before .before .before .before .points-at .result) (c .before .before .before .answers-at .result)
-    (c .before .before .before .before .before .before .before .before .put-batchings .last .1 .1 .1 .1 .1 .1 .1 .1 .0) (c .before .before .put-answers .last .1 .1 .1 .1 .1 .1 .1 .0) (c .before .before .before .before .before .before .before .before .before .before .before .before .row-width .ensures) (c .before .before .before .before .before .before .before .before .before .before .before .leaf-count .ensures) (c .before .before .before .before .before .before .before .before .before .before .challenges-at .ensures) (c .before .before .before .before .before .points-at .ensures) (c .before .before .before .answers-at .ensures) (c .before .before .before .before .before .before .before .before .put-batchings .ensures) (c .before .before .put-answers .ensures)
+    sums-are (sizesIn (s .s)) (s .m) (s .question .now) (s .coefficients .now) (s .tails .now) (s .masks .now) (s .reply .now)
+    (c .before .before .before .before .before .before .before .before .before .before .before .before .before .before .before .before .before .before .pre)
+    (c .before .before .before .before .before .before .before .before .before .before .before .before .row-width .result)
+    (c .before .before .before .before .before .before .before .before .before .before .before .leaf-count .result) (c .before .before .before .before .before .before .before .before .before .before .challenges-at .result)
+    (c .before .before .before .before .before .points-at .result) (c .before .before .before .answers-at .result)
+    (c .before .before .before .before .before .before .before .before .put-batchings .last .1 .1 .1 .1 .1 .1 .1 .1 .0) (c .before .before .put-answers .last .1 .1 .1 .1 .1 .1 .1 .0)
+    (c .before .before .before .before .before .before .before .before .before .before .before .before .row-width .ensures)
+    (c .before .before .before .before .before .before .before .before .before .before .before .leaf-count .ensures) (c .before .before .before .before .before .before .before .before .before .before .challenges-at .ensures)
+    (c .before .before .before .before .before .points-at .ensures) (c .before .before .before .answers-at .ensures) (c .before .before .before .before .before .before .before .before .put-batchings .ensures)
+    (c .before .before .put-answers .ensures)
 
 pub put-sums-spec : {M : Type 1} → statement M
 put-sums-spec =

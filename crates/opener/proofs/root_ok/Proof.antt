@@ -47,7 +47,8 @@ returns c =
     let b : List ℕ = c .before .before .before .before .before .before .before .args .question .now in
     let a : ℕ = length t - 32 in
     c .same-bytes .ensures
-    ∙ ap₂ (λ (x y : List ℕ). same x y) (take-all (length t - a) (drop a t) (le-of-eq (length-drop a t))) (ap₂ (λ (to from : ℕ). take (to - from) (drop from b)) (c .before .before .before .challenges-at .ensures) (c .before .before .before .before .root-at .ensures))
+    ∙ ap₂ (λ (x y : List ℕ). same x y) (take-all (length t - a) (drop a t) (le-of-eq (length-drop a t)))
+    (ap₂ (λ (to from : ℕ). take (to - from) (drop from b)) (c .before .before .before .challenges-at .ensures) (c .before .before .before .before .root-at .ensures))
 
 pub root-ok-spec : {M : Type 1} → statement M
 root-ok-spec =

@@ -43,7 +43,8 @@ length-for-requires c κs =
 returns : tie.Need-returns
 returns c =
     let s = c .before .before .before .before .before .before .before .before .args in
-    length-is (s .question .now) (s .s) (s .m) (c .before .before .before .before .before .before .before .before .pre) (take (s .s .l) (c .before .before .before .question-indices .last .1 .1 .1 .0)) (c .length-for .result) (c .before .before .before .question-indices .ensures) (c .length-for .ensures)
+    length-is (s .question .now) (s .s) (s .m) (c .before .before .before .before .before .before .before .before .pre) (take (s .s .l) (c .before .before .before .question-indices .last .1 .1 .1 .0)) (c .length-for .result)
+    (c .before .before .before .question-indices .ensures) (c .length-for .ensures)
 
 pub asked-length-spec : {M : Type 1} → statement M
 asked-length-spec =

@@ -18,13 +18,15 @@ count-missing-requires c κs = search needs
 
 mul-result : tie.Need-mul-result
 mul-result c =
-    let j : c .count-missing .result ≤ 768 = subst (λ (k : ℕ). k ≤ 768) (sym (c .count-missing .ensures)) (missing-high (c .before .before .before .before .args .s .h) (c .before .before .before .before .args .indices .now) (c .before .before .before .before .pre .2)) in
+    let j : c .count-missing .result ≤ 768 = subst (λ (k : ℕ). k ≤ 768) (sym (c .count-missing .ensures))
+    (missing-high (c .before .before .before .before .args .s .h) (c .before .before .before .before .args .indices .now) (c .before .before .before .before .pre .2)) in
     search needs
 
 add-result : tie.Need-add-result
 add-result c =
     let s = c .before .before .before .before .args in
-    let i : c .before .before .nodes-at .result ≤ 34816 = subst (λ (k : ℕ). k ≤ 34816) (sym (c .before .before .nodes-at .ensures)) (nodes-high (sizesIn (s .s)) (c .before .before .before .before .pre .0) (s .m) (c .before .before .before .before .pre .1)) in
+    let i : c .before .before .nodes-at .result ≤ 34816 = subst (λ (k : ℕ). k ≤ 34816) (sym (c .before .before .nodes-at .ensures))
+    (nodes-high (sizesIn (s .s)) (c .before .before .before .before .pre .0) (s .m) (c .before .before .before .before .pre .1)) in
     let j : c .count-missing .result ≤ 768 = subst (λ (k : ℕ). k ≤ 768) (sym (c .count-missing .ensures)) (missing-high (s .s .h) (s .indices .now) (c .before .before .before .before .pre .2)) in
     search needs
 

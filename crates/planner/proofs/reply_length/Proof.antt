@@ -20,7 +20,8 @@ enum-known-verdict c = search needs
 returns : tie.Need-returns
 returns c =
     let s = c .before .before .before .before .before .before .args in
-    sized (s .question .now) (c .before .before .s .given .0 .0) (c .before .before .s .given .0 .1 .0) (sym (c .before .before .before .before .ask .ensures) ∙ c .before .before .s .given .1) (c .asked-length .result) (c .asked-length .ensures)
+    sized (s .question .now) (c .before .before .s .given .0 .0) (c .before .before .s .given .0 .1 .0) (sym (c .before .before .before .before .ask .ensures) ∙ c .before .before .s .given .1) (c .asked-length .result)
+    (c .asked-length .ensures)
 
 returns-2 : tie.Need-returns-2
 returns-2 c =

@@ -1,14 +1,14 @@
 -- `question::body` meets its contract.
 use mathlib.Core.Path.{_≡_, sym, ap, ap₂, _∙_, subst}
 use mathlib.Core.Bool.{not}
-use Prim.Native.Nat.{ℕ, _+_, _^_}
+use Prim.Native.Nat.{ℕ, _+_}
 use lib.ListN.{length}
 use borrow.Author.Tests.{eq-eqb, ne-eqb}
 use Rattle.lists.specs.Tests.{verdictOf, within-high}
 use Rattle.lists.specs.Numbers.{numbers}
 use Rattle.lists.specs.Scan.{placed}
 use Rattle.scheme.specs.Sizes.{elements}
-use Rattle.scheme.specs.Question.{questionLength, challengesAt, indicesAt}
+use Rattle.scheme.specs.Question.{questionLength}
 use Rattle.scheme.proofs.Accepted.{sizes-in-order}
 use Rattle.commitment.specs.Shape.{sizesIn}
 use Rattle.question.specs.Questioned.{answered}
@@ -28,7 +28,11 @@ returns : tie.Need-returns
 unfolding answered verdictOf
 returns c =
     let s = c .before .before .before .args in
-    simp (body-decides (s .question .now) (s .s) (s .m) (c .before .before .before .pre), ne-eqb (length (s .question .now)) (questionLength (sizesIn (s .s)) (s .m)) (subst (λ (n : ℕ). length (s .question .now) ≡ n → ⊥) (c .before .question-length .ensures) (c .if1 .taken)))
+    simp (
+      body-decides (s .question .now) (s .s) (s .m) (c .before .before .before .pre),
+      ne-eqb (length (s .question .now)) (questionLength (sizesIn (s .s)) (s .m))
+          (subst (λ (n : ℕ). length (s .question .now) ≡ n → ⊥) (c .before .question-length .ensures) (c .if1 .taken)),
+    )
 
 cast-elements : tie.Need-cast-elements
 cast-elements c = search needs
@@ -47,7 +51,12 @@ unfolding answered verdictOf
 returns-2 c =
     let s = c .before .before .before .before .before .before .before .args in
     let e = c .before .elements-in .ensures ∙ ap (λ (k : ℕ). elements (numbers 4 (s .s .eta + s .m) k (s .question .now))) (c .before .before .challenges-at .ensures) in
-    simp (body-decides (s .question .now) (s .s) (s .m) (c .before .before .before .before .before .before .before .pre), eq-eqb (length (s .question .now)) (questionLength (sizesIn (s .s)) (s .m)) (c .before .before .before .before .if1 .left ∙ c .before .before .before .before .before .question-length .ensures), ap not (sym e) ∙ c .if2 .taken)
+    simp (
+      body-decides (s .question .now) (s .s) (s .m) (c .before .before .before .before .before .before .before .pre),
+      eq-eqb (length (s .question .now)) (questionLength (sizesIn (s .s)) (s .m))
+          (c .before .before .before .before .if1 .left ∙ c .before .before .before .before .before .question-length .ensures),
+      ap not (sym e) ∙ c .if2 .taken,
+    )
 
 leaf-count-requires : tie.Need-leaf-count-requires
 leaf-count-requires c κs =
@@ -70,11 +79,13 @@ returns-3 : tie.Need-returns-3
 unfolding answered verdictOf
 returns-3 c =
     let s = c .before .before .before .before .before .before .before .before .before .before .before .before .args in
-    let e = c .before .before .before .before .before .before .elements-in .ensures ∙ ap (λ (k : ℕ). elements (numbers 4 (s .s .eta + s .m) k (s .question .now))) (c .before .before .before .before .before .before .before .challenges-at .ensures) in
+    let e = c .before .before .before .before .before .before .elements-in .ensures ∙ ap (λ (k : ℕ). elements (numbers 4 (s .s .eta + s .m) k (s .question .now)))
+    (c .before .before .before .before .before .before .before .challenges-at .ensures) in
     let f = c .before .indices-ok .ensures ∙ ap₂ (λ (k n : ℕ). placed n (numbers 2 (s .s .l) k (s .question .now))) (c .before .before .before .indices-at .ensures) (c .before .before .before .before .leaf-count .ensures) in
     simp (
       body-decides (s .question .now) (s .s) (s .m) (c .before .before .before .before .before .before .before .before .before .before .before .before .pre),
-      eq-eqb (length (s .question .now)) (questionLength (sizesIn (s .s)) (s .m)) (c .before .before .before .before .before .before .before .before .before .if1 .left ∙ c .before .before .before .before .before .before .before .before .before .before .question-length .ensures),
+      eq-eqb (length (s .question .now)) (questionLength (sizesIn (s .s)) (s .m)) (c .before .before .before .before .before .before .before .before .before .if1 .left ∙
+          c .before .before .before .before .before .before .before .before .before .before .question-length .ensures),
       ap not (sym e) ∙ c .before .before .before .before .before .if2 .left,
       ap not (sym f) ∙ c .if3 .taken,
     )
@@ -83,11 +94,13 @@ returns-4 : tie.Need-returns-4
 unfolding verdictOf
 returns-4 c =
     let s = c .before .before .before .before .before .before .before .before .before .before .before .before .args in
-    let e = c .before .before .before .before .before .before .elements-in .ensures ∙ ap (λ (k : ℕ). elements (numbers 4 (s .s .eta + s .m) k (s .question .now))) (c .before .before .before .before .before .before .before .challenges-at .ensures) in
+    let e = c .before .before .before .before .before .before .elements-in .ensures ∙ ap (λ (k : ℕ). elements (numbers 4 (s .s .eta + s .m) k (s .question .now)))
+    (c .before .before .before .before .before .before .before .challenges-at .ensures) in
     let f = c .before .indices-ok .ensures ∙ ap₂ (λ (k n : ℕ). placed n (numbers 2 (s .s .l) k (s .question .now))) (c .before .before .before .indices-at .ensures) (c .before .before .before .before .leaf-count .ensures) in
     body-passes (s .question .now) (s .s) (s .m) (c .before .before .before .before .before .before .before .before .before .before .before .before .pre)
     (simp (
-      eq-eqb (length (s .question .now)) (questionLength (sizesIn (s .s)) (s .m)) (c .before .before .before .before .before .before .before .before .before .if1 .left ∙ c .before .before .before .before .before .before .before .before .before .before .question-length .ensures),
+      eq-eqb (length (s .question .now)) (questionLength (sizesIn (s .s)) (s .m)) (c .before .before .before .before .before .before .before .before .before .if1 .left ∙
+          c .before .before .before .before .before .before .before .before .before .before .question-length .ensures),
       ap not (sym e) ∙ c .before .before .before .before .before .if2 .left,
       ap not (sym f) ∙ c .if3 .left,
     ))

@@ -27,7 +27,11 @@ marked-requires c κs = omega (arith, c .before .root-at .ensures, c .if1 .left)
 returns-2 : tie.Need-returns-2
 unfolding answered verdictOf
 returns-2 c =
-    simp (le-ltb (length (c .before .before .before .before .before .args .b .now)) headerLength (omega (arith, c .before .before .before .root-at .ensures, c .before .before .if1 .left)), ap not (sym (c .before .marked .ensures)) ∙ c .if2 .taken)
+    simp (
+      le-ltb (length (c .before .before .before .before .before .args .b .now)) headerLength (omega (arith, c .before .before .before .root-at .ensures, c .before .before .if1 .left)),
+      ap not
+          (sym (c .before .marked .ensures)) ∙ c .if2 .taken,
+    )
 
 header-shape-requires : tie.Need-header-shape-requires
 header-shape-requires c κs = omega (arith, c .before .before .before .root-at .ensures, c .before .before .if1 .left)
@@ -50,14 +54,30 @@ both-requires c κs = search needs
 returns-3 : tie.Need-returns-3
 unfolding answered verdictOf
 returns-3 c =
-    let tested = c .before .both .ensures ∙ ap₂ _&&_ (c .before .before .before .sizes-ok .ensures ∙ ap (λ (s : Shape). sizesOk (sizesIn s)) (c .before .before .before .before .before .before .header-shape .ensures)) (c .before .before .in-range .ensures ∙ ap (within 1 8) (c .before .before .before .before .wide .ensures .0)) in
-    simp (le-ltb (length (c .before .before .before .before .before .before .before .before .before .before .before .before .args .b .now)) headerLength (omega (arith, c .before .before .before .before .before .before .before .before .before .before .root-at .ensures, c .before .before .before .before .before .before .before .before .before .if1 .left)), ap not (sym (c .before .before .before .before .before .before .before .before .marked .ensures)) ∙ c .before .before .before .before .before .before .before .if2 .left, ap not (sym tested) ∙ c .if3 .taken)
+    let tested = c .before .both .ensures ∙ ap₂ _&&_ (c .before .before .before .sizes-ok .ensures ∙ ap (λ (s : Shape). sizesOk (sizesIn s)) (c .before .before .before .before .before .before .header-shape .ensures))
+    (c .before .before .in-range .ensures ∙ ap (within 1 8) (c .before .before .before .before .wide .ensures .0)) in
+    simp (
+      le-ltb (length (c .before .before .before .before .before .before .before .before .before .before .before .before .args .b .now)) headerLength
+          (omega (arith, c .before .before .before .before .before .before .before .before .before .before .root-at .ensures, c .before .before .before .before .before .before .before .before .before .if1 .left)),
+      ap not
+          (sym (c .before .before .before .before .before .before .before .before .marked .ensures)) ∙ c .before .before .before .before .before .before .before .if2 .left,
+      ap not (sym tested) ∙ c .if3 .taken,
+    )
 
 returns-4 : tie.Need-returns-4
 unfolding answered verdictOf
 returns-4 c =
-    let tested = c .before .both .ensures ∙ ap₂ _&&_ (c .before .before .before .sizes-ok .ensures ∙ ap (λ (s : Shape). sizesOk (sizesIn s)) (c .before .before .before .before .before .before .header-shape .ensures)) (c .before .before .in-range .ensures ∙ ap (within 1 8) (c .before .before .before .before .wide .ensures .0)) in
-    simp (le-ltb (length (c .before .before .before .before .before .before .before .before .before .before .before .before .args .b .now)) headerLength (omega (arith, c .before .before .before .before .before .before .before .before .before .before .root-at .ensures, c .before .before .before .before .before .before .before .before .before .if1 .left)), ap not (sym (c .before .before .before .before .before .before .before .before .marked .ensures)) ∙ c .before .before .before .before .before .before .before .if2 .left, ap not (sym tested) ∙ c .if3 .left, c .before .before .before .before .before .before .header-shape .ensures, c .before .before .before .before .wide .ensures .0)
+    let tested = c .before .both .ensures ∙ ap₂ _&&_ (c .before .before .before .sizes-ok .ensures ∙ ap (λ (s : Shape). sizesOk (sizesIn s)) (c .before .before .before .before .before .before .header-shape .ensures))
+    (c .before .before .in-range .ensures ∙ ap (within 1 8) (c .before .before .before .before .wide .ensures .0)) in
+    simp (
+      le-ltb (length (c .before .before .before .before .before .before .before .before .before .before .before .before .args .b .now)) headerLength
+          (omega (arith, c .before .before .before .before .before .before .before .before .before .before .root-at .ensures, c .before .before .before .before .before .before .before .before .before .if1 .left)),
+      ap not
+          (sym (c .before .before .before .before .before .before .before .before .marked .ensures)) ∙ c .before .before .before .before .before .before .before .if2 .left,
+      ap not (sym tested) ∙ c .if3 .left,
+      c .before .before .before .before .before .before .header-shape .ensures,
+      c .before .before .before .before .wide .ensures .0,
+    )
 
 pub header-spec : {M : Type 1} → statement M
 header-spec =

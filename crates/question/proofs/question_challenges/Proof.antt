@@ -26,7 +26,9 @@ same-length c = search needs
 returns : tie.Need-returns
 returns c =
     let s = c .before .before .before .before .before .before .before .before .args in
-    words-read (s .s .eta) (c .before .before .before .before .before .challenges-at .result) challengesAt (s .question .now) (s .out .now) (c .before .before .read-words .last .1 .1 .1 .0) (readQuestion (s .question .now) .challenges) (c .before .before .before .before .before .challenges-at .ensures) (taken (s .question .now) (s .s) (s .m) (c .before .before .before .before .before .before .before .before .pre .0) .challenges) (c .before .before .read-words .ensures)
+    words-read (s .s .eta) (c .before .before .before .before .before .challenges-at .result) challengesAt (s .question .now) (s .out .now) (c .before .before .read-words .last .1 .1 .1 .0)
+    (readQuestion (s .question .now) .challenges) (c .before .before .before .before .before .challenges-at .ensures)
+    (taken (s .question .now) (s .s) (s .m) (c .before .before .before .before .before .before .before .before .pre .0) .challenges) (c .before .before .read-words .ensures)
 
 pub question-challenges-spec : {M : Type 1} → statement M
 question-challenges-spec =

@@ -25,7 +25,8 @@ same-length c = search needs
 returns : tie.Need-returns
 returns c =
     let s = c .before .before .before .before .before .before .before .before .args in
-    indices-read (s .question .now) (s .s) (s .m) (s .out .now) (c .before .before .read-halves .last .1 .1 .1 .0) (c .before .before .before .before .before .indices-at .result) (c .before .before .before .before .before .before .before .before .pre .0) (c .before .before .before .before .before .indices-at .ensures) (c .before .before .read-halves .ensures)
+    indices-read (s .question .now) (s .s) (s .m) (s .out .now) (c .before .before .read-halves .last .1 .1 .1 .0) (c .before .before .before .before .before .indices-at .result)
+    (c .before .before .before .before .before .before .before .before .pre .0) (c .before .before .before .before .before .indices-at .ensures) (c .before .before .read-halves .ensures)
 
 pub question-indices-spec : {M : Type 1} → statement M
 question-indices-spec =

@@ -22,7 +22,9 @@ same-length c = search needs
 returns : tie.Need-returns
 returns c =
     let s = c .before .before .before .before .before .before .before .args in
-    words-read (s .m) (c .before .before .before .before .points-at .result) (pointsAt (sizesIn (s .s))) (s .question .now) (s .out .now) (c .before .before .read-words .last .1 .1 .1 .0) (readQuestion (s .question .now) .evaluationPoints) (c .before .before .before .before .points-at .ensures) (taken (s .question .now) (s .s) (s .m) (c .before .before .before .before .before .before .before .pre .0) .points) (c .before .before .read-words .ensures)
+    words-read (s .m) (c .before .before .before .before .points-at .result) (pointsAt (sizesIn (s .s))) (s .question .now) (s .out .now) (c .before .before .read-words .last .1 .1 .1 .0)
+    (readQuestion (s .question .now) .evaluationPoints) (c .before .before .before .before .points-at .ensures) (taken (s .question .now) (s .s) (s .m) (c .before .before .before .before .before .before .before .pre .0) .points)
+    (c .before .before .read-words .ensures)
 
 pub question-points-spec : {M : Type 1} → statement M
 question-points-spec =

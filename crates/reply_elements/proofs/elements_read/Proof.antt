@@ -36,7 +36,8 @@ returns-3 c =
     let s = c .before .before .before .before .before .before .before .before .args in
     let r : Bool = each (s .count) (recordElementsAt (s .at) (s .size) (s .n) (s .reply .now)) in
     c .record-elements .ensures
-    ∙ sym (every-last (elements (s .batching .now)) (elements (s .answers .now)) r (sym (c .before .before .before .before .elements-ok .ensures) ∙ not-false (c .before .before .before .before .elements-ok .result) (c .before .before .before .if1 .left))
+    ∙ sym (every-last (elements (s .batching .now)) (elements (s .answers .now)) r (sym (c .before .before .before .before .elements-ok .ensures) ∙ not-false (c .before .before .before .before .elements-ok .result)
+    (c .before .before .before .if1 .left))
     (sym (c .before .before .elements-ok2 .ensures) ∙ not-false (c .before .before .elements-ok2 .result) (c .before .if2 .left)))
 
 pub elements-read-spec : {M : Type 1} → statement M

@@ -70,8 +70,11 @@ leaf-digest-requires c κs =
     let s = c .before .before .before .before .before .before .before .before .args in
     let a : ℕ = c .before .before .before .before .loop .a in
     let h = row-fits (s .size) a (length (s .indices .now)) (omega arith) in
-    let e = span-length (s .at + s .size * a) (s .size) (s .reply .now) (omega arith) in
-    (subst (λ (k : ℕ). k < 65536) (sym (c .before .before .opened-index .ensures)) (all-at (λ (x : ℕ). x < 65536) 0 (s .indices .now) (c .before .before .before .before .before .before .before .before .pre .0) a (omega arith)), omega arith, part-length 32 a (c .before .before .before .before .loop .out) (omega arith))
+    let e = span-length (s .at + s .size * a) (s .size) (s .reply .now) (omega arith) in (
+      subst (λ (k : ℕ). k < 65536) (sym (c .before .before .opened-index .ensures)) (all-at (λ (x : ℕ). x < 65536) 0 (s .indices .now) (c .before .before .before .before .before .before .before .before .pre .0) a (omega arith)),
+      omega arith,
+      part-length 32 a (c .before .before .before .before .loop .out) (omega arith),
+    )
 
 add-a : tie.Need-add-a Inv-loop μ-loop
 add-a c = search needs
@@ -88,8 +91,10 @@ loop-again c =
       refl,
       omega arith,
       same-len-mid (32 * a) (32 * a + 32 - 32 * a) t r (c .before .before .leaf-digest .kept .1 .1 .0) ∙ c .before .before .before .before .before .before .before .loop .inv .2,
-      row-turn 32 (leafDigestAt (s .at) (s .size) (s .indices .now) (s .reply .now)) (length-leafDigestAt (s .at) (s .size) (s .indices .now) (s .reply .now)) (s .out .now) t r a (c .before .before .before .before .before .before .before .loop .inv .3)
-          (digest-row (s .at) (s .size) (s .indices .now) (s .reply .now) a (c .before .before .before .before .before .opened-index .result .0) r (c .before .before .before .before .before .opened-index .ensures) (c .before .before .leaf-digest .ensures)),
+      row-turn 32 (leafDigestAt (s .at) (s .size) (s .indices .now) (s .reply .now)) (length-leafDigestAt (s .at) (s .size) (s .indices .now) (s .reply .now)) (s .out .now) t r a
+          (c .before .before .before .before .before .before .before .loop .inv .3)
+          (digest-row (s .at) (s .size) (s .indices .now) (s .reply .now) a (c .before .before .before .before .before .opened-index .result .0) r (c .before .before .before .before .before .opened-index .ensures)
+          (c .before .before .leaf-digest .ensures)),
     )
 
 same-length : tie.Need-same-length Inv-loop μ-loop

@@ -45,7 +45,8 @@ root-of-requires c κs = search needs
 returns : tie.Need-returns
 returns c =
     let s = c .before .before .before .before .before .before .before .before .before .args in
-    root-read (s .h) (s .at) (s .size) (s .indices .now) (s .reply .now) (c .before .before .before .before .leaf-digests .last .1 .1 .1 .1 .0) (drop (32 * length (s .indices .now)) (c .before .before .before .before .before .before .blank-digests .result)) (c .root-of .result)
+    root-read (s .h) (s .at) (s .size) (s .indices .now) (s .reply .now) (c .before .before .before .before .leaf-digests .last .1 .1 .1 .1 .0)
+    (drop (32 * length (s .indices .now)) (c .before .before .before .before .before .before .blank-digests .result)) (c .root-of .result)
     (c .before .before .before .before .leaf-digests .ensures) (c .root-of .ensures)
 
 pub reply-root-spec : {M : Type 1} → statement M

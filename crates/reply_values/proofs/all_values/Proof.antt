@@ -16,7 +16,8 @@ use Rattle.reply_values.proofs.all_values.Tie as tie
 
 abbrev Inv-loop : tie.InvT-loop
 Inv-loop mu nu w at points reply answer₀ values₀ size p₀ p-end answer values p =
-    (p-end ≡ length points) × (p ≤ length points) × (length answer ≡ length answer₀) × (length values ≡ length values₀) × (values ≡ rowsOf (valuesAt mu nu w (length answer₀) points (words (length answer₀ * length points) (drop at reply))) p ++ drop (w * p) values₀)
+    (p-end ≡ length points) × (p ≤ length points) × (length answer ≡ length answer₀) × (length values ≡ length values₀) ×
+    (values ≡ rowsOf (valuesAt mu nu w (length answer₀) points (words (length answer₀ * length points) (drop at reply))) p ++ drop (w * p) values₀)
 
 abbrev μ-loop : tie.MeasureT-loop
 μ-loop mu nu w at points reply answer₀ values₀ size p₀ p-end answer values p = p-end - p
@@ -65,7 +66,8 @@ read-words-requires c κs =
 
 mul-point-values : tie.Need-mul-point-values Inv-loop μ-loop
 mul-point-values c =
-    let h = row-fits (c .before .before .before .before .before .before .before .before .before .before .before .before .before .args .w) (c .before .before .before .before .before .before .before .before .loop .p) (length (c .before .before .before .before .before .before .before .before .before .before .before .before .before .args .points .now)) (omega arith) in search needs
+    let h = row-fits (c .before .before .before .before .before .before .before .before .before .before .before .before .before .args .w) (c .before .before .before .before .before .before .before .before .loop .p)
+    (length (c .before .before .before .before .before .before .before .before .before .before .before .before .before .args .points .now)) (omega arith) in search needs
 
 sub-point-values : tie.Need-sub-point-values Inv-loop μ-loop
 sub-point-values c = search needs
@@ -75,7 +77,8 @@ part-point-values-start c = search needs
 
 part-point-values-end : tie.Need-part-point-values-end Inv-loop μ-loop
 part-point-values-end c =
-    let h = row-fits (c .before .before .before .before .before .before .before .before .before .before .before .before .before .args .w) (c .before .before .before .before .before .before .before .before .loop .p) (length (c .before .before .before .before .before .before .before .before .before .before .before .before .before .args .points .now)) (omega arith) in search needs
+    let h = row-fits (c .before .before .before .before .before .before .before .before .before .before .before .before .before .args .w) (c .before .before .before .before .before .before .before .before .loop .p)
+    (length (c .before .before .before .before .before .before .before .before .before .before .before .before .before .args .points .now)) (omega arith) in search needs
 
 point-values-requires : tie.Need-point-values-requires Inv-loop μ-loop
 point-values-requires c κs =
@@ -107,10 +110,16 @@ loop-again c =
       refl,
       omega arith,
       c .before .before .before .before .before .before .before .read-words .kept .1 .1 .1 .0 ∙ c .before .before .before .before .before .before .before .before .before .before .before .before .loop .inv .2,
-      same-len-mid (w * p) (w * p + w - w * p) (c .before .before .before .before .before .before .before .before .before .before .before .before .loop .values) r (c .before .before .point-values .kept .1 .1 .1 .0) ∙ c .before .before .before .before .before .before .before .before .before .before .before .before .loop .inv .3,
-      row-turn w (valuesAt (s .mu) (s .nu) w n ps as′) (length-valuesAt (s .mu) (s .nu) w n ps as′) (s .values .now) (c .before .before .before .before .before .before .before .before .before .before .before .before .loop .values) r p (c .before .before .before .before .before .before .before .before .before .before .before .before .loop .inv .4)
-          (values-is (s .mu) (s .nu) w n ps as′ p (c .before .before .before .before .before .before .before .before .before .power .result .0) _ a r (part-length w p (c .before .before .before .before .before .before .before .before .before .before .before .before .loop .values) (omega arith)) (c .before .before .before .before .before .before .before .before .before .power .ensures)
-          (answer-read n (length ps) (s .at) p (s .reply .now) (c .before .before .before .before .before .before .before .before .before .before .before .before .loop .answer) a (omega arith) (c .before .before .before .before .before .before .before .before .before .before .before .before .loop .inv .2) (c .before .before .before .before .before .before .before .read-words .ensures)) (c .before .before .point-values .ensures)),
+      same-len-mid (w * p) (w * p + w - w * p) (c .before .before .before .before .before .before .before .before .before .before .before .before .loop .values) r (c .before .before .point-values .kept .1 .1 .1 .0) ∙
+          c .before .before .before .before .before .before .before .before .before .before .before .before .loop .inv .3,
+      row-turn w (valuesAt (s .mu) (s .nu) w n ps as′) (length-valuesAt (s .mu) (s .nu) w n ps as′) (s .values .now)
+          (c .before .before .before .before .before .before .before .before .before .before .before .before .loop .values) r p (c .before .before .before .before .before .before .before .before .before .before .before .before .loop .inv .4)
+          (values-is (s .mu) (s .nu) w n ps as′ p (c .before .before .before .before .before .before .before .before .before .power .result .0) _ a r
+          (part-length w p (c .before .before .before .before .before .before .before .before .before .before .before .before .loop .values) (omega arith))
+          (c .before .before .before .before .before .before .before .before .before .power .ensures)
+          (answer-read n (length ps) (s .at) p (s .reply .now) (c .before .before .before .before .before .before .before .before .before .before .before .before .loop .answer) a (omega arith)
+          (c .before .before .before .before .before .before .before .before .before .before .before .before .loop .inv .2) (c .before .before .before .before .before .before .before .read-words .ensures))
+          (c .before .before .point-values .ensures)),
     )
 
 same-length : tie.Need-same-length Inv-loop μ-loop

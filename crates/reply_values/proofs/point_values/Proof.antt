@@ -1,7 +1,7 @@
 -- `reply_values::point_values` meets its contract: after i turns the first i values are written.
 use mathlib.Core.Path.{_≡_, refl, _∙_, ap}
 use mathlib.Core.List.{_++_}
-use Prim.Native.Nat.{_+_, _-_, _≤_}
+use Prim.Native.Nat.{_-_, _≤_}
 use lib.ListN.{length, drop, length-set}
 use Rattle.reply_values.specs.Values.{pointValues}
 use Rattle.lists.specs.Parts.{row-fits}
@@ -66,7 +66,8 @@ loop-again c =
       refl,
       omega arith,
       simp length-set (c .before .before .before .loop .inv .2),
-      point-turn (s .nu) (s .base .0) (s .answer .now) (s .out .now) (c .before .before .before .loop .out) (c .before .before .before .loop .i) (c .evaluate .result .0) (omega arith) (c .before .before .before .loop .inv .3) (c .evaluate .ensures),
+      point-turn (s .nu) (s .base .0) (s .answer .now) (s .out .now) (c .before .before .before .loop .out) (c .before .before .before .loop .i) (c .evaluate .result .0) (omega arith) (c .before .before .before .loop .inv .3)
+          (c .evaluate .ensures),
     )
 
 same-length : tie.Need-same-length Inv-loop μ-loop

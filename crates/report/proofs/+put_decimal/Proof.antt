@@ -87,7 +87,8 @@ put-decimal-put-byte-requires-2 : (t : ℕ) → put-decimal-lts.Need-put-byte-re
 ) (put-decimal-at t) put-decimal.Post
 put-decimal-put-byte-requires-2 t c κs =
     let s = c .before .before .before .before .before .before .before .args in
-    room-for-last (s .out .now) (s .at) (s .n) (c .before .before .before .put-decimal .result) (c .before .before .before .put-decimal .last .0) (c .before .before .before .before .before .if1 .left) (omega arith) (c .before .before .before .before .before .before .before .pre .1) (c .before .before .before .put-decimal .ensures)
+    room-for-last (s .out .now) (s .at) (s .n) (c .before .before .before .put-decimal .result) (c .before .before .before .put-decimal .last .0) (c .before .before .before .before .before .if1 .left) (omega arith)
+    (c .before .before .before .before .before .before .before .pre .1) (c .before .before .before .put-decimal .ensures)
 
 put-decimal-same-length-2 : (t : ℕ) → put-decimal-lts.Need-same-length-2 (
   put-byte-reads.Asked,
@@ -105,7 +106,9 @@ put-decimal-returns-2 : (t : ℕ) → put-decimal-lts.Need-returns-2 (
 ) (put-decimal-at t) put-decimal.Post
 put-decimal-returns-2 t c =
     let s = c .before .before .before .before .before .before .before .before .before .before .args in
-    last-written (s .out .now) (s .at) (s .n) (c .before .before .before .before .before .before .put-decimal .result) (c .before .before .before .before .before .before .put-decimal .last .0) (c .before .before .before .before .before .before .before .before .if1 .left) (omega arith) (c .before .before .before .before .before .before .before .before .before .before .pre .1) (c .before .before .before .before .before .before .put-decimal .ensures) _ (c .before .before .put-byte2 .ensures)
+    last-written (s .out .now) (s .at) (s .n) (c .before .before .before .before .before .before .put-decimal .result) (c .before .before .before .before .before .before .put-decimal .last .0)
+    (c .before .before .before .before .before .before .before .before .if1 .left) (omega arith) (c .before .before .before .before .before .before .before .before .before .before .pre .1)
+    (c .before .before .before .before .before .before .put-decimal .ensures) _ (c .before .before .put-byte2 .ensures)
 
 pub +put-decimal-spec : {M : Type 1} → statement M
 +put-decimal-spec = close μ-put-decimal λ t. put-decimal-lts.spec (

@@ -19,7 +19,8 @@ same-length-2 c = search needs
 returns : tie.Need-returns
 returns c =
     let s = c .before .before .before .before .before .before .before .before .before .before .before .before .before .args in
-    text-checked (s .out .now) (s .question .now) (s .reply .now) (s .m) (s .w) (s .values .now) (c .before .before .before .before .before .before .before .check .result) (c .before .before .before .before .before .before .before .check .last .1 .1 .0) _ (c .before .before .before .before .before .before .before .check .ensures) (c .before .before .put-text .ensures)
+    text-checked (s .out .now) (s .question .now) (s .reply .now) (s .m) (s .w) (s .values .now) (c .before .before .before .before .before .before .before .check .result)
+    (c .before .before .before .before .before .before .before .check .last .1 .1 .0) _ (c .before .before .before .before .before .before .before .check .ensures) (c .before .before .put-text .ensures)
 
 pub put-checked-spec : {M : Type 1} → statement M
 put-checked-spec =

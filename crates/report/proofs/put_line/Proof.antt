@@ -33,7 +33,12 @@ put-decimal-requires-2 c κs =
     let s = c .before .before .before .before .before .before .before .before .before .before .args in
     let w1 = c .before .before .before .before .before .before .before .put-decimal in
     let w2 = c .before .before .before .put-byte in
-    omega (arith, after-first (s .out .now) (s .at) (s .p) (s .i) (s .v) (c .before .before .before .before .before .before .before .before .before .before .pre .0) (c .before .before .before .before .before .before .before .before .before .before .pre .2) (w1 .result) (w1 .last .0) (w1 .ensures) (w2 .result) (w2 .last .0) (w2 .ensures), decimal-few (s .i + 1))
+    omega (
+      arith,
+      after-first (s .out .now) (s .at) (s .p) (s .i) (s .v) (c .before .before .before .before .before .before .before .before .before .before .pre .0)
+          (c .before .before .before .before .before .before .before .before .before .before .pre .2) (w1 .result) (w1 .last .0) (w1 .ensures) (w2 .result) (w2 .last .0) (w2 .ensures),
+      decimal-few (s .i + 1),
+    )
 
 put-byte-requires-2 : tie.Need-put-byte-requires-2
 put-byte-requires-2 c κs =
@@ -41,7 +46,12 @@ put-byte-requires-2 c κs =
     let w1 = c .before .before .before .before .before .before .before .before .before .before .before .put-decimal in
     let w2 = c .before .before .before .before .before .before .before .put-byte in
     let w3 = c .before .before .before .put-decimal2 in
-    omega (arith, after-polynomial (s .out .now) (s .at) (s .p) (s .i) (s .v) (c .before .before .before .before .before .before .before .before .before .before .before .before .before .before .pre .0) (c .before .before .before .before .before .before .before .before .before .before .before .before .before .before .pre .2) (w1 .result) (w1 .last .0) (w1 .ensures) (w2 .result) (w2 .last .0) (w2 .ensures) (w3 .result) (w3 .last .0) (w3 .ensures))
+    omega (
+      arith,
+      after-polynomial (s .out .now) (s .at) (s .p) (s .i) (s .v) (c .before .before .before .before .before .before .before .before .before .before .before .before .before .before .pre .0)
+          (c .before .before .before .before .before .before .before .before .before .before .before .before .before .before .pre .2) (w1 .result) (w1 .last .0) (w1 .ensures) (w2 .result) (w2 .last .0) (w2 .ensures) (w3 .result)
+          (w3 .last .0) (w3 .ensures),
+    )
 
 put-decimal-requires-3 : tie.Need-put-decimal-requires-3
 put-decimal-requires-3 c κs =
@@ -50,7 +60,13 @@ put-decimal-requires-3 c κs =
     let w2 = c .before .before .before .before .before .before .before .before .before .before .before .put-byte in
     let w3 = c .before .before .before .before .before .before .before .put-decimal2 in
     let w4 = c .before .before .before .put-byte2 in
-    omega (arith, after-second (s .out .now) (s .at) (s .p) (s .i) (s .v) (c .before .before .before .before .before .before .before .before .before .before .before .before .before .before .before .before .before .before .pre .0) (c .before .before .before .before .before .before .before .before .before .before .before .before .before .before .before .before .before .before .pre .2) (w1 .result) (w1 .last .0) (w1 .ensures) (w2 .result) (w2 .last .0) (w2 .ensures) (w3 .result) (w3 .last .0) (w3 .ensures) (w4 .result) (w4 .last .0) (w4 .ensures), decimal-few (s .v))
+    omega (
+      arith,
+      after-second (s .out .now) (s .at) (s .p) (s .i) (s .v) (c .before .before .before .before .before .before .before .before .before .before .before .before .before .before .before .before .before .before .pre .0)
+          (c .before .before .before .before .before .before .before .before .before .before .before .before .before .before .before .before .before .before .pre .2) (w1 .result) (w1 .last .0) (w1 .ensures) (w2 .result) (w2 .last .0)
+          (w2 .ensures) (w3 .result) (w3 .last .0) (w3 .ensures) (w4 .result) (w4 .last .0) (w4 .ensures),
+      decimal-few (s .v),
+    )
 
 put-byte-requires-3 : tie.Need-put-byte-requires-3
 put-byte-requires-3 c κs =
@@ -60,7 +76,12 @@ put-byte-requires-3 c κs =
     let w3 = c .before .before .before .before .before .before .before .before .before .before .before .put-decimal2 in
     let w4 = c .before .before .before .before .before .before .before .put-byte2 in
     let w5 = c .before .before .before .put-decimal3 in
-    omega (arith, after-value (s .out .now) (s .at) (s .p) (s .i) (s .v) (c .before .before .before .before .before .before .before .before .before .before .before .before .before .before .before .before .before .before .before .before .before .before .pre .0) (c .before .before .before .before .before .before .before .before .before .before .before .before .before .before .before .before .before .before .before .before .before .before .pre .2) (w1 .result) (w1 .last .0) (w1 .ensures) (w2 .result) (w2 .last .0) (w2 .ensures) (w3 .result) (w3 .last .0) (w3 .ensures) (w4 .result) (w4 .last .0) (w4 .ensures) (w5 .result) (w5 .last .0) (w5 .ensures))
+    omega (
+      arith,
+      after-value (s .out .now) (s .at) (s .p) (s .i) (s .v) (c .before .before .before .before .before .before .before .before .before .before .before .before .before .before .before .before .before .before .before .before .before .before .pre .0)
+          (c .before .before .before .before .before .before .before .before .before .before .before .before .before .before .before .before .before .before .before .before .before .before .pre .2) (w1 .result) (w1 .last .0)
+          (w1 .ensures) (w2 .result) (w2 .last .0) (w2 .ensures) (w3 .result) (w3 .last .0) (w3 .ensures) (w4 .result) (w4 .last .0) (w4 .ensures) (w5 .result) (w5 .last .0) (w5 .ensures),
+    )
 
 same-length : tie.Need-same-length
 same-length c = search needs
@@ -73,7 +94,9 @@ returns c =
     let w3 = c .before .before .before .before .before .before .before .before .before .before .before .before .before .before .put-decimal2 in
     let w4 = c .before .before .before .before .before .before .before .before .before .before .put-byte2 in
     let w5 = c .before .before .before .before .before .before .put-decimal3 in
-    whole-line (s .out .now) (s .at) (s .p) (s .i) (s .v) (c .before .before .before .before .before .before .before .before .before .before .before .before .before .before .before .before .before .before .before .before .before .before .before .before .before .pre .0) (c .before .before .before .before .before .before .before .before .before .before .before .before .before .before .before .before .before .before .before .before .before .before .before .before .before .pre .2) (w1 .result) (w1 .last .0) (w1 .ensures) (w2 .result) (w2 .last .0) (w2 .ensures) (w3 .result) (w3 .last .0) (w3 .ensures) (w4 .result) (w4 .last .0) (w4 .ensures) (w5 .result) (w5 .last .0) (w5 .ensures) _ (c .before .before .put-byte3 .ensures)
+    whole-line (s .out .now) (s .at) (s .p) (s .i) (s .v) (c .before .before .before .before .before .before .before .before .before .before .before .before .before .before .before .before .before .before .before .before .before .before .before .before .before .pre .0)
+    (c .before .before .before .before .before .before .before .before .before .before .before .before .before .before .before .before .before .before .before .before .before .before .before .before .before .pre .2) (w1 .result)
+    (w1 .last .0) (w1 .ensures) (w2 .result) (w2 .last .0) (w2 .ensures) (w3 .result) (w3 .last .0) (w3 .ensures) (w4 .result) (w4 .last .0) (w4 .ensures) (w5 .result) (w5 .last .0) (w5 .ensures) _ (c .before .before .put-byte3 .ensures)
 
 pub put-line-spec : {M : Type 1} → statement M
 put-line-spec =

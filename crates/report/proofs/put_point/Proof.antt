@@ -20,7 +20,12 @@ mul-first : tie.Need-mul-first Inv-loop μ-loop
 mul-first c = search needs
 
 loop-holds : tie.Need-loop-holds Inv-loop μ-loop
-loop-holds c = (search needs, written-none (c .before .before .args .out .now) (c .before .before .args .at) ∙ ap (written (c .before .before .args .out .now) (c .before .before .args .at)) (point-none (c .before .before .args .p) (c .before .before .args .w) (c .before .before .args .values .now)), search needs)
+loop-holds c = (
+  search needs,
+  written-none (c .before .before .args .out .now) (c .before .before .args .at) ∙ ap (written (c .before .before .args .out .now) (c .before .before .args .at))
+      (point-none (c .before .before .args .p) (c .before .before .args .w) (c .before .before .args .values .now)),
+  search needs,
+)
 
 add-put-line : tie.Need-add-put-line Inv-loop μ-loop
 add-put-line c = search needs
@@ -47,8 +52,12 @@ loop-less c = search needs
 loop-again : tie.Need-loop-again Inv-loop μ-loop
 loop-again c =
     let s = c .before .before .before .before .before .before .before .before .before .args in
-    let l = c .before .before .before .before .before .before .loop in
-    (omega arith, point-turn (s .out .now) (s .at) (s .p) (s .w) (s .values .now) (l .i) (l .next) (l .out) (omega arith) (omega arith) (c .before .before .before .before .before .before .before .before .before .pre .3) (l .inv .1) _ (c .before .before .put-line .ensures), c .before .before .put-line .kept .0 ∙ l .inv .2)
+    let l = c .before .before .before .before .before .before .loop in (
+      omega arith,
+      point-turn (s .out .now) (s .at) (s .p) (s .w) (s .values .now) (l .i) (l .next) (l .out) (omega arith) (omega arith) (c .before .before .before .before .before .before .before .before .before .pre .3)
+          (l .inv .1) _ (c .before .before .put-line .ensures),
+      c .before .before .put-line .kept .0 ∙ l .inv .2,
+    )
 
 same-length : tie.Need-same-length Inv-loop μ-loop
 same-length c = search needs

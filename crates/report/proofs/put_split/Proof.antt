@@ -47,12 +47,19 @@ part-values-start c = search needs
 
 part-values-end : tie.Need-part-values-end
 part-values-end c =
-    let h = few-values (c .before .before .before .before .before .before .before .before .args .input .now) (c .before .before .before .before .before .before .before .before .args .s) (c .before .before .before .before .before .before .before .before .args .m) (c .before .before .before .before .before .before .before .before .pre .0) in omega arith
+    let h = few-values (c .before .before .before .before .before .before .before .before .args .input .now) (c .before .before .before .before .before .before .before .before .args .s)
+    (c .before .before .before .before .before .before .before .before .args .m) (c .before .before .before .before .before .before .before .before .pre .0) in omega arith
 
 put-checked-requires : tie.Need-put-checked-requires
 put-checked-requires c κs =
-    let h = few-values (c .before .before .before .before .before .before .before .before .before .args .input .now) (c .before .before .before .before .before .before .before .before .before .args .s) (c .before .before .before .before .before .before .before .before .before .args .m) (c .before .before .before .before .before .before .before .before .before .pre .0) in
-    (h .0, h .1, front-length (c .before .before .before .before .before .before .before .before .before .args .s .w * c .before .before .before .before .before .before .before .before .before .args .m) (c .before .before .before .before .blank .result) (omega arith), search needs)
+    let h = few-values (c .before .before .before .before .before .before .before .before .before .args .input .now) (c .before .before .before .before .before .before .before .before .before .args .s)
+    (c .before .before .before .before .before .before .before .before .before .args .m) (c .before .before .before .before .before .before .before .before .before .pre .0) in (
+      h .0,
+      h .1,
+      front-length (c .before .before .before .before .before .before .before .before .before .args .s .w * c .before .before .before .before .before .before .before .before .before .args .m)
+          (c .before .before .before .before .blank .result) (omega arith),
+      search needs,
+    )
 
 same-length : tie.Need-same-length
 same-length c = search needs
@@ -60,9 +67,14 @@ same-length c = search needs
 returns : tie.Need-returns
 returns c =
     let s = c .before .before .before .before .before .before .before .before .before .before .before .before .before .args in
-    let h = few-values (c .before .before .before .before .before .before .before .before .before .before .before .before .before .args .input .now) (c .before .before .before .before .before .before .before .before .before .before .before .before .before .args .s) (c .before .before .before .before .before .before .before .before .before .before .before .before .before .args .m) (c .before .before .before .before .before .before .before .before .before .before .before .before .before .pre .0) in
-    printed-split (s .out .now) (s .input .now) (s .s) (s .m) (c .before .before .before .before .before .before .before .before .before .before .question-end .result) (take (s .s .w * s .m - 0) (c .before .before .before .before .before .before .before .before .blank .result)) _ (c .before .before .before .before .before .before .before .before .before .before .before .before .before .pre .1) (c .before .before .before .before .before .before .before .before .before .before .before .before .before .pre .0)
-    (c .before .before .before .before .before .before .before .before .before .before .question-end .ensures) (front-length (s .s .w * s .m) (c .before .before .before .before .before .before .before .before .blank .result) (omega arith)) (c .before .before .before .put-checked .ensures)
+    let h = few-values (c .before .before .before .before .before .before .before .before .before .before .before .before .before .args .input .now)
+    (c .before .before .before .before .before .before .before .before .before .before .before .before .before .args .s)
+    (c .before .before .before .before .before .before .before .before .before .before .before .before .before .args .m) (c .before .before .before .before .before .before .before .before .before .before .before .before .before .pre .0) in
+    printed-split (s .out .now) (s .input .now) (s .s) (s .m) (c .before .before .before .before .before .before .before .before .before .before .question-end .result)
+    (take (s .s .w * s .m - 0) (c .before .before .before .before .before .before .before .before .blank .result)) _
+    (c .before .before .before .before .before .before .before .before .before .before .before .before .before .pre .1) (c .before .before .before .before .before .before .before .before .before .before .before .before .before .pre .0)
+    (c .before .before .before .before .before .before .before .before .before .before .question-end .ensures)
+    (front-length (s .s .w * s .m) (c .before .before .before .before .before .before .before .before .blank .result) (omega arith)) (c .before .before .before .put-checked .ensures)
 
 pub put-split-spec : {M : Type 1} → statement M
 put-split-spec =

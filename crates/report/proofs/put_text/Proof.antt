@@ -23,7 +23,8 @@ returns : tie.Need-returns
 returns c =
     let s = c .before .before .before .before .before .before .before .before .before .before .before .args in
     let w = c .before .before .before .before .before .before .before .put-verdict in
-    accepted-text (s .out .now) (s .verdict) (valueLines (s .m) (s .w) (s .values .now)) (c .before .before .before .before .before .before .before .before .before .before .before .pre .3) (w .result) (w .last .0) (w .ensures) (c .before .before .before .before .if1 .taken) _ (c .before .before .put-values .ensures)
+    accepted-text (s .out .now) (s .verdict) (valueLines (s .m) (s .w) (s .values .now)) (c .before .before .before .before .before .before .before .before .before .before .before .pre .3) (w .result) (w .last .0) (w .ensures)
+    (c .before .before .before .before .if1 .taken) _ (c .before .before .put-values .ensures)
 
 same-length-2 : tie.Need-same-length-2
 same-length-2 c = search needs

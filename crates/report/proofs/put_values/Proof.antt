@@ -38,8 +38,12 @@ loop-less c = search needs
 loop-again : tie.Need-loop-again Inv-loop μ-loop
 loop-again c =
     let s = c .before .before .before .before .before .before .before .before .args in
-    let l = c .before .before .before .before .before .loop in
-    (omega arith, values-turn (s .out .now) (s .at) (s .m) (s .w) (s .values .now) (l .p) (l .next) (l .out) (c .before .before .before .before .before .before .before .before .pre .0) (omega arith) (c .before .before .before .before .before .before .before .before .pre .3) (l .inv .1) _ (c .before .before .put-point .ensures), c .before .before .put-point .kept .0 ∙ l .inv .2)
+    let l = c .before .before .before .before .before .loop in (
+      omega arith,
+      values-turn (s .out .now) (s .at) (s .m) (s .w) (s .values .now) (l .p) (l .next) (l .out) (c .before .before .before .before .before .before .before .before .pre .0) (omega arith)
+          (c .before .before .before .before .before .before .before .before .pre .3) (l .inv .1) _ (c .before .before .put-point .ensures),
+      c .before .before .put-point .kept .0 ∙ l .inv .2,
+    )
 
 same-length : tie.Need-same-length Inv-loop μ-loop
 same-length c = search needs

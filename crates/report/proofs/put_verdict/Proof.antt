@@ -15,12 +15,22 @@ put-bytes-requires c κs = search needs
 put-decimal-requires : tie.Need-put-decimal-requires
 put-decimal-requires c κs =
     let s = c .before .before .before .before .before .before .before .args in
-    omega (arith, after-head (s .out .now) (s .verdict) (c .before .before .before .before .before .before .before .pre) (c .before .before .before .put-bytes .last .0) (c .before .before .before .put-bytes .ensures), decimal-few (s .verdict))
+    omega (
+      arith,
+      after-head (s .out .now) (s .verdict) (c .before .before .before .before .before .before .before .pre) (c .before .before .before .put-bytes .last .0) (c .before .before .before .put-bytes .ensures),
+      decimal-few
+          (s .verdict),
+    )
 
 put-byte-requires : tie.Need-put-byte-requires
 put-byte-requires c κs =
     let s = c .before .before .before .before .before .before .before .before .before .before .before .args in
-    omega (arith, after-number (s .out .now) (s .verdict) (c .before .before .before .before .before .before .before .before .before .before .before .pre) (c .before .before .before .before .before .before .before .put-bytes .last .0) (c .before .before .before .before .before .before .before .put-bytes .ensures) (c .before .before .before .put-decimal .result) (c .before .before .before .put-decimal .last .0) (c .before .before .before .put-decimal .ensures))
+    omega (
+      arith,
+      after-number (s .out .now) (s .verdict) (c .before .before .before .before .before .before .before .before .before .before .before .pre)
+          (c .before .before .before .before .before .before .before .put-bytes .last .0) (c .before .before .before .before .before .before .before .put-bytes .ensures) (c .before .before .before .put-decimal .result)
+          (c .before .before .before .put-decimal .last .0) (c .before .before .before .put-decimal .ensures),
+    )
 
 same-length : tie.Need-same-length
 same-length c = search needs
@@ -28,7 +38,10 @@ same-length c = search needs
 returns : tie.Need-returns
 returns c =
     let s = c .before .before .before .before .before .before .before .before .before .before .before .before .before .before .args in
-    whole-first (s .out .now) (s .verdict) (c .before .before .before .before .before .before .before .before .before .before .before .before .before .before .pre) (c .before .before .before .before .before .before .before .before .before .before .put-bytes .last .0) (c .before .before .before .before .before .before .before .before .before .before .put-bytes .ensures) (c .before .before .before .before .before .before .put-decimal .result) (c .before .before .before .before .before .before .put-decimal .last .0) (c .before .before .before .before .before .before .put-decimal .ensures) _ (c .before .before .put-byte .ensures)
+    whole-first (s .out .now) (s .verdict) (c .before .before .before .before .before .before .before .before .before .before .before .before .before .before .pre)
+    (c .before .before .before .before .before .before .before .before .before .before .put-bytes .last .0) (c .before .before .before .before .before .before .before .before .before .before .put-bytes .ensures)
+    (c .before .before .before .before .before .before .put-decimal .result) (c .before .before .before .before .before .before .put-decimal .last .0) (c .before .before .before .before .before .before .put-decimal .ensures) _
+    (c .before .before .put-byte .ensures)
 
 pub put-verdict-spec : {M : Type 1} → statement M
 put-verdict-spec =

@@ -40,7 +40,8 @@ returns-2 c =
     let s = c .before .before .before .before .before .before .before .before .before .before .args in
     c .before .before .put-verdict .ensures
     ∙ written-front (s .out .now) (text (c .before .before .before .before .before .head2 .given .0 .0) [])
-    ∙ ap (overwritten (s .out .now)) (printed-number (s .input .now) (c .before .before .before .before .before .head2 .given .0 .0) (c .before .before .before .before .before .before .before .before .before .before .pre .0) (sym (c .before .before .before .before .before .before .before .header .ensures) ∙ c .before .before .before .before .before .head2 .given .1))
+    ∙ ap (overwritten (s .out .now)) (printed-number (s .input .now) (c .before .before .before .before .before .head2 .given .0 .0) (c .before .before .before .before .before .before .before .before .before .before .pre .0)
+    (sym (c .before .before .before .before .before .before .before .header .ensures) ∙ c .before .before .before .before .before .head2 .given .1))
 
 pub report-spec : {M : Type 1} → statement M
 report-spec =

@@ -51,7 +51,10 @@ add-low : tie.Need-add-low Inv-loop μ-loop
 add-low c =
     let s = c .before .before .before .before .before .before .before .before in
     let n : ℕ = length (s .args .row .now) in
-    record { fits = low-fits _ (c .before .product .result) (spare-at (s .args .low .now) (c .before .before .before .before .loop .low) (c .before .before .before .before .loop .i) n (omega arith) (omega arith) (c .before .before .before .before .loop .inv .5) (s .pre .2)) }
+    record {
+      fits = low-fits _ (c .before .product .result) (spare-at (s .args .low .now) (c .before .before .before .before .loop .low) (c .before .before .before .before .loop .i) n (omega arith) (omega arith)
+          (c .before .before .before .before .loop .inv .5) (s .pre .2));
+    }
 
 slice-write-low : tie.Need-slice-write-low Inv-loop μ-loop
 slice-write-low c = search needs
@@ -66,7 +69,10 @@ add-high : tie.Need-add-high Inv-loop μ-loop
 add-high c =
     let s = c .before .before .before .before .before .before .before .before .before in
     let n : ℕ = length (s .args .row .now) in
-    record { fits = high-fits _ (c .before .before .product .result) (spare-at (s .args .high .now) (c .before .before .before .before .before .loop .high) (c .before .before .before .before .before .loop .i) n (omega arith) (omega arith) (c .before .before .before .before .before .loop .inv .7) (s .pre .3)) (search needs) }
+    record {
+      fits = high-fits _ (c .before .before .product .result) (spare-at (s .args .high .now) (c .before .before .before .before .before .loop .high) (c .before .before .before .before .before .loop .i) n (omega arith)
+          (omega arith) (c .before .before .before .before .before .loop .inv .7) (s .pre .3)) (search needs);
+    }
 
 slice-write-high : tie.Need-slice-write-high Inv-loop μ-loop
 slice-write-high c = search needs
@@ -92,7 +98,8 @@ loop-again c =
       simp length-set (loop .inv .3),
       fill-next (lowAdded (s .c) (s .row .now) (s .low .now)) (loop .low) 0 i l (omega arith) (low-next (s .c) (s .row .now) (s .low .now) (loop .low) i n p (omega arith) (loop .inv .5) (c .before .before .product .ensures)) (loop .inv .4),
       fill-rest (entryOf (s .low .now)) (loop .low) i n l (loop .inv .5),
-      fill-next (highAdded (s .c) (s .row .now) (s .high .now)) (loop .high) 0 i h (omega arith) (high-next (s .c) (s .row .now) (s .high .now) (loop .high) i n p (omega arith) (loop .inv .7) (c .before .before .product .ensures)) (loop .inv .6),
+      fill-next (highAdded (s .c) (s .row .now) (s .high .now)) (loop .high) 0 i h (omega arith)
+          (high-next (s .c) (s .row .now) (s .high .now) (loop .high) i n p (omega arith) (loop .inv .7) (c .before .before .product .ensures)) (loop .inv .6),
       fill-rest (entryOf (s .high .now)) (loop .high) i n h (loop .inv .7),
       products-next (s .c) (s .row .now) i p (c .before .before .product .ensures) (search needs) (loop .inv .8),
     )

@@ -25,13 +25,15 @@ loop-holds c =
 mul-from : tie.Need-mul-from Inv-loop μ-loop
 mul-from c =
     let r = row-fits (length (c .before .before .before .before .before .before .args .low .now)) (c .before .loop .j) (length (c .before .before .before .before .before .before .args .weights .now)) (omega arith) in
-    let b : length (c .before .before .before .before .before .before .args .low .now) * length (c .before .before .before .before .before .before .args .weights .now) ≤ length (c .before .before .before .before .before .before .args .rows .now) = c .before .before .before .before .before .before .pre .1 in
+    let b : length (c .before .before .before .before .before .before .args .low .now) * length (c .before .before .before .before .before .before .args .weights .now) ≤ length
+    (c .before .before .before .before .before .before .args .rows .now) = c .before .before .before .before .before .before .pre .1 in
     search needs
 
 add-to : tie.Need-add-to Inv-loop μ-loop
 add-to c =
     let r = row-fits (length (c .before .before .before .before .before .before .args .low .now)) (c .before .loop .j) (length (c .before .before .before .before .before .before .args .weights .now)) (omega arith) in
-    let b : length (c .before .before .before .before .before .before .args .low .now) * length (c .before .before .before .before .before .before .args .weights .now) ≤ length (c .before .before .before .before .before .before .args .rows .now) = c .before .before .before .before .before .before .pre .1 in
+    let b : length (c .before .before .before .before .before .before .args .low .now) * length (c .before .before .before .before .before .before .args .weights .now) ≤ length
+    (c .before .before .before .before .before .before .args .rows .now) = c .before .before .before .before .before .before .pre .1 in
     search needs
 
 mul-add-multiple : tie.Need-mul-add-multiple Inv-loop μ-loop
@@ -43,7 +45,8 @@ shared-slice-read-add-multiple c = search needs
 mul-add-multiple-2 : tie.Need-mul-add-multiple-2 Inv-loop μ-loop
 mul-add-multiple-2 c =
     let r = row-fits (length (c .before .before .before .before .before .before .before .args .low .now)) (c .before .before .loop .j) (length (c .before .before .before .before .before .before .before .args .weights .now)) (omega arith) in
-    let b : length (c .before .before .before .before .before .before .before .args .low .now) * length (c .before .before .before .before .before .before .before .args .weights .now) ≤ length (c .before .before .before .before .before .before .before .args .rows .now) = c .before .before .before .before .before .before .before .pre .1 in
+    let b : length (c .before .before .before .before .before .before .before .args .low .now) * length (c .before .before .before .before .before .before .before .args .weights .now) ≤ length
+    (c .before .before .before .before .before .before .before .args .rows .now) = c .before .before .before .before .before .before .before .pre .1 in
     search needs
 
 sub-add-multiple : tie.Need-sub-add-multiple Inv-loop μ-loop
@@ -55,7 +58,8 @@ part-add-multiple-start c = search needs
 part-add-multiple-end : tie.Need-part-add-multiple-end Inv-loop μ-loop
 part-add-multiple-end c =
     let r = row-fits (length (c .before .before .before .before .before .before .before .args .low .now)) (c .before .before .loop .j) (length (c .before .before .before .before .before .before .before .args .weights .now)) (omega arith) in
-    let b : length (c .before .before .before .before .before .before .before .args .low .now) * length (c .before .before .before .before .before .before .before .args .weights .now) ≤ length (c .before .before .before .before .before .before .before .args .rows .now) = c .before .before .before .before .before .before .before .pre .1 in
+    let b : length (c .before .before .before .before .before .before .before .args .low .now) * length (c .before .before .before .before .before .before .before .args .weights .now) ≤ length
+    (c .before .before .before .before .before .before .before .args .rows .now) = c .before .before .before .before .before .before .before .pre .1 in
     search needs
 
 add-multiple-requires : tie.Need-add-multiple-requires Inv-loop μ-loop

@@ -54,25 +54,29 @@ array-share-prefix-low : tie.Need-array-share-prefix-low
 array-share-prefix-low c =
     let x : List ℕ = c .before .before .before .before .before .before .blank-sums .result in
     let k : length x ≡ 64 = search needs in
-    lent-fits (length (c .before .before .before .before .before .before .before .before .before .before .args .out .now)) (c .before .before .add-rows .last .1 .1 .0) x (omega (arith, c .before .before .before .before .before .before .before .before .before .before .pre .2)) (c .before .before .add-rows .kept .1 .1 .0)
+    lent-fits (length (c .before .before .before .before .before .before .before .before .before .before .args .out .now)) (c .before .before .add-rows .last .1 .1 .0) x
+    (omega (arith, c .before .before .before .before .before .before .before .before .before .before .pre .2)) (c .before .before .add-rows .kept .1 .1 .0)
 
 slice-aggregate-reduce-sums : tie.Need-slice-aggregate-reduce-sums
 slice-aggregate-reduce-sums c =
     let x : List ℕ = c .before .before .before .before .before .before .before .blank-sums .result in
     let k : length x ≡ 64 = search needs in
-    lent-length (length (c .before .before .before .before .before .before .before .before .before .before .before .args .out .now)) (c .before .before .before .add-rows .last .1 .1 .0) x (omega (arith, c .before .before .before .before .before .before .before .before .before .before .before .pre .2)) (c .before .before .before .add-rows .kept .1 .1 .0)
+    lent-length (length (c .before .before .before .before .before .before .before .before .before .before .before .args .out .now)) (c .before .before .before .add-rows .last .1 .1 .0) x
+    (omega (arith, c .before .before .before .before .before .before .before .before .before .before .before .pre .2)) (c .before .before .before .add-rows .kept .1 .1 .0)
 
 array-share-prefix-high : tie.Need-array-share-prefix-high
 array-share-prefix-high c =
     let x : List ℕ = c .before .before .before .before .before .before .blank-sums2 .result in
     let k : length x ≡ 64 = search needs in
-    lent-fits (length (c .before .before .before .before .before .before .before .before .before .before .before .args .out .now)) (c .before .before .before .add-rows .last .1 .1 .1 .0) x (omega (arith, c .before .before .before .before .before .before .before .before .before .before .before .pre .2)) (c .before .before .before .add-rows .kept .1 .1 .1 .0)
+    lent-fits (length (c .before .before .before .before .before .before .before .before .before .before .before .args .out .now)) (c .before .before .before .add-rows .last .1 .1 .1 .0) x
+    (omega (arith, c .before .before .before .before .before .before .before .before .before .before .before .pre .2)) (c .before .before .before .add-rows .kept .1 .1 .1 .0)
 
 slice-aggregate-reduce-sums-2 : tie.Need-slice-aggregate-reduce-sums-2
 slice-aggregate-reduce-sums-2 c =
     let x : List ℕ = c .before .before .before .before .before .before .before .blank-sums2 .result in
     let k : length x ≡ 64 = search needs in
-    lent-length (length (c .before .before .before .before .before .before .before .before .before .before .before .before .args .out .now)) (c .before .before .before .before .add-rows .last .1 .1 .1 .0) x (omega (arith, c .before .before .before .before .before .before .before .before .before .before .before .before .pre .2)) (c .before .before .before .before .add-rows .kept .1 .1 .1 .0)
+    lent-length (length (c .before .before .before .before .before .before .before .before .before .before .before .before .args .out .now)) (c .before .before .before .before .add-rows .last .1 .1 .1 .0) x
+    (omega (arith, c .before .before .before .before .before .before .before .before .before .before .before .before .pre .2)) (c .before .before .before .before .add-rows .kept .1 .1 .1 .0)
 
 reduce-sums-requires : tie.Need-reduce-sums-requires
 reduce-sums-requires c κs =
@@ -104,9 +108,11 @@ returns c =
     let p : List ℕ = c .before .before .before .before .before .before .before .before .add-rows .last .1 .1 .0 in
     let r : List ℕ = c .before .before .before .before .before .before .before .before .add-rows .last .1 .1 .1 .0 in
     c .before .before .reduce-sums .ensures
-    ∙ ap₂ (λ (a b : List ℕ). tabulate n (reducedAt a b)) (lent-front n p x (omega (arith, s .pre .2)) (c .before .before .before .before .before .before .before .before .add-rows .kept .1 .1 .0)) (lent-front n r y (omega (arith, s .pre .2)) (c .before .before .before .before .before .before .before .before .add-rows .kept .1 .1 .1 .0))
+    ∙ ap₂ (λ (a b : List ℕ). tabulate n (reducedAt a b)) (lent-front n p x (omega (arith, s .pre .2)) (c .before .before .before .before .before .before .before .before .add-rows .kept .1 .1 .0))
+    (lent-front n r y (omega (arith, s .pre .2)) (c .before .before .before .before .before .before .before .before .add-rows .kept .1 .1 .1 .0))
     ∙ summed-done (s .args .weights .now) n (s .args .rows .now) (length (s .args .weights .now)) p r refl
-    (subst (λ (i : ℕ). Summed (s .args .weights .now) i (s .args .rows .now) (length (s .args .weights .now)) p r) (length-take-le n x (omega (arith, s .pre .2))) (c .before .before .before .before .before .before .before .before .add-rows .ensures .0))
+    (subst (λ (i : ℕ). Summed (s .args .weights .now) i (s .args .rows .now) (length (s .args .weights .now)) p r) (length-take-le n x (omega (arith, s .pre .2)))
+    (c .before .before .before .before .before .before .before .before .add-rows .ensures .0))
 
 pub sum-rows-spec : {M : Type 1} → statement M
 sum-rows-spec =

@@ -33,7 +33,8 @@ returns-2 : tie.Need-returns-2
 returns-2 c =
     let s = c .before .before .before .before .before .before .before .before .before .before .before .before .before .before .args in
     let k = c .before .before .before .before .before .before .before .before .check in
-    bytes-taken (checking (s .question .now) (s .reply .now) (s .words .now)) (s .values .now) (k .result) (k .last .1 .1 .0) (k .ensures) (omega (arith, c .before .before .before .before .before)) (c .before .before .before .before .before .before .before .before .before .before .before .before .before .before .pre ∙ ap (λ (n : ℕ). 4 * n) (sym (k .kept .1 .1 .0)))
+    bytes-taken (checking (s .question .now) (s .reply .now) (s .words .now)) (s .values .now) (k .result) (k .last .1 .1 .0) (k .ensures) (omega (arith, c .before .before .before .before .before))
+    (c .before .before .before .before .before .before .before .before .before .before .before .before .before .before .pre ∙ ap (λ (n : ℕ). 4 * n) (sym (k .kept .1 .1 .0)))
     (c .before .before .put-words .last .0) (c .before .before .put-words .ensures)
 
 pub check-into-spec : {M : Type 1} → statement M

@@ -64,7 +64,8 @@ part-words-start-2 c = search needs
 part-words-end-2 : tie.Need-part-words-end-2
 part-words-end-2 c =
     let a = c .before .before .before .before .before .answer .given in
-    let h = few-values (c .before .before .before .before .before .before .before .before .before .before .before .args .question .now) (a .0 .0) (a .0 .1 .0) (sym (c .before .before .before .before .before .before .before .ask .ensures) ∙ a .1) in omega arith
+    let h = few-values (c .before .before .before .before .before .before .before .before .before .before .before .args .question .now) (a .0 .0) (a .0 .1 .0)
+    (sym (c .before .before .before .before .before .before .before .ask .ensures) ∙ a .1) in omega arith
 
 check-into-requires-2 : tie.Need-check-into-requires-2
 check-into-requires-2 c κs = search needs
@@ -81,7 +82,8 @@ returns-2 c =
     let a = c .before .before .before .before .before .before .before .before .before .before .before .answer .given in
     let n : ℕ = a .0 .0 .w * a .0 .1 .0 in
     let b : length (c .before .before .before .before .before .before .blank-few .result) ≡ 64 = search needs in
-    checked-bytes (s .question .now) (s .reply .now) (s .values .now) (a .0 .0) (a .0 .1 .0) (sym (c .before .before .before .before .before .before .before .before .before .before .before .before .before .ask .ensures) ∙ a .1) (take (n - 0) (c .before .before .before .before .before .before .blank-few .result)) _ (omega (arith, c .before .before .before .before .before .before .before .before .if1 .left))
+    checked-bytes (s .question .now) (s .reply .now) (s .values .now) (a .0 .0) (a .0 .1 .0) (sym (c .before .before .before .before .before .before .before .before .before .before .before .before .before .ask .ensures) ∙ a .1)
+    (take (n - 0) (c .before .before .before .before .before .before .blank-few .result)) _ (omega (arith, c .before .before .before .before .before .before .before .before .if1 .left))
     (front-length n (c .before .before .before .before .before .before .blank-few .result) (omega (arith, b, c .before .before .before .before .before .before .before .if2 .taken))) (c .before .before .before .check-into .ensures)
 
 same-length-2 : tie.Need-same-length-2
@@ -94,7 +96,8 @@ returns-3 c =
     let h = few-values (s .question .now) (a .0 .0) (a .0 .1 .0) (sym (c .before .before .before .before .before .before .before .before .before .before .before .before .before .ask .ensures) ∙ a .1) in
     let n : ℕ = a .0 .0 .w * a .0 .1 .0 in
     let b : length (c .before .before .before .before .before .before .blank .result) ≡ 2048 = search needs in
-    checked-bytes (s .question .now) (s .reply .now) (s .values .now) (a .0 .0) (a .0 .1 .0) (sym (c .before .before .before .before .before .before .before .before .before .before .before .before .before .ask .ensures) ∙ a .1) (take (n - 0) (c .before .before .before .before .before .before .blank .result)) _ (omega (arith, c .before .before .before .before .before .before .before .before .if1 .left))
+    checked-bytes (s .question .now) (s .reply .now) (s .values .now) (a .0 .0) (a .0 .1 .0) (sym (c .before .before .before .before .before .before .before .before .before .before .before .before .before .ask .ensures) ∙ a .1)
+    (take (n - 0) (c .before .before .before .before .before .before .blank .result)) _ (omega (arith, c .before .before .before .before .before .before .before .before .if1 .left))
     (front-length n (c .before .before .before .before .before .before .blank .result) (omega (arith, b, h))) (c .before .before .before .check-into2 .ensures)
 
 returns-4 : tie.Need-returns-4

@@ -39,8 +39,15 @@ loop-less c = search needs
 
 loop-again : tie.Need-loop-again Inv-loop μ-loop
 loop-again c =
-    let loop = c .before .before .before .before .before .before .before .before .loop in let args = c .before .before .before .before .before .before .before .before .before .before .before .args in
-    (omega arith, loop .inv .1, omega (arith, loop .inv .2, c .before .before .before .before .lane .kept .0), c .before .before .before .before .lane .kept .0 ∙ loop .inv .3, c .before .before .before .before .lane .kept .1 .1 .0 ∙ loop .inv .4, block-turn (args .t .now) (args .b) (args .w .now) (args .lanes) (loop .t) (loop .w) (loop .j) (c .before .before .before .before .lane .last .0) (c .before .before .before .before .lane .last .1 .1 .0) (loop .inv .1) (c .before .before .before .before .before .before .before .loop-test .taken) (loop .inv .5) (c .before .before .before .before .lane .ensures))
+    let loop = c .before .before .before .before .before .before .before .before .loop in let args = c .before .before .before .before .before .before .before .before .before .before .before .args in (
+      omega arith,
+      loop .inv .1,
+      omega (arith, loop .inv .2, c .before .before .before .before .lane .kept .0),
+      c .before .before .before .before .lane .kept .0 ∙ loop .inv .3,
+      c .before .before .before .before .lane .kept .1 .1 .0 ∙ loop .inv .4,
+      block-turn (args .t .now) (args .b) (args .w .now) (args .lanes) (loop .t) (loop .w) (loop .j) (c .before .before .before .before .lane .last .0)
+          (c .before .before .before .before .lane .last .1 .1 .0) (loop .inv .1) (c .before .before .before .before .before .before .before .loop-test .taken) (loop .inv .5) (c .before .before .before .before .lane .ensures),
+    )
 
 same-length : tie.Need-same-length Inv-loop μ-loop
 same-length c = search needs

@@ -59,8 +59,15 @@ slice-read-t27 c = search needs
 
 loop-holds : tie.Need-loop-holds Inv-loop μ-loop
 loop-holds c =
-    let args = c .before .before .before .before .before .before .before .args in
-    (omega arith, c .before .before .before .before .before .before .before .pre .0, c .before .before .before .before .before .before .before .pre .1, c .before .before .before .before .before .before .before .pre .2, c .before .before .before .before .before .before .before .pre .3, lane-holds (args .t .now) (args .at) (args .w .now) (args .j) (c .before .before .before .before .before .before .before .pre .2) (c .before .before .before .before .before .before .before .pre .3) (c .before .before .before .before .before .before .before .pre .4))
+    let args = c .before .before .before .before .before .before .before .args in (
+      omega arith,
+      c .before .before .before .before .before .before .before .pre .0,
+      c .before .before .before .before .before .before .before .pre .1,
+      c .before .before .before .before .before .before .before .pre .2,
+      c .before .before .before .before .before .before .before .pre .3,
+      lane-holds (args .t .now) (args .at) (args .w .now) (args .j) (c .before .before .before .before .before .before .before .pre .2)
+          (c .before .before .before .before .before .before .before .pre .3) (c .before .before .before .before .before .before .before .pre .4),
+    )
 
 mul-m : tie.Need-mul-m Inv-loop μ-loop
 mul-m c = search needs
@@ -96,8 +103,15 @@ loop-less c = search needs
 
 loop-again : tie.Need-loop-again Inv-loop μ-loop
 loop-again c =
-    let loop = c .before .before .before .loop in let args = c .before .before .before .before .before .before .before .before .before .before .before .args in
-    (omega arith, loop .inv .1, loop .inv .2, simp length-set (loop .inv .3), loop .inv .4, lane-turn (args .t .now) (args .at) (args .w .now) (args .j) (loop .w) (loop .v) (c .turn .result) (loop .n) (loop .inv .2) (c .before .before .loop-test .taken) (loop .inv .5) (c .turn .ensures))
+    let loop = c .before .before .before .loop in let args = c .before .before .before .before .before .before .before .before .before .before .before .args in (
+      omega arith,
+      loop .inv .1,
+      loop .inv .2,
+      simp length-set (loop .inv .3),
+      loop .inv .4,
+      lane-turn (args .t .now) (args .at) (args .w .now) (args .j) (loop .w) (loop .v) (c .turn .result) (loop .n) (loop .inv .2)
+          (c .before .before .loop-test .taken) (loop .inv .5) (c .turn .ensures),
+    )
 
 array-read-folded : tie.Need-array-read-folded Inv-loop μ-loop
 array-read-folded c = search needs
@@ -181,7 +195,9 @@ returns : tie.Need-returns Inv-loop μ-loop
 returns c =
     let loop = c .before .before .before .before .before .before .loop in let args = c .before .before .before .before .before .before .before .before .before .before .before .before .before .before .args in
     let z : loop .n ≡ run = omega (arith, loop .inv .0, c .before .before .before .before .before .loop-test .left) in
-    lane-done (args .t .now) (args .at) (c .before .before .before .before .folded .result) (c .before .before .before .folded2 .result) (c .before .before .folded3 .result) (c .before .folded4 .result) (c .folded5 .result) (loop .inv .1) (args .w .now) (args .j) (loop .w) (loop .v) (loop .n) z (loop .inv .4) (loop .inv .5) (c .before .before .before .before .folded .ensures) (c .before .before .before .folded2 .ensures) (c .before .before .folded3 .ensures) (c .before .folded4 .ensures) (c .folded5 .ensures)
+    lane-done (args .t .now) (args .at) (c .before .before .before .before .folded .result) (c .before .before .before .folded2 .result) (c .before .before .folded3 .result) (c .before .folded4 .result) (c .folded5 .result)
+    (loop .inv .1) (args .w .now) (args .j) (loop .w) (loop .v) (loop .n) z (loop .inv .4) (loop .inv .5) (c .before .before .before .before .folded .ensures) (c .before .before .before .folded2 .ensures)
+    (c .before .before .folded3 .ensures) (c .before .folded4 .ensures) (c .folded5 .ensures)
 
 pub lane-spec : {M : Type 1} → statement M
 lane-spec =

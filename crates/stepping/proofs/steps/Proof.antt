@@ -33,8 +33,15 @@ loop-less c = search needs
 
 loop-again : tie.Need-loop-again Inv-loop μ-loop
 loop-again c =
-    let loop = c .before .before .before .before .before .before .before .before .loop in let args = c .before .before .before .before .before .before .before .before .before .before .before .args in
-    (omega arith, loop .inv .1, omega (arith, loop .inv .2, c .before .before .before .before .block .kept .0), c .before .before .before .before .block .kept .0 ∙ loop .inv .3, c .before .before .before .before .block .kept .1 .1 .0 ∙ loop .inv .4, table-turn (args .t .now) (args .blocks) (args .lanes) (loop .t) (loop .w) (loop .b) (c .before .before .before .before .block .last .0) (c .before .before .before .before .block .last .1 .1 .0) (loop .inv .1) (c .before .before .before .before .before .before .before .loop-test .taken) (loop .inv .5) (c .before .before .before .before .block .ensures))
+    let loop = c .before .before .before .before .before .before .before .before .loop in let args = c .before .before .before .before .before .before .before .before .before .before .before .args in (
+      omega arith,
+      loop .inv .1,
+      omega (arith, loop .inv .2, c .before .before .before .before .block .kept .0),
+      c .before .before .before .before .block .kept .0 ∙ loop .inv .3,
+      c .before .before .before .before .block .kept .1 .1 .0 ∙ loop .inv .4,
+      table-turn (args .t .now) (args .blocks) (args .lanes) (loop .t) (loop .w) (loop .b) (c .before .before .before .before .block .last .0)
+          (c .before .before .before .before .block .last .1 .1 .0) (loop .inv .1) (c .before .before .before .before .before .before .before .loop-test .taken) (loop .inv .5) (c .before .before .before .before .block .ensures),
+    )
 
 same-length : tie.Need-same-length Inv-loop μ-loop
 same-length c = search needs

@@ -45,8 +45,12 @@ loop-again c =
     let loop = c .before .before .before .before .loop in
     let a = c .before .before .before .before .before .before .before .args .a .now in
     let b = c .before .before .before .before .before .before .before .args .b .now in
-    let r = c .add-product in
-    (refl, omega arith, wrapped-turn a b (loop .i) (loop .s .all) (loop .s .upper) (getD a (loop .i) 0 * getD b (loop .i) 0) (r .result .all) (r .result .upper) (omega arith) (c .before .before .before .before .before .before .before .pre .0) refl (r .ensures .2) (r .ensures .0) (r .ensures .1) (loop .inv .2))
+    let r = c .add-product in (
+      refl,
+      omega arith,
+      wrapped-turn a b (loop .i) (loop .s .all) (loop .s .upper) (getD a (loop .i) 0 * getD b (loop .i) 0) (r .result .all) (r .result .upper) (omega arith)
+          (c .before .before .before .before .before .before .before .pre .0) refl (r .ensures .2) (r .ensures .0) (r .ensures .1) (loop .inv .2),
+    )
 
 reduce-parts-requires : tie.Need-reduce-parts-requires Inv-loop μ-loop
 reduce-parts-requires c κs =
@@ -56,7 +60,8 @@ reduce-parts-requires c κs =
 returns : tie.Need-returns Inv-loop μ-loop
 returns c =
     let loop = c .before .before .loop in
-    wrapped-done (c .before .before .before .before .before .args .a .now) (c .before .before .before .before .before .args .b .now) (loop .i) (loop .s .all) (loop .s .upper) (c .reduce-parts .result .0) (omega arith) (omega arith) (c .before .before .before .before .before .pre .0) (loop .inv .2) (c .reduce-parts .ensures)
+    wrapped-done (c .before .before .before .before .before .args .a .now) (c .before .before .before .before .before .args .b .now) (loop .i) (loop .s .all) (loop .s .upper) (c .reduce-parts .result .0) (omega arith)
+    (omega arith) (c .before .before .before .before .before .pre .0) (loop .inv .2) (c .reduce-parts .ensures)
 
 pub dot-spec : {M : Type 1} → statement M
 dot-spec =

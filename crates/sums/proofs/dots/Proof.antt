@@ -101,19 +101,23 @@ loop-again c =
 
 add-third : tie.Need-add-third Inv-loop μ-loop
 add-third c =
-    let f = four-rows-fit (length (c .before .before .before .before .before .before .args .weights .now)) (c .before .before .loop .j) (length (c .before .before .before .before .before .before .args .out .now)) (length (c .before .before .before .before .before .before .args .rows .now)) (c .if1 .left) (c .before .before .before .before .before .before .pre .0) in search needs
+    let f = four-rows-fit (length (c .before .before .before .before .before .before .args .weights .now)) (c .before .before .loop .j) (length (c .before .before .before .before .before .before .args .out .now))
+    (length (c .before .before .before .before .before .before .args .rows .now)) (c .if1 .left) (c .before .before .before .before .before .before .pre .0) in search needs
 
 add-fourth : tie.Need-add-fourth Inv-loop μ-loop
 add-fourth c =
-    let f = four-rows-fit (length (c .before .before .before .before .before .before .args .weights .now)) (c .before .before .loop .j) (length (c .before .before .before .before .before .before .args .out .now)) (length (c .before .before .before .before .before .before .args .rows .now)) (c .if1 .left) (c .before .before .before .before .before .before .pre .0) in search needs
+    let f = four-rows-fit (length (c .before .before .before .before .before .before .args .weights .now)) (c .before .before .loop .j) (length (c .before .before .before .before .before .before .args .out .now))
+    (length (c .before .before .before .before .before .before .args .rows .now)) (c .if1 .left) (c .before .before .before .before .before .before .pre .0) in search needs
 
 add-end : tie.Need-add-end Inv-loop μ-loop
 add-end c =
-    let f = four-rows-fit (length (c .before .before .before .before .before .before .args .weights .now)) (c .before .before .loop .j) (length (c .before .before .before .before .before .before .args .out .now)) (length (c .before .before .before .before .before .before .args .rows .now)) (c .if1 .left) (c .before .before .before .before .before .before .pre .0) in search needs
+    let f = four-rows-fit (length (c .before .before .before .before .before .before .args .weights .now)) (c .before .before .loop .j) (length (c .before .before .before .before .before .before .args .out .now))
+    (length (c .before .before .before .before .before .before .args .rows .now)) (c .if1 .left) (c .before .before .before .before .before .before .pre .0) in search needs
 
 mul-four-dots : tie.Need-mul-four-dots Inv-loop μ-loop
 mul-four-dots c =
-    let f = four-rows-fit (length (c .before .before .before .before .before .before .args .weights .now)) (c .before .before .loop .j) (length (c .before .before .before .before .before .before .args .out .now)) (length (c .before .before .before .before .before .before .args .rows .now)) (c .if1 .left) (c .before .before .before .before .before .before .pre .0) in search needs
+    let f = four-rows-fit (length (c .before .before .before .before .before .before .args .weights .now)) (c .before .before .loop .j) (length (c .before .before .before .before .before .before .args .out .now))
+    (length (c .before .before .before .before .before .before .args .rows .now)) (c .if1 .left) (c .before .before .before .before .before .before .pre .0) in search needs
 
 sub-four-dots : tie.Need-sub-four-dots Inv-loop μ-loop
 sub-four-dots c = search needs
@@ -123,11 +127,14 @@ part-four-dots-start c = search needs
 
 part-four-dots-end : tie.Need-part-four-dots-end Inv-loop μ-loop
 part-four-dots-end c =
-    let f = four-rows-fit (length (c .before .before .before .before .before .before .args .weights .now)) (c .before .before .loop .j) (length (c .before .before .before .before .before .before .args .out .now)) (length (c .before .before .before .before .before .before .args .rows .now)) (c .if1 .left) (c .before .before .before .before .before .before .pre .0) in search needs
+    let f = four-rows-fit (length (c .before .before .before .before .before .before .args .weights .now)) (c .before .before .loop .j) (length (c .before .before .before .before .before .before .args .out .now))
+    (length (c .before .before .before .before .before .before .args .rows .now)) (c .if1 .left) (c .before .before .before .before .before .before .pre .0) in search needs
 
 mul-four-dots-2 : tie.Need-mul-four-dots-2 Inv-loop μ-loop
 mul-four-dots-2 c =
-    let f = four-rows-fit (length (c .before .before .before .before .before .before .before .args .weights .now)) (c .before .before .before .loop .j) (length (c .before .before .before .before .before .before .before .args .out .now)) (length (c .before .before .before .before .before .before .before .args .rows .now)) (c .before .if1 .left) (c .before .before .before .before .before .before .before .pre .0) in search needs
+    let f = four-rows-fit (length (c .before .before .before .before .before .before .before .args .weights .now)) (c .before .before .before .loop .j)
+    (length (c .before .before .before .before .before .before .before .args .out .now)) (length (c .before .before .before .before .before .before .before .args .rows .now)) (c .before .if1 .left)
+    (c .before .before .before .before .before .before .before .pre .0) in search needs
 
 sub-four-dots-2 : tie.Need-sub-four-dots-2 Inv-loop μ-loop
 sub-four-dots-2 c = search needs
@@ -137,11 +144,15 @@ part-four-dots-start-2 c = search needs
 
 part-four-dots-end-2 : tie.Need-part-four-dots-end-2 Inv-loop μ-loop
 part-four-dots-end-2 c =
-    let f = four-rows-fit (length (c .before .before .before .before .before .before .before .args .weights .now)) (c .before .before .before .loop .j) (length (c .before .before .before .before .before .before .before .args .out .now)) (length (c .before .before .before .before .before .before .before .args .rows .now)) (c .before .if1 .left) (c .before .before .before .before .before .before .before .pre .0) in search needs
+    let f = four-rows-fit (length (c .before .before .before .before .before .before .before .args .weights .now)) (c .before .before .before .loop .j)
+    (length (c .before .before .before .before .before .before .before .args .out .now)) (length (c .before .before .before .before .before .before .before .args .rows .now)) (c .before .if1 .left)
+    (c .before .before .before .before .before .before .before .pre .0) in search needs
 
 mul-four-dots-3 : tie.Need-mul-four-dots-3 Inv-loop μ-loop
 mul-four-dots-3 c =
-    let f = four-rows-fit (length (c .before .before .before .before .before .before .before .before .args .weights .now)) (c .before .before .before .before .loop .j) (length (c .before .before .before .before .before .before .before .before .args .out .now)) (length (c .before .before .before .before .before .before .before .before .args .rows .now)) (c .before .before .if1 .left) (c .before .before .before .before .before .before .before .before .pre .0) in search needs
+    let f = four-rows-fit (length (c .before .before .before .before .before .before .before .before .args .weights .now)) (c .before .before .before .before .loop .j)
+    (length (c .before .before .before .before .before .before .before .before .args .out .now)) (length (c .before .before .before .before .before .before .before .before .args .rows .now)) (c .before .before .if1 .left)
+    (c .before .before .before .before .before .before .before .before .pre .0) in search needs
 
 sub-four-dots-3 : tie.Need-sub-four-dots-3 Inv-loop μ-loop
 sub-four-dots-3 c = search needs
@@ -151,11 +162,15 @@ part-four-dots-start-3 c = search needs
 
 part-four-dots-end-3 : tie.Need-part-four-dots-end-3 Inv-loop μ-loop
 part-four-dots-end-3 c =
-    let f = four-rows-fit (length (c .before .before .before .before .before .before .before .before .args .weights .now)) (c .before .before .before .before .loop .j) (length (c .before .before .before .before .before .before .before .before .args .out .now)) (length (c .before .before .before .before .before .before .before .before .args .rows .now)) (c .before .before .if1 .left) (c .before .before .before .before .before .before .before .before .pre .0) in search needs
+    let f = four-rows-fit (length (c .before .before .before .before .before .before .before .before .args .weights .now)) (c .before .before .before .before .loop .j)
+    (length (c .before .before .before .before .before .before .before .before .args .out .now)) (length (c .before .before .before .before .before .before .before .before .args .rows .now)) (c .before .before .if1 .left)
+    (c .before .before .before .before .before .before .before .before .pre .0) in search needs
 
 mul-four-dots-4 : tie.Need-mul-four-dots-4 Inv-loop μ-loop
 mul-four-dots-4 c =
-    let f = four-rows-fit (length (c .before .before .before .before .before .before .before .before .before .args .weights .now)) (c .before .before .before .before .before .loop .j) (length (c .before .before .before .before .before .before .before .before .before .args .out .now)) (length (c .before .before .before .before .before .before .before .before .before .args .rows .now)) (c .before .before .before .if1 .left) (c .before .before .before .before .before .before .before .before .before .pre .0) in search needs
+    let f = four-rows-fit (length (c .before .before .before .before .before .before .before .before .before .args .weights .now)) (c .before .before .before .before .before .loop .j)
+    (length (c .before .before .before .before .before .before .before .before .before .args .out .now)) (length (c .before .before .before .before .before .before .before .before .before .args .rows .now))
+    (c .before .before .before .if1 .left) (c .before .before .before .before .before .before .before .before .before .pre .0) in search needs
 
 sub-four-dots-4 : tie.Need-sub-four-dots-4 Inv-loop μ-loop
 sub-four-dots-4 c = search needs
@@ -165,7 +180,9 @@ part-four-dots-start-4 c = search needs
 
 part-four-dots-end-4 : tie.Need-part-four-dots-end-4 Inv-loop μ-loop
 part-four-dots-end-4 c =
-    let f = four-rows-fit (length (c .before .before .before .before .before .before .before .before .before .args .weights .now)) (c .before .before .before .before .before .loop .j) (length (c .before .before .before .before .before .before .before .before .before .args .out .now)) (length (c .before .before .before .before .before .before .before .before .before .args .rows .now)) (c .before .before .before .if1 .left) (c .before .before .before .before .before .before .before .before .before .pre .0) in search needs
+    let f = four-rows-fit (length (c .before .before .before .before .before .before .before .before .before .args .weights .now)) (c .before .before .before .before .before .loop .j)
+    (length (c .before .before .before .before .before .before .before .before .before .args .out .now)) (length (c .before .before .before .before .before .before .before .before .before .args .rows .now))
+    (c .before .before .before .if1 .left) (c .before .before .before .before .before .before .before .before .before .pre .0) in search needs
 
 four-dots-requires : tie.Need-four-dots-requires Inv-loop μ-loop
 four-dots-requires c κs =
@@ -235,7 +252,8 @@ loop-again-2 c =
       simp length-set (loop .inv .3),
       s .pre .0,
       s .pre .1,
-      dots-four (s .args .weights .now) (s .args .rows .now) (loop .out) (length (s .args .out .now)) (loop .j) (r .result .a .0) (r .result .b .0) (r .result .c .0) (r .result .d .0) k (loop .inv .3) (loop .inv .6) (r .ensures .0) (r .ensures .1) (r .ensures .2) (r .ensures .3),
+      dots-four (s .args .weights .now) (s .args .rows .now) (loop .out) (length (s .args .out .now)) (loop .j) (r .result .a .0) (r .result .b .0) (r .result .c .0) (r .result .d .0) k (loop .inv .3) (loop .inv .6)
+          (r .ensures .0) (r .ensures .1) (r .ensures .2) (r .ensures .3),
     )
 
 same-length : tie.Need-same-length Inv-loop μ-loop

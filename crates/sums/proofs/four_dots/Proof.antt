@@ -20,8 +20,15 @@ abbrev μ-loop : tie.MeasureT-loop
 
 loop-holds : tie.Need-loop-holds Inv-loop μ-loop
 loop-holds c =
-    let w : List ℕ = c .before .before .before .before .before .args .weights .now in
-    (refl, omega arith, wrapped-none w (c .before .before .before .before .before .args .a .now), wrapped-none w (c .before .before .before .before .before .args .b .now), wrapped-none w (c .before .before .before .before .before .args .c .now), wrapped-none w (c .before .before .before .before .before .args .d .now))
+    let w : List ℕ = c .before .before .before .before .before .args .weights .now in (
+      refl,
+      omega arith,
+      wrapped-none w (c .before .before .before .before .before .args .a .now),
+      wrapped-none w (c .before .before .before .before .before .args .b .now),
+      wrapped-none w
+          (c .before .before .before .before .before .args .c .now),
+      wrapped-none w (c .before .before .before .before .before .args .d .now),
+    )
 
 mul-w : tie.Need-mul-w Inv-loop μ-loop
 mul-w c = search needs
@@ -38,7 +45,8 @@ shared-slice-read-add-product c = search needs
 add-product-requires : tie.Need-add-product-requires Inv-loop μ-loop
 add-product-requires c κs =
     let loop = c .before .before .before .loop in
-    wrapped-spare (c .before .before .before .before .before .before .before .before .before .args .weights .now) (c .before .before .before .before .before .before .before .before .before .args .a .now) (loop .i) (loop .s .all) (loop .s .upper) (le-trans (loop .inv .1) (c .before .before .before .before .before .before .before .before .before .pre .0)) (loop .inv .2) .1
+    wrapped-spare (c .before .before .before .before .before .before .before .before .before .args .weights .now) (c .before .before .before .before .before .before .before .before .before .args .a .now) (loop .i) (loop .s .all)
+    (loop .s .upper) (le-trans (loop .inv .1) (c .before .before .before .before .before .before .before .before .before .pre .0)) (loop .inv .2) .1
 
 mul-add-product-2 : tie.Need-mul-add-product-2 Inv-loop μ-loop
 mul-add-product-2 c = search needs
@@ -49,7 +57,9 @@ shared-slice-read-add-product-2 c = search needs
 add-product-requires-2 : tie.Need-add-product-requires-2 Inv-loop μ-loop
 add-product-requires-2 c κs =
     let loop = c .before .before .before .before .before .loop in
-    wrapped-spare (c .before .before .before .before .before .before .before .before .before .before .before .args .weights .now) (c .before .before .before .before .before .before .before .before .before .before .before .args .b .now) (loop .i) (loop .t .all) (loop .t .upper) (le-trans (loop .inv .1) (c .before .before .before .before .before .before .before .before .before .before .before .pre .0)) (loop .inv .3) .1
+    wrapped-spare (c .before .before .before .before .before .before .before .before .before .before .before .args .weights .now)
+    (c .before .before .before .before .before .before .before .before .before .before .before .args .b .now) (loop .i) (loop .t .all) (loop .t .upper)
+    (le-trans (loop .inv .1) (c .before .before .before .before .before .before .before .before .before .before .before .pre .0)) (loop .inv .3) .1
 
 mul-add-product-3 : tie.Need-mul-add-product-3 Inv-loop μ-loop
 mul-add-product-3 c = search needs
@@ -60,7 +70,9 @@ shared-slice-read-add-product-3 c = search needs
 add-product-requires-3 : tie.Need-add-product-requires-3 Inv-loop μ-loop
 add-product-requires-3 c κs =
     let loop = c .before .before .before .before .before .before .before .loop in
-    wrapped-spare (c .before .before .before .before .before .before .before .before .before .before .before .before .before .args .weights .now) (c .before .before .before .before .before .before .before .before .before .before .before .before .before .args .c .now) (loop .i) (loop .u .all) (loop .u .upper) (le-trans (loop .inv .1) (c .before .before .before .before .before .before .before .before .before .before .before .before .before .pre .0)) (loop .inv .4) .1
+    wrapped-spare (c .before .before .before .before .before .before .before .before .before .before .before .before .before .args .weights .now)
+    (c .before .before .before .before .before .before .before .before .before .before .before .before .before .args .c .now) (loop .i) (loop .u .all) (loop .u .upper)
+    (le-trans (loop .inv .1) (c .before .before .before .before .before .before .before .before .before .before .before .before .before .pre .0)) (loop .inv .4) .1
 
 mul-add-product-4 : tie.Need-mul-add-product-4 Inv-loop μ-loop
 mul-add-product-4 c = search needs
@@ -71,7 +83,9 @@ shared-slice-read-add-product-4 c = search needs
 add-product-requires-4 : tie.Need-add-product-requires-4 Inv-loop μ-loop
 add-product-requires-4 c κs =
     let loop = c .before .before .before .before .before .before .before .before .before .loop in
-    wrapped-spare (c .before .before .before .before .before .before .before .before .before .before .before .before .before .before .before .args .weights .now) (c .before .before .before .before .before .before .before .before .before .before .before .before .before .before .before .args .d .now) (loop .i) (loop .v .all) (loop .v .upper) (le-trans (loop .inv .1) (c .before .before .before .before .before .before .before .before .before .before .before .before .before .before .before .pre .0)) (loop .inv .5) .1
+    wrapped-spare (c .before .before .before .before .before .before .before .before .before .before .before .before .before .before .before .args .weights .now)
+    (c .before .before .before .before .before .before .before .before .before .before .before .before .before .before .before .args .d .now) (loop .i) (loop .v .all) (loop .v .upper)
+    (le-trans (loop .inv .1) (c .before .before .before .before .before .before .before .before .before .before .before .before .before .before .before .pre .0)) (loop .inv .5) .1
 
 add-i : tie.Need-add-i Inv-loop μ-loop
 add-i c = search needs
@@ -87,31 +101,41 @@ loop-again c =
     let i : loop .i < length w = c .before .before .before .before .before .before .before .before .before .loop-test .taken in (
       refl,
       omega arith,
-      wrapped-turn w (s .args .a .now) (loop .i) (loop .s .all) (loop .s .upper) (getD w (loop .i) 0 * getD (s .args .a .now) (loop .i) 0) (c .before .before .before .before .before .before .add-product .result .all) (c .before .before .before .before .before .before .add-product .result .upper) i (s .pre .1) refl (c .before .before .before .before .before .before .add-product .ensures .2) (c .before .before .before .before .before .before .add-product .ensures .0) (c .before .before .before .before .before .before .add-product .ensures .1) (loop .inv .2),
-      wrapped-turn w (s .args .b .now) (loop .i) (loop .t .all) (loop .t .upper) (getD w (loop .i) 0 * getD (s .args .b .now) (loop .i) 0) (c .before .before .before .before .add-product2 .result .all) (c .before .before .before .before .add-product2 .result .upper) i (s .pre .2) refl (c .before .before .before .before .add-product2 .ensures .2) (c .before .before .before .before .add-product2 .ensures .0) (c .before .before .before .before .add-product2 .ensures .1) (loop .inv .3),
-      wrapped-turn w (s .args .c .now) (loop .i) (loop .u .all) (loop .u .upper) (getD w (loop .i) 0 * getD (s .args .c .now) (loop .i) 0) (c .before .before .add-product3 .result .all) (c .before .before .add-product3 .result .upper) i (s .pre .3) refl (c .before .before .add-product3 .ensures .2) (c .before .before .add-product3 .ensures .0) (c .before .before .add-product3 .ensures .1) (loop .inv .4),
-      wrapped-turn w (s .args .d .now) (loop .i) (loop .v .all) (loop .v .upper) (getD w (loop .i) 0 * getD (s .args .d .now) (loop .i) 0) (c .add-product4 .result .all) (c .add-product4 .result .upper) i (s .pre .4) refl (c .add-product4 .ensures .2) (c .add-product4 .ensures .0) (c .add-product4 .ensures .1) (loop .inv .5),
+      wrapped-turn w (s .args .a .now) (loop .i) (loop .s .all) (loop .s .upper) (getD w (loop .i) 0 * getD (s .args .a .now) (loop .i) 0) (c .before .before .before .before .before .before .add-product .result .all)
+          (c .before .before .before .before .before .before .add-product .result .upper) i (s .pre .1) refl (c .before .before .before .before .before .before .add-product .ensures .2)
+          (c .before .before .before .before .before .before .add-product .ensures .0) (c .before .before .before .before .before .before .add-product .ensures .1) (loop .inv .2),
+      wrapped-turn w (s .args .b .now) (loop .i) (loop .t .all) (loop .t .upper) (getD w (loop .i) 0 * getD (s .args .b .now) (loop .i) 0) (c .before .before .before .before .add-product2 .result .all)
+          (c .before .before .before .before .add-product2 .result .upper) i (s .pre .2) refl (c .before .before .before .before .add-product2 .ensures .2) (c .before .before .before .before .add-product2 .ensures .0)
+          (c .before .before .before .before .add-product2 .ensures .1) (loop .inv .3),
+      wrapped-turn w (s .args .c .now) (loop .i) (loop .u .all) (loop .u .upper) (getD w (loop .i) 0 * getD (s .args .c .now) (loop .i) 0) (c .before .before .add-product3 .result .all)
+          (c .before .before .add-product3 .result .upper) i (s .pre .3) refl (c .before .before .add-product3 .ensures .2) (c .before .before .add-product3 .ensures .0) (c .before .before .add-product3 .ensures .1) (loop .inv .4),
+      wrapped-turn w (s .args .d .now) (loop .i) (loop .v .all) (loop .v .upper) (getD w (loop .i) 0 * getD (s .args .d .now) (loop .i) 0) (c .add-product4 .result .all) (c .add-product4 .result .upper) i (s .pre .4) refl
+          (c .add-product4 .ensures .2) (c .add-product4 .ensures .0) (c .add-product4 .ensures .1) (loop .inv .5),
     )
 
 reduce-parts-requires : tie.Need-reduce-parts-requires Inv-loop μ-loop
 reduce-parts-requires c κs =
     let loop = c .before .loop in
-    wrapped-spare (c .before .before .before .before .before .before .before .args .weights .now) (c .before .before .before .before .before .before .before .args .a .now) (loop .i) (loop .s .all) (loop .s .upper) (le-trans (loop .inv .1) (c .before .before .before .before .before .before .before .pre .0)) (loop .inv .2)
+    wrapped-spare (c .before .before .before .before .before .before .before .args .weights .now) (c .before .before .before .before .before .before .before .args .a .now) (loop .i) (loop .s .all) (loop .s .upper)
+    (le-trans (loop .inv .1) (c .before .before .before .before .before .before .before .pre .0)) (loop .inv .2)
 
 reduce-parts-requires-2 : tie.Need-reduce-parts-requires-2 Inv-loop μ-loop
 reduce-parts-requires-2 c κs =
     let loop = c .before .before .loop in
-    wrapped-spare (c .before .before .before .before .before .before .before .before .args .weights .now) (c .before .before .before .before .before .before .before .before .args .b .now) (loop .i) (loop .t .all) (loop .t .upper) (le-trans (loop .inv .1) (c .before .before .before .before .before .before .before .before .pre .0)) (loop .inv .3)
+    wrapped-spare (c .before .before .before .before .before .before .before .before .args .weights .now) (c .before .before .before .before .before .before .before .before .args .b .now) (loop .i) (loop .t .all) (loop .t .upper)
+    (le-trans (loop .inv .1) (c .before .before .before .before .before .before .before .before .pre .0)) (loop .inv .3)
 
 reduce-parts-requires-3 : tie.Need-reduce-parts-requires-3 Inv-loop μ-loop
 reduce-parts-requires-3 c κs =
     let loop = c .before .before .before .loop in
-    wrapped-spare (c .before .before .before .before .before .before .before .before .before .args .weights .now) (c .before .before .before .before .before .before .before .before .before .args .c .now) (loop .i) (loop .u .all) (loop .u .upper) (le-trans (loop .inv .1) (c .before .before .before .before .before .before .before .before .before .pre .0)) (loop .inv .4)
+    wrapped-spare (c .before .before .before .before .before .before .before .before .before .args .weights .now) (c .before .before .before .before .before .before .before .before .before .args .c .now) (loop .i) (loop .u .all)
+    (loop .u .upper) (le-trans (loop .inv .1) (c .before .before .before .before .before .before .before .before .before .pre .0)) (loop .inv .4)
 
 reduce-parts-requires-4 : tie.Need-reduce-parts-requires-4 Inv-loop μ-loop
 reduce-parts-requires-4 c κs =
     let loop = c .before .before .before .before .loop in
-    wrapped-spare (c .before .before .before .before .before .before .before .before .before .before .args .weights .now) (c .before .before .before .before .before .before .before .before .before .before .args .d .now) (loop .i) (loop .v .all) (loop .v .upper) (le-trans (loop .inv .1) (c .before .before .before .before .before .before .before .before .before .before .pre .0)) (loop .inv .5)
+    wrapped-spare (c .before .before .before .before .before .before .before .before .before .before .args .weights .now) (c .before .before .before .before .before .before .before .before .before .before .args .d .now) (loop .i)
+    (loop .v .all) (loop .v .upper) (le-trans (loop .inv .1) (c .before .before .before .before .before .before .before .before .before .before .pre .0)) (loop .inv .5)
 
 returns : tie.Need-returns Inv-loop μ-loop
 returns c =

@@ -14,9 +14,9 @@ use Rattle.tree.proofs.Complete.{opened-suc}
 use Rattle.tree.proofs.Members.{parents-below, siblings-below}
 
 -- digests put in a row are read again
-pub all-flatten : (ds : List Bytes) → Sized 32 ds → allParts (flatten ds) ≡ ds
+pub parts-flatten : (ds : List Bytes) → Sized 32 ds → allParts (flatten ds) ≡ ds
 unfolding allParts
-all-flatten ds h =
+parts-flatten ds h =
     ap (λ (k : ℕ). parts k (flatten ds)) (ap (λ (k : ℕ). k / 32) (length-flatten 32 ds h) ∙ mul-div-cancel-left (length ds) (omega arith))
     ∙ ap (parts (length ds)) (sym (append-nil (flatten ds))) ∙ pieces-flatten 32 ds [] h
 

@@ -1,4 +1,4 @@
--- Laws of lists that are not about trees.
+-- What is left of a list from a place on; one number more of a range, fewer pieces of a list.
 use mathlib.Core.List.{List, [], _∷_, _++_, List·Memᴰ as Mem, List·Memᴰ·head as here, List·Memᴰ·tail as there, tail}
 use mathlib.Core.Path.{_≡_, refl, sym, ap, _∙_}
 use Prim.Native.Nat.{ℕ, zero, suc, _+_, _≤_, _<_, _-_}
