@@ -1,15 +1,16 @@
 -- A buffer with some bytes written into it, and the lines of one point.
 use mathlib.Core.List.{List, _++_, map, flatten}
 use Prim.Native.Nat.{ℕ, _+_, _*_}
-use lib.ListN.{length, getD, take, drop}
+use lib.ListN.{length, getD, drop}
 use Rattle.lists.specs.Range.{upFrom}
+use Rattle.lists.specs.Spliced.{spliced}
 use Rattle.lists.specs.Bytes.{Bytes}
 use Rattle.scheme.specs.Check.{checking}
 use Rattle.scheme.specs.Program.{valueLine, valueLines, text}
 
 -- the place after the bytes t that stand from place `at` on, and the buffer with them
 abbrev pub written : Bytes → ℕ → Bytes → ℕ × Bytes
-written b at t = (at + length t, take at b ++ (t ++ drop (at + length t) b))
+written b at t = (at + length t, spliced at (length t) t b)
 
 -- a text's length, and the buffer that begins with it
 abbrev pub overwritten : Bytes → Bytes → ℕ × Bytes
