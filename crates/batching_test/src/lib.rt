@@ -9,6 +9,8 @@ ghost use Rattle.algebra.specs.Columns.{powN};
 ghost use Rattle.algebra.specs.Dot.{longest};
 ghost use Rattle.opened.specs.Records.{recordWordsAt};
 ghost use Rattle.batching_test.specs.Batching.{agreesAt, valuedLeaf, batchedRow};
+ghost use Rattle.tree.specs.Leaf.{indexEnd};
+ghost use Rattle.scheme.specs.Sizes.{mostRows};
 use field::Element;
 use opened::fill_powers;
 use opened::opened_point;
@@ -26,7 +28,7 @@ fn batching_agrees(
     scales: &[u32],
     values: &[u32],
 ) -> bool
-    requires { ⌜ (k < length (now challenges)) × (mu ≤ 65536) × (now powers ≡ tabulate (length (now powers)) (powN (e .0))) × (0 < length (now powers)) × (length (now powers) ≤ longest) × (width * k + width ≤ length (now batching)) × (mu * k + mu ≤ length (now scales)) × (mu + length (now challenges) ≤ length (now values)) ⌝ }
+    requires { ⌜ (k < length (now challenges)) × (mu ≤ longest) × (now powers ≡ tabulate (length (now powers)) (powN (e .0))) × (0 < length (now powers)) × (length (now powers) ≤ longest) × (width * k + width ≤ length (now batching)) × (mu * k + mu ≤ length (now scales)) × (mu + length (now challenges) ≤ length (now values)) ⌝ }
     ensures { λ r. ⌜ r ≡ agreesAt width mu (now (challenges .entry)) (now (batching .entry)) (now (scales .entry)) (e .0) (now (values .entry)) k ⌝ }
 {
     let answer = width * k;
@@ -55,7 +57,7 @@ fn batching_walk(
     powers: &mut [u32],
     values: &mut [u32],
 ) -> bool
-    requires { ⌜ (mu ≤ 65536) × Below 65536 (now indices) × (0 < length (now powers)) × (length (now powers) ≤ longest) × (width * length (now challenges) ≤ length (now batching)) × (mu * length (now challenges) ≤ length (now scales)) × (mu + length (now challenges) ≤ length (now values)) × (4 * length (now values) ≤ size) × (at + size * length (now indices) ≤ length (now reply)) ⌝ }
+    requires { ⌜ (mu ≤ longest) × Below indexEnd (now indices) × (0 < length (now powers)) × (length (now powers) ≤ longest) × (width * length (now challenges) ≤ length (now batching)) × (mu * length (now challenges) ≤ length (now scales)) × (mu + length (now challenges) ≤ length (now values)) × (4 * length (now values) ≤ size) × (at + size * length (now indices) ≤ length (now reply)) ⌝ }
     ensures { λ r. ⌜ r ≡ each (length (now (indices .entry))) (valuedLeaf width mu (now (challenges .entry)) (now (batching .entry)) (now (scales .entry)) (now (indices .entry)) (recordWordsAt at size (length (now (values .entry))) (now (reply .entry)))) ⌝ }
 {
     let mut ok = true;
@@ -119,7 +121,7 @@ pub fn batching_ok(
     size: usize,
     reply: &[u8],
 ) -> bool
-    requires { ⌜ (0 < width) × Below 65536 (now indices) × (width * length (now challenges) ≤ length (now batching)) × (mu ≤ 64) × (length (now challenges) ≤ 4) × (4 * (mu + length (now challenges)) ≤ size) × (at + size * length (now indices) ≤ length (now reply)) ⌝ }
+    requires { ⌜ (0 < width) × Below indexEnd (now indices) × (width * length (now challenges) ≤ length (now batching)) × (mu ≤ mostRows) × (length (now challenges) ≤ 4) × (4 * (mu + length (now challenges)) ≤ size) × (at + size * length (now indices) ≤ length (now reply)) ⌝ }
     ensures { λ r. ⌜ r ≡ each (length (now (challenges .entry))) (batchedRow width mu (now (challenges .entry)) (now (batching .entry)) (now (indices .entry)) (recordWordsAt at size (mu + length (now (challenges .entry))) (now (reply .entry)))) ⌝ }
 {
     let n = mu + challenges.len();

@@ -4,7 +4,7 @@ ghost use mathlib.Core.List.{[], _∷_};
 ghost use Prim.Native.Nat.{_+_, _*_, _^_, _≤_};
 ghost use lib.Dec.{leb};
 ghost use Rattle.lists.specs.Tests.{every, within};
-ghost use Rattle.scheme.specs.Sizes.{SizesInOrder, sizesOk, columns, rows, width, recordValues};
+ghost use Rattle.scheme.specs.Sizes.{SizesInOrder, sizesOk, columns, rows, width, recordValues, mostPoints};
 ghost use Rattle.scheme.specs.Question.{headerLength, challengesAt, pointsAt, indicesAt, questionLength};
 ghost use Rattle.scheme.specs.Reply.{recordLength, answersAt, recordsAt, nodesAt};
 ghost use Rattle.commitment.specs.Shape.{sizesIn};
@@ -103,14 +103,14 @@ pub fn points_at(s: Shape) -> usize
 }
 
 pub fn indices_at(s: Shape, m: usize) -> usize
-    requires { ⌜ m ≤ 8 ⌝ }
+    requires { ⌜ m ≤ mostPoints ⌝ }
     ensures { λ r. ⌜ r ≡ indicesAt (sizesIn s) m ⌝ }
 {
     points_at(s) + 4 * m
 }
 
 pub fn question_length(s: Shape, m: usize) -> usize
-    requires { ⌜ m ≤ 8 ⌝ }
+    requires { ⌜ m ≤ mostPoints ⌝ }
     ensures { λ r. ⌜ r ≡ questionLength (sizesIn s) m ⌝ }
 {
     indices_at(s, m) + 2 * s.l as usize
@@ -142,14 +142,14 @@ pub fn answers_at(s: Shape) -> usize
 }
 
 pub fn records_at(s: Shape, m: usize) -> usize
-    requires { ⌜ SizesInOrder (sizesIn s) × (m ≤ 8) ⌝ }
+    requires { ⌜ SizesInOrder (sizesIn s) × (m ≤ mostPoints) ⌝ }
     ensures { λ r. ⌜ r ≡ recordsAt (sizesIn s) m ⌝ }
 {
     answers_at(s) + 4 * row_width(s) * m
 }
 
 pub fn nodes_at(s: Shape, m: usize) -> usize
-    requires { ⌜ SizesInOrder (sizesIn s) × (m ≤ 8) ⌝ }
+    requires { ⌜ SizesInOrder (sizesIn s) × (m ≤ mostPoints) ⌝ }
     ensures { λ r. ⌜ r ≡ nodesAt (sizesIn s) m ⌝ }
 {
     let records = record_length(s) * s.l as usize;

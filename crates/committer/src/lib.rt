@@ -5,8 +5,8 @@ ghost use Prim.Native.Nat.{_*_, _<_, _≤_};
 ghost use lib.ListN.{length, drop};
 ghost use Rattle.lists.specs.Bytes.{bytesOf};
 ghost use Rattle.sponge.specs.Digest.{digest};
-ghost use Rattle.tree.specs.Leaf.{leafString};
-ghost use Rattle.scheme.specs.Sizes.{sizesOf, leaves};
+ghost use Rattle.tree.specs.Leaf.{leafString, indexEnd};
+ghost use Rattle.scheme.specs.Sizes.{sizesOf, leaves, mostValues};
 ghost use Rattle.scheme.specs.Layers.{lentOf};
 ghost use Rattle.scheme.specs.Commit.{tableOf, leafDigests, treeOf, commitVerdict, committing};
 ghost use Rattle.commitment.specs.Shape.{sizesIn};
@@ -34,7 +34,7 @@ fn blank_record() -> [u8; 304] {
 
 // The digest of a leaf, given its values and its nonce.
 fn hash_leaf(index: LeafIndex, values: &[u32], nonce: &[u8], out: &mut [u8])
-    requires { ⌜ (index .0 < 65536) × (length (now values) ≤ 68) × (length (now nonce) ≡ 32) × (length (now out) ≡ 32) ⌝ }
+    requires { ⌜ (index .0 < indexEnd) × (length (now values) ≤ mostValues) × (length (now nonce) ≡ 32) × (length (now out) ≡ 32) ⌝ }
     ensures { λ _. ⌜ now (out .exit) ≡ digest (leafString (index .0) (bytesOf (now (values .entry)) ++ now (nonce .entry))) ⌝ }
 {
     let mut leaf = blank_record();

@@ -7,7 +7,7 @@ ghost use Prim.Native.Nat.{_+_, _*_, _≤_, _<_};
 ghost use lib.ListN.{length, take, drop};
 ghost use lib.Seq.{paste};
 ghost use Rattle.sponge.specs.Digest.{digest};
-ghost use Rattle.tree.specs.Leaf.{leafString};
+ghost use Rattle.tree.specs.Leaf.{leafString, indexEnd, longestRecord};
 use node_sets::LeafIndex;
 
 // ---- Copies and digests
@@ -76,7 +76,7 @@ fn leaf_string(index: LeafIndex, leaf: &[u8], buf: &mut [u8])
 
 // The digest of a leaf, given its index and its record of values and nonce.
 pub fn leaf_digest(index: LeafIndex, leaf: &[u8], out: &mut [u8])
-    requires { ⌜ (index .0 < 65536) × (length (now leaf) ≤ 304) × (length (now out) ≡ 32) ⌝ }
+    requires { ⌜ (index .0 < indexEnd) × (length (now leaf) ≤ longestRecord) × (length (now out) ≡ 32) ⌝ }
     ensures { λ _. ⌜ now (out .exit) ≡ digest (leafString (index .0) (now (leaf .entry))) ⌝ }
 {
     let mut buf = [0u8; 307];

@@ -16,6 +16,8 @@ ghost use Rattle.algebra.specs.Inverse.{invN};
 ghost use Rattle.opened.specs.Records.{recordWordsAt};
 ghost use Rattle.lists.specs.Rows.{rowsOf};
 ghost use Rattle.evaluation_test.specs.Evaluation.{Fits, weighedRow, weighedAt, weighedAll, weighedLeaf, evaluatedLeaf};
+ghost use Rattle.scheme.specs.Sizes.{mostLeaves, mostRows, mostWidth, mostPoints};
+ghost use Rattle.tree.specs.Leaf.{indexEnd};
 use field::Element;
 use opened::fill_powers;
 use opened::opened_point;
@@ -46,7 +48,7 @@ fn weighed_ok(
     scales: &[u32],
     rows: &[u32],
 ) -> bool
-    requires { ⌜ (m ≤ 8) × (length (now inverses) ≡ length (now weights)) × (length (now weights) ≤ longest) × (length (now rows) ≤ longest) × (length (now weights) * m ≤ length (now weighed)) × (length (now rows) * m ≤ length (now scales)) ⌝ }
+    requires { ⌜ (m ≤ mostPoints) × (length (now inverses) ≡ length (now weights)) × (length (now weights) ≤ longest) × (length (now rows) ≤ longest) × (length (now weights) * m ≤ length (now weighed)) × (length (now rows) * m ≤ length (now scales)) ⌝ }
     ensures { λ r. ⌜ r ≡ each m (weighedAt (now (inverses .entry)) (now (weights .entry)) (now (weighed .entry)) (now (scales .entry)) (now (rows .entry))) ⌝ }
 {
     let total = sums::dot(inverses, weights);
@@ -74,7 +76,7 @@ fn leaf_ok(
     products: &mut [u32],
     room: &mut [u32],
 ) -> bool
-    requires { ⌜ (m ≤ 8) × (0 < near) × (near + length (now weights) < q) × Filled invN (now table) 1 (length (now table)) × (length (now weights) ≤ 65536) × (length (now rows) ≤ 65536) × (length (now weights) * m ≤ length (now weighed)) × (length (now rows) * m ≤ length (now scales)) × (length (now products) ≡ length (now weights)) × (length (now room) ≡ length (now weights)) ⌝ }
+    requires { ⌜ (m ≤ mostPoints) × (0 < near) × (near + length (now weights) < q) × Filled invN (now table) 1 (length (now table)) × (length (now weights) ≤ longest) × (length (now rows) ≤ longest) × (length (now weights) * m ≤ length (now weighed)) × (length (now rows) * m ≤ length (now scales)) × (length (now products) ≡ length (now weights)) × (length (now room) ≡ length (now weights)) ⌝ }
     ensures { λ r. ⌜ r ≡ weighedAll m near (now (weights .entry)) (now (weighed .entry)) (now (scales .entry)) (now (rows .entry)) ⌝ }
 {
     let far = near + weights.len();
@@ -104,7 +106,7 @@ fn evaluation_walk(
     products: &mut [u32],
     room: &mut [u32],
 ) -> bool
-    requires { ⌜ (m ≤ 8) × (first ≤ 65536) × Below first (now indices) × (length (now indices) ≤ 64) × Filled invN (now table) 1 (length (now table)) × (length (now weights) ≤ 65536) × (length (now rows) ≤ 65536) × Fits m (now weights) (now weighed) (now rows) (now scales) at size (now indices) (now reply) (now products) (now room) ⌝ }
+    requires { ⌜ (m ≤ mostPoints) × (first ≤ indexEnd) × Below first (now indices) × (length (now indices) ≤ 64) × Filled invN (now table) 1 (length (now table)) × (length (now weights) ≤ longest) × (length (now rows) ≤ longest) × Fits m (now weights) (now weighed) (now rows) (now scales) at size (now indices) (now reply) (now products) (now room) ⌝ }
     ensures { λ r. ⌜ r ≡ each (length (now (indices .entry))) (weighedLeaf m first (now (weights .entry)) (now (weighed .entry)) (now (scales .entry)) (now (indices .entry)) (recordWordsAt at size (length (now (rows .entry))) (now (reply .entry)))) ⌝ }
 {
     for a in 0..indices.len() {
@@ -133,7 +135,7 @@ const NO_TABLE: usize = 2;
 
 // The length of the table of inverses for so many opened leaves: as far as the distances go where it pays. A place of the products of distances is taken to cost one and a half entries of it.
 fn table_length(first: usize, width: usize, opened: usize) -> usize
-    requires { ⌜ (0 < first) × (first ≤ 4096) × (0 < width) × (width ≤ 320) × (opened ≤ 64) ⌝ }
+    requires { ⌜ (0 < first) × (first ≤ mostLeaves) × (0 < width) × (width ≤ mostWidth) × (opened ≤ 64) ⌝ }
     ensures { λ r. ⌜ (2 ≤ r) × (r ≤ 4416) ⌝ }
 {
     let reach = first + width;
@@ -159,7 +161,7 @@ fn tabled_walk(
     products: &mut [u32],
     room: &mut [u32],
 ) -> bool
-    requires { ⌜ (m ≤ 8) × (first ≤ 65536) × Below first (now indices) × (length (now indices) ≤ 64) × (2 ≤ length (now table)) × (length (now table) ≤ 65536) × (length (now weights) ≤ 65536) × (length (now rows) ≤ 65536) × Fits m (now weights) (now weighed) (now rows) (now scales) at size (now indices) (now reply) (now products) (now room) ⌝ }
+    requires { ⌜ (m ≤ mostPoints) × (first ≤ indexEnd) × Below first (now indices) × (length (now indices) ≤ 64) × (2 ≤ length (now table)) × (length (now table) ≤ longest) × (length (now weights) ≤ longest) × (length (now rows) ≤ longest) × Fits m (now weights) (now weighed) (now rows) (now scales) at size (now indices) (now reply) (now products) (now room) ⌝ }
     ensures { λ r. ⌜ r ≡ each (length (now (indices .entry))) (weighedLeaf m first (now (weights .entry)) (now (weighed .entry)) (now (scales .entry)) (now (indices .entry)) (recordWordsAt at size (length (now (rows .entry))) (now (reply .entry)))) ⌝ }
 {
     barycentric::inverses(table);
@@ -204,7 +206,7 @@ fn choosing_walk(
     products: &mut [u32],
     room: &mut [u32],
 ) -> bool
-    requires { ⌜ (m ≤ 8) × (0 < first) × (first ≤ 4096) × Below first (now indices) × (length (now indices) ≤ 64) × (0 < length (now weights)) × (length (now weights) ≤ 320) × (length (now rows) ≤ 65536) × Fits m (now weights) (now weighed) (now rows) (now scales) at size (now indices) (now reply) (now products) (now room) ⌝ }
+    requires { ⌜ (m ≤ mostPoints) × (0 < first) × (first ≤ mostLeaves) × Below first (now indices) × (length (now indices) ≤ 64) × (0 < length (now weights)) × (length (now weights) ≤ mostWidth) × (length (now rows) ≤ longest) × Fits m (now weights) (now weighed) (now rows) (now scales) at size (now indices) (now reply) (now products) (now room) ⌝ }
     ensures { λ r. ⌜ r ≡ each (length (now (indices .entry))) (weighedLeaf m first (now (weights .entry)) (now (weighed .entry)) (now (scales .entry)) (now (indices .entry)) (recordWordsAt at size (length (now (rows .entry))) (now (reply .entry)))) ⌝ }
 {
     let n = table_length(first, weights.len(), indices.len());
@@ -275,7 +277,7 @@ fn evaluation_in(
     products: &mut [u32],
     room: &mut [u32],
 ) -> bool
-    requires { ⌜ (length (now points) ≤ 8) × (0 < leaves) × (leaves ≤ 4096) × Below leaves (now indices) × (length (now indices) ≤ 64) × (0 < length (now weights)) × (length (now weights) ≤ tableSize) × (length (now rows) ≤ 64) × Fits (length (now points)) (now weights) (now answers) (now rows) (now scales) at size (now indices) (now reply) (now products) (now room) ⌝ }
+    requires { ⌜ (length (now points) ≤ mostPoints) × (0 < leaves) × (leaves ≤ mostLeaves) × Below leaves (now indices) × (length (now indices) ≤ 64) × (0 < length (now weights)) × (length (now weights) ≤ tableSize) × (length (now rows) ≤ mostRows) × Fits (length (now points)) (now weights) (now answers) (now rows) (now scales) at size (now indices) (now reply) (now products) (now room) ⌝ }
     ensures { λ r. ⌜ r ≡ each (length (now (indices .entry))) (evaluatedLeaf leaves (length (now (weights .entry))) (now (points .entry)) (now (answers .entry)) (now (indices .entry)) (recordWordsAt at size (length (now (rows .entry))) (now (reply .entry)))) ⌝ }
 {
     let m = points.len();
@@ -346,7 +348,7 @@ pub fn evaluation_ok(
     size: usize,
     reply: &[u8],
 ) -> bool
-    requires { ⌜ (0 < leaves) × (leaves ≤ 4096) × Below leaves (now indices) × (length (now indices) ≤ 64) × (0 < width) × (width ≤ 320) × (mu ≤ 64) × (length (now points) ≤ 8) × (width * length (now points) ≤ length (now answers)) × (4 * mu ≤ size) × (at + size * length (now indices) ≤ length (now reply)) ⌝ }
+    requires { ⌜ (0 < leaves) × (leaves ≤ mostLeaves) × Below leaves (now indices) × (length (now indices) ≤ 64) × (0 < width) × (width ≤ mostWidth) × (mu ≤ mostRows) × (length (now points) ≤ mostPoints) × (width * length (now points) ≤ length (now answers)) × (4 * mu ≤ size) × (at + size * length (now indices) ≤ length (now reply)) ⌝ }
     ensures { λ r. ⌜ r ≡ each (length (now (indices .entry))) (evaluatedLeaf leaves width (now (points .entry)) (now (answers .entry)) (now (indices .entry)) (recordWordsAt at size mu (now (reply .entry)))) ⌝ }
 {
     let mut rows = blank_leaf();

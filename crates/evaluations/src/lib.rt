@@ -9,7 +9,7 @@ ghost use Rattle.algebra.specs.Numbers.{valuesAtN};
 ghost use Rattle.stepping.specs.Lanes.{Small, KeptLanes};
 ghost use Rattle.extrapolation.specs.Written.{KeptColumns};
 ghost use Rattle.extrapolation.specs.Extrapolated.{Columns};
-ghost use Rattle.scheme.specs.Sizes.{SizesInOrder, leaves, rows, width, recordValues};
+ghost use Rattle.scheme.specs.Sizes.{SizesInOrder, leaves, rows, width, recordValues, mostWidth};
 ghost use Rattle.scheme.specs.Layers.{lentOf, extended};
 ghost use Rattle.scheme.specs.Commit.{tableOf};
 ghost use Rattle.commitment.specs.Shape.{sizesIn};
@@ -94,7 +94,7 @@ fn gather_rows(
 
 // The values at x of the masks, whose coefficients stand one after the other. `weights` is room for the powers of x.
 fn mask_values(x: Element, masks: &[u32], weights: &mut [u32], out: &mut [u32])
-    requires { ⌜ (length (now weights) ≤ 320) × (length (now weights) * length (now out) ≤ length (now masks)) ⌝ }
+    requires { ⌜ (length (now weights) ≤ mostWidth) × (length (now weights) * length (now out) ≤ length (now masks)) ⌝ }
     ensures { λ _. ⌜ now (out .exit) ≡ valuesAtN (pieces (length (now (weights .entry))) (length (now (out .entry))) (now (masks .entry))) (x .0) ⌝ }
 {
     powers(x, weights);
@@ -103,7 +103,7 @@ fn mask_values(x: Element, masks: &[u32], weights: &mut [u32], out: &mut [u32])
 
 // The values of the masks at the points first, first + 1, .., a lane each.
 fn gather_masks(first: Element, masks: &[u32], eta: usize, weights: &mut [u32], values: &mut [u32])
-    requires { ⌜ (first .0 + length (now weights) ≤ q) × (length (now weights) ≤ 320) × (length (now weights) * eta ≤ length (now masks)) × (eta ≤ 4) × (4 * length (now weights) ≤ length (now values)) ⌝ }
+    requires { ⌜ (first .0 + length (now weights) ≤ q) × (length (now weights) ≤ mostWidth) × (length (now weights) * eta ≤ length (now masks)) × (eta ≤ 4) × (4 * length (now weights) ≤ length (now values)) ⌝ }
     ensures { λ _. ⌜ MaskLanes (first .0) (now (masks .entry)) (length (now (weights .entry))) eta (length (now (weights .entry))) (now (values .exit)) ⌝ }
 {
     let width = weights.len();

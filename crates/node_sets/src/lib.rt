@@ -8,6 +8,7 @@ ghost use Rattle.lists.specs.All.{Below};
 ghost use Rattle.tree.specs.Sets.{parents};
 ghost use Rattle.tree.specs.Walk.{heads, used};
 ghost use Rattle.node_sets.specs.Clauses.{NodeSet};
+ghost use Rattle.tree.specs.Leaf.{indexEnd};
 
 // The number of a leaf, a type of its own: it is no field point.
 pub struct LeafIndex(pub u32);
@@ -22,7 +23,7 @@ pub struct Place {
 
 // The index of opened leaf a.
 pub fn opened_index(indices: &[usize], a: usize) -> LeafIndex
-    requires { ⌜ (a < length (now indices)) × Below 65536 (now indices) ⌝ }
+    requires { ⌜ (a < length (now indices)) × Below indexEnd (now indices) ⌝ }
     ensures { λ r. ⌜ r .0 ≡ getD (now (indices .entry)) a 0 ⌝ }
 {
     let i = indices[a];

@@ -8,6 +8,7 @@ ghost use Rattle.scheme.specs.Sizes.{leafPoint};
 ghost use Rattle.opened.specs.Records.{recordWordsAt};
 ghost use Rattle.lists.specs.Rows.{rowsOf};
 ghost use Rattle.opened.specs.Powers.{powersAt};
+ghost use Rattle.tree.specs.Leaf.{indexEnd};
 use field::Element;
 use node_sets::LeafIndex;
 use node_sets::opened_index;
@@ -21,7 +22,7 @@ fn leaf_point(i: LeafIndex) -> Element
 
 // The point of opened leaf a.
 pub fn opened_point(indices: &[usize], a: usize) -> Element
-    requires { ⌜ (a < length (now indices)) × Below 65536 (now indices) ⌝ }
+    requires { ⌜ (a < length (now indices)) × Below indexEnd (now indices) ⌝ }
     ensures { λ r. ⌜ r .0 ≡ leafPoint (getD (now (indices .entry)) a 0) ⌝ }
 {
     leaf_point(opened_index(indices, a))

@@ -8,7 +8,7 @@ use Rattle.lists.specs.Bytes.{Bytes, bytesOf}
 use Rattle.lists.specs.Range.{upFrom}
 use Rattle.tree.specs.Sets.{missing, treeSize}
 use Rattle.tree.specs.Clauses.{IndexSet}
-use Rattle.scheme.specs.Sizes.{Sizes, SizesInOrder, leaves, width, recordValues}
+use Rattle.scheme.specs.Sizes.{Sizes, SizesInOrder, leaves, width, recordValues, mostPoints}
 use Rattle.scheme.specs.Question.{Question, questionLength}
 use Rattle.scheme.specs.Reply.{recordsAt, nodesAt}
 use Rattle.answers.specs.Answers.{CanCombine, batchingAt, answerAt}
@@ -30,7 +30,7 @@ pub record CanRecord (s : Sizes) (table : List ℕ) (nonces : Bytes) (indices : 
 -- the records and the missing nodes can be written: the indices are a set of ℓ leaves, with a record each, of a tree, and the reply has room
 pub record CanList (s : Sizes) (m : ℕ) (table : List ℕ) (nonces : Bytes) (indices : List ℕ) (nodes reply : Bytes) : Type 0 where
   pub sizes : SizesInOrder s
-  pub points : m ≤ 8
+  pub points : m ≤ mostPoints
   pub recorded : CanRecord s table nonces indices
   pub count : length indices ≡ s .ℓ
   pub set : IndexSet (s .h) indices
@@ -40,7 +40,7 @@ pub record CanList (s : Sizes) (m : ℕ) (table : List ℕ) (nonces : Bytes) (in
 
 -- the answers can be written: the rows can be combined, the question and the masks have as many words as the sizes ask, and the reply has room
 pub record CanSum (question : Bytes) (s : Sizes) (m : ℕ) (coefficients tails masks : List ℕ) (reply : Bytes) : Type 0 where
-  pub points : m ≤ 8
+  pub points : m ≤ mostPoints
   pub long : length question ≡ questionLength s m
   pub combine : CanCombine s coefficients tails
   pub masks-length : length masks ≡ s .η * width s

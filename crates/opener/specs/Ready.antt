@@ -7,7 +7,7 @@ use lib.ListN.{length}
 use Rattle.lists.specs.All.{Below}
 use Rattle.lists.specs.Rising.{Rising}
 use Rattle.lists.specs.Bytes.{Bytes}
-use Rattle.scheme.specs.Sizes.{Sizes, leaves}
+use Rattle.scheme.specs.Sizes.{Sizes, leaves, mostPoints}
 use Rattle.scheme.specs.Layers.{Lent}
 use Rattle.scheme.specs.Question.{questionAt, questionLength}
 use Rattle.scheme.specs.Reply.{replyLength}
@@ -16,7 +16,7 @@ use Rattle.scheme.specs.Honest.{WellLent}
 
 pub record Ready (question : Bytes) (s : Sizes) (m : ℕ) (l : Lent) (table : List ℕ) (nodes reply : Bytes) : Type 0 where
   pub lent : WellLent s l
-  pub points : m ≤ 8
+  pub points : m ≤ mostPoints
   pub long : length question ≡ questionLength s m
   pub rising : Rising (questionAt s m question .indices)
   pub leaf : Below (leaves s) (questionAt s m question .indices)

@@ -7,7 +7,7 @@ ghost use lib.ListN.{length, take, drop};
 ghost use Rattle.lists.specs.Tests.{every, same};
 ghost use Rattle.scheme.specs.Layers.{lentOf, extendedRows};
 ghost use Rattle.scheme.specs.Commit.{lentOk, filledOk, lentElements, lastDigest, leafRecord};
-ghost use Rattle.scheme.specs.Sizes.{SizesInOrder, elements};
+ghost use Rattle.scheme.specs.Sizes.{SizesInOrder, elements, mostPoints};
 ghost use Rattle.scheme.specs.Question.{headerLength, challengesAt, readQuestion, questionAt};
 ghost use Rattle.scheme.specs.Reply.{recordLength, recordsAt, nodesAt, replyLength};
 ghost use Rattle.scheme.specs.Open.{replyOf, openVerdict, opening};
@@ -96,7 +96,7 @@ fn lengths_ok(
     tree: &[u8],
     reply: &[u8],
 ) -> bool
-    requires { ⌜ SizesInOrder (sizesIn s) × (m ≤ 8) × IndexSet (s .h) (now indices) ⌝ }
+    requires { ⌜ SizesInOrder (sizesIn s) × (m ≤ mostPoints) × IndexSet (s .h) (now indices) ⌝ }
     ensures { λ r. ⌜ r ≡ every (lentOk (sizesIn s) (lentOf (now (coefficients .entry)) (now (tails .entry)) (now (masks .entry)) (now (nonces .entry))) ∷ filledOk (sizesIn s) (now (table .entry)) (now (tree .entry)) ∷ eqb (length (now (reply .entry))) (nodesAt (sizesIn s) m + 32 * length (missing 2 (s .h) (now (indices .entry)))) ∷ []) ⌝ }
 {
     let lent = lent_ok(s, coefficients, tails, masks, nonces);

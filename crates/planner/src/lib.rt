@@ -4,7 +4,7 @@ ghost use Prim.Native.Nat.{_+_, _*_, _≤_};
 ghost use lib.ListN.{length};
 ghost use Rattle.tree.specs.Sets.{missing};
 ghost use Rattle.tree.specs.Clauses.{IndexSet};
-ghost use Rattle.scheme.specs.Sizes.{SizesInOrder};
+ghost use Rattle.scheme.specs.Sizes.{SizesInOrder, mostPoints};
 ghost use Rattle.scheme.specs.Question.{readQuestion};
 ghost use Rattle.scheme.specs.Reply.{nodesAt, replyLength};
 ghost use Rattle.scheme.specs.Sizing.{sizing};
@@ -22,7 +22,7 @@ use question::question_indices;
 
 // The length of a reply that opens these leaves.
 pub fn length_for(s: Shape, m: usize, indices: &[usize]) -> usize
-    requires { ⌜ SizesInOrder (sizesIn s) × (m ≤ 8) × IndexSet (s .h) (now indices) ⌝ }
+    requires { ⌜ SizesInOrder (sizesIn s) × (m ≤ mostPoints) × IndexSet (s .h) (now indices) ⌝ }
     ensures { λ r. ⌜ r ≡ nodesAt (sizesIn s) m + 32 * length (missing 2 (s .h) (now (indices .entry))) ⌝ }
 {
     nodes_at(s, m) + 32 * count_missing(s.h as usize, indices)

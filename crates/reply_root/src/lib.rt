@@ -8,13 +8,14 @@ ghost use Rattle.lists.specs.Rows.{rowsOf};
 ghost use Rattle.tree.specs.Sets.{missing};
 ghost use Rattle.tree.specs.Clauses.{IndexSet};
 ghost use Rattle.reply_root.specs.Root.{leafDigestAt, rootAt};
+ghost use Rattle.tree.specs.Leaf.{indexEnd, longestRecord};
 use digests::leaf_digest;
 use node_sets::opened_index;
 use tree_root::root_of;
 
 // The digest of each opened leaf: its record is handed on as the part of the reply that holds it.
 fn leaf_digests(at: usize, size: usize, indices: &[usize], reply: &[u8], out: &mut [u8])
-    requires { ⌜ Below 65536 (now indices) × (size ≤ 304) × (at + size * length (now indices) ≤ length (now reply)) × (32 * length (now indices) ≤ length (now out)) ⌝ }
+    requires { ⌜ Below indexEnd (now indices) × (size ≤ longestRecord) × (at + size * length (now indices) ≤ length (now reply)) × (32 * length (now indices) ≤ length (now out)) ⌝ }
     ensures { λ _. ⌜ now (out .exit) ≡ rowsOf (leafDigestAt at size (now (indices .entry)) (now (reply .entry))) (length (now (indices .entry))) ++ drop (32 * length (now (indices .entry))) (now (out .entry)) ⌝ }
 {
     for a in 0..indices.len() {
@@ -37,7 +38,7 @@ fn blank_digests() -> [u8; 2048] {
 
 // The root that the opened leaves, whose records begin at `at`, and the missing nodes after them give.
 pub fn reply_root(h: usize, at: usize, size: usize, indices: &[usize], reply: &[u8]) -> [u8; 32]
-    requires { ⌜ IndexSet h (now indices) × (size ≤ 304) × (at + size * length (now indices) + 32 * length (missing 2 h (now indices)) ≤ length (now reply)) ⌝ }
+    requires { ⌜ IndexSet h (now indices) × (size ≤ longestRecord) × (at + size * length (now indices) + 32 * length (missing 2 h (now indices)) ≤ length (now reply)) ⌝ }
     ensures { λ r. ⌜ r ≡ rootAt h at size (now (indices .entry)) (now (reply .entry)) ⌝ }
 {
     let mut digests = blank_digests();

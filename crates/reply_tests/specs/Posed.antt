@@ -8,7 +8,7 @@ use Rattle.lists.specs.All.{Below}
 use Rattle.lists.specs.Rising.{Rising}
 use Rattle.lists.specs.Bytes.{Bytes}
 use Rattle.lists.specs.Tests.{Test, each, same}
-use Rattle.scheme.specs.Sizes.{Sizes, SizesInOrder, leaves}
+use Rattle.scheme.specs.Sizes.{Sizes, SizesInOrder, leaves, mostPoints}
 use Rattle.scheme.specs.Question.{Question}
 use Rattle.scheme.specs.Reply.{Reply, readReply, replyLength}
 use Rattle.scheme.specs.Check.{replyElements, replyRoot, batchingAt, evaluationAt}
@@ -21,7 +21,7 @@ posed s root challenges points indices = record { sizes = s; m = length points; 
 pub record Posed (s : Sizes) (challenges points indices : List ℕ) : Type 0 where
   pub in-order : SizesInOrder s
   pub repetitions : length challenges ≡ s .η
-  pub few-points : length points ≤ 8
+  pub few-points : length points ≤ mostPoints
   pub opened : length indices ≡ s .ℓ
   pub rising : Rising indices
   pub below : Below (leaves s) indices

@@ -9,6 +9,7 @@ ghost use Rattle.commitment.specs.Shape.{sizesIn};
 ghost use Rattle.question.specs.Questioned.{headed};
 ghost use Rattle.question.specs.declared.Questioned.the-variants.{WellFormed};
 ghost use Rattle.report.specs.Written.{written, overwritten, pointLines, checkedText};
+ghost use Rattle.scheme.specs.Sizes.{mostPoints};
 use checker::check;
 use codec::put_bytes;
 use commitment::Shape;
@@ -66,7 +67,7 @@ fn put_point(out: &mut [u8], at: usize, p: usize, w: usize, values: &[u32]) -> u
 
 // The lines of m points.
 fn put_values(out: &mut [u8], at: usize, m: usize, w: usize, values: &[u32]) -> usize
-    requires { ⌜ (m ≤ 8) × (w ≤ 256) × (length (now values) ≡ w * m) × (at + 24 * (w * m) ≤ length (now out)) ⌝ }
+    requires { ⌜ (m ≤ mostPoints) × (w ≤ 256) × (length (now values) ≡ w * m) × (at + 24 * (w * m) ≤ length (now out)) ⌝ }
     ensures { λ r. ⌜ (r, now (out .exit)) ≡ written (now (out .entry)) at (valueLines m w (now (values .entry))) ⌝ }
 {
     let mut next = at;
@@ -88,7 +89,7 @@ fn put_verdict(out: &mut [u8], verdict: u32) -> usize
 
 // The whole text for a verdict and the values of m points and w polynomials.
 fn put_text(out: &mut [u8], verdict: u32, m: usize, w: usize, values: &[u32]) -> usize
-    requires { ⌜ (m ≤ 8) × (w ≤ 256) × (length (now values) ≡ w * m) × (length (now out) ≡ 65536) ⌝ }
+    requires { ⌜ (m ≤ mostPoints) × (w ≤ 256) × (length (now values) ≡ w * m) × (length (now out) ≡ inputLimit) ⌝ }
     ensures { λ r. ⌜ (r, now (out .exit)) ≡ written (now (out .entry)) 0 (text verdict (valueLines m w (now (values .entry)))) ⌝ }
 {
     let at = put_verdict(out, verdict);
@@ -107,7 +108,7 @@ fn put_checked(
     w: usize,
     values: &mut [u32],
 ) -> usize
-    requires { ⌜ (m ≤ 8) × (w ≤ 256) × (length (now values) ≡ w * m) × (length (now out) ≡ 65536) ⌝ }
+    requires { ⌜ (m ≤ mostPoints) × (w ≤ 256) × (length (now values) ≡ w * m) × (length (now out) ≡ inputLimit) ⌝ }
     ensures { λ r. ⌜ (r, now (out .exit)) ≡ written (now (out .entry)) 0 (checkedText (now (question .entry)) (now (reply .entry)) m w (now (values .entry))) ⌝ }
 {
     let verdict = check(question, reply, values);
@@ -116,7 +117,7 @@ fn put_checked(
 
 // How many bytes of the input are the question: as many as the header gives, or all.
 fn question_end(s: Shape, m: usize, all: usize) -> usize
-    requires { ⌜ m ≤ 8 ⌝ }
+    requires { ⌜ m ≤ mostPoints ⌝ }
     ensures { λ r. ⌜ r ≡ min (questionLength (sizesIn s) m) all ⌝ }
 {
     let n = question_length(s, m);

@@ -84,6 +84,22 @@ pub record SizesInOrder (s : Sizes) : Type 0 where
   pub η-high : s .η ≤ 4
   pub fits : width s ≤ leaves s
 
+-- the largest numbers that sizes in order give: leaves, rows, the width, values of a record; and points of a question
+abbrev pub mostLeaves : ℕ
+mostLeaves = 4096
+
+abbrev pub mostRows : ℕ
+mostRows = 64
+
+abbrev pub mostWidth : ℕ
+mostWidth = 320
+
+abbrev pub mostValues : ℕ
+mostValues = 68
+
+abbrev pub mostPoints : ℕ
+mostPoints = 8
+
 -- m, the number of evaluation points, in its range
 abbrev pub pointsOk : ℕ → Bool
 pointsOk m = within 1 8 m
