@@ -8,8 +8,8 @@ use Rattle.algebra.specs.Numbers.{evalN}
 use Rattle.stepping.specs.Lanes.{entry}
 
 -- the most points of both kinds together
-abbrev pub mostPoints : ℕ
-mostPoints = 65536
+abbrev pub pointsTogether : ℕ
+pointsTogether = 65536
 
 -- polynomial p j has at most `width` coefficients, and at n, .., n + width - 1 the values of lane j, which stand four places apart
 unfoldable pub Through : (ℕ → List ℕ) → List ℕ → ℕ → ℕ → ℕ → Type 0

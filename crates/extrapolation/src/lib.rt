@@ -8,7 +8,7 @@ ghost use Prim.Native.Nat.{_+_, _-_, _*_, _/_, _<_, _≤_};
 ghost use lib.ListN.{length};
 ghost use Rattle.stepping.specs.Lanes.{laneCount, run, Small, Zeros};
 ghost use Rattle.extrapolation.specs.Written.{PutLanes, KeptColumns, KeptRows, Put, Walk};
-ghost use Rattle.extrapolation.specs.Extrapolated.{mostPoints, Extrapolated};
+ghost use Rattle.extrapolation.specs.Extrapolated.{pointsTogether, Extrapolated};
 use loading::load;
 use stepping::steps;
 
@@ -65,7 +65,7 @@ fn put_steps(
     lo: usize,
     out: &mut [u32],
 )
-    requires { ⌜ (lanes ≤ laneCount) × (length (now w) ≡ laneCount * run) × (lo + lanes ≤ stride) × (count * stride ≤ length (now out)) × (first + count ≤ mostPoints) × (i < first + count) ⌝ }
+    requires { ⌜ (lanes ≤ laneCount) × (length (now w) ≡ laneCount * run) × (lo + lanes ≤ stride) × (count * stride ≤ length (now out)) × (first + count ≤ pointsTogether) × (i < first + count) ⌝ }
     ensures { λ _. ⌜ KeptColumns stride lo lanes (now (out .entry)) (now (out .exit)) × KeptRows i (first + count) stride lo lanes (now (out .entry)) (now (out .exit)) × Put (now (w .entry)) i run first (first + count) stride lo lanes (now (out .exit)) ⌝ }
 {
     let end = first + count;
@@ -89,7 +89,7 @@ fn walk(
     lo: usize,
     out: &mut [u32],
 )
-    requires { ⌜ (20 * blocks ≤ length (now t)) × (lanes ≤ laneCount) × Small (now t) × (lo + lanes ≤ stride) × (count * stride ≤ length (now out)) × (first + count ≤ mostPoints) ⌝ }
+    requires { ⌜ (20 * blocks ≤ length (now t)) × (lanes ≤ laneCount) × Small (now t) × (lo + lanes ≤ stride) × (count * stride ≤ length (now out)) × (first + count ≤ pointsTogether) ⌝ }
     ensures { λ _. ⌜ Small (now (t .exit)) × KeptColumns stride lo lanes (now (out .entry)) (now (out .exit)) × Walk (5 * blocks) (now (t .entry)) first (first + count) stride lo lanes (now (out .exit)) ⌝ }
 {
     let end = first + count;
@@ -117,7 +117,7 @@ pub fn extrapolate(
     stride: usize,
     out: &mut [u32],
 )
-    requires { ⌜ (0 < width) × (lanes ≤ laneCount) × (width + n ≤ mostPoints) × (4 * width ≤ length (now values)) × (20 * ((width + 4) / 5) ≤ length (now lines)) × Small (now lines) × (lo + lanes ≤ stride) × (n * stride ≤ length (now out)) ⌝ }
+    requires { ⌜ (0 < width) × (lanes ≤ laneCount) × (width + n ≤ pointsTogether) × (4 * width ≤ length (now values)) × (20 * ((width + 4) / 5) ≤ length (now lines)) × Small (now lines) × (lo + lanes ≤ stride) × (n * stride ≤ length (now out)) ⌝ }
     ensures { λ _. ⌜ Small (now (lines .exit)) × KeptColumns stride lo lanes (now (out .entry)) (now (out .exit)) × Extrapolated (now (values .entry)) width lanes n lo stride (now (out .exit)) ⌝ }
 {
     let blocks = (width + 4) / 5;
