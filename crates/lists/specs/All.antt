@@ -43,7 +43,7 @@ pub mem-all : {A : Type 0} (P : A → Type 0) (xs : List A) → ((x : A) → Mem
 mem-all P [] h = tt
 mem-all P (x ∷ xs) h = (h x (here refl), mem-all P xs (λ y m. h y (there m)))
 
-all-mem : {A : Type 0} (P : A → Type 0) (xs : List A) → All P xs → (x : A) → Mem x xs → P x
+pub all-mem : {A : Type 0} (P : A → Type 0) (xs : List A) → All P xs → (x : A) → Mem x xs → P x
 all-mem P [] h x m = absurd (not-nil m)
 all-mem P (y ∷ ys) h x m = ⊎-elim (λ e. subst P (sym e) (h .0)) (λ k. all-mem P ys (h .1) x k) (in-cons m)
 

@@ -23,12 +23,15 @@ unfoldable pub littleEndian : ℕ → ℕ → Bytes
 littleEndian zero n = []
 littleEndian (suc k) n = n % 256 ∷ littleEndian k (n / 256)
 
--- n numbers of two bytes each, of four bytes each
+-- n numbers of two bytes each, of four bytes each, of eight bytes each
 abbrev pub halves : ℕ → Bytes → List ℕ
 halves n x = map fromBytes (pieces 2 n x)
 
 abbrev pub words : ℕ → Bytes → List ℕ
 words n x = map fromBytes (pieces 4 n x)
+
+abbrev pub doubles : ℕ → Bytes → List ℕ
+doubles n x = map fromBytes (pieces 8 n x)
 
 -- words as bytes, four each
 abbrev pub bytesOf : List ℕ → Bytes
@@ -41,7 +44,7 @@ Small xs = Below 4294967296 xs
 pub length-words : (n : ℕ) (x : Bytes) → length (words n x) ≡ n
 length-words n x = length-map (pieces 4 n x) fromBytes ∙ length-pieces 4 n x
 
-length-littleEndian : (k n : ℕ) → length (littleEndian k n) ≡ k
+pub length-littleEndian : (k n : ℕ) → length (littleEndian k n) ≡ k
 unfolding littleEndian
 length-littleEndian zero n = refl
 length-littleEndian (suc k) n = ap suc (length-littleEndian k (n / 256))

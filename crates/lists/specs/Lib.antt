@@ -1,12 +1,14 @@
 -- Plain lists, numbers and bytes: definitions that the crates above share, and their laws.
 
--- truth values, tests, and the first test that holds
+-- truth values, tests, the first test that holds, and the least number of which one holds
 pub mod Choice
 pub mod Tests
 pub mod Scan
--- what holds of all elements; rising lists; ranges
+pub mod Least
+-- what holds of all elements; rising lists, lists put in order; ranges
 pub mod All
 pub mod Rising
+pub mod Sorted
 pub mod Range
 pub mod Maps
 -- lists cut into pieces, and parts of a list

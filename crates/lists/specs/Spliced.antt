@@ -80,6 +80,15 @@ word-stores at a b c d o h =
     ∙ ap (λ (l : List ℕ). set l (at + 3) d) (spliced-next at 2 (a ∷ b ∷ []) o c refl (omega arith))
     ∙ spliced-next at 3 (a ∷ b ∷ c ∷ []) o d refl (omega arith)
 
+-- ---- the two bytes of a number below 65536
+
+pub half-bytes : (x : ℕ) → littleEndian 2 x ≡ x % 256 ∷ x / 256 % 256 ∷ []
+unfolding littleEndian
+half-bytes x = refl
+
+pub half-stores : (at a b : ℕ) (o : List ℕ) → at + 2 ≤ length o → set (set o at a) (at + 1) b ≡ spliced at 2 (a ∷ b ∷ []) o
+half-stores at a b o h = ap (λ (l : List ℕ). set l (at + 1) b) (set-spliced at a o (omega arith)) ∙ spliced-next at 1 (a ∷ []) o b refl (omega arith)
+
 -- ---- words written one by one
 
 pub words-next : (at i : ℕ) (s : List ℕ) (o : Bytes) → i < length s → at + 4 * length s ≤ length o
