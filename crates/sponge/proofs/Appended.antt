@@ -1,14 +1,13 @@
 -- The words of two strings, one after the other, and how large a last word is.
-use mathlib.Core.Path.{_≡_, refl, sym, ap, ap₂, _∙_, subst}
+use mathlib.Core.Path.{_≡_, sym, ap, ap₂, _∙_, subst}
 use mathlib.Core.List.{List, _++_}
-use Prim.Native.Nat.{ℕ, zero, suc, _+_, _-_, _*_, _^_, _<_, _≤_}
-use native.Mathlib.Nat.{pow-suc, suc-mul}
+use Prim.Native.Nat.{ℕ, _+_, _-_, _*_, _^_, _<_, _≤_}
 use native.Mathlib.Omega.{arith}
 use lib.ListN.{length, getD, take, drop, length-drop, drop-of-length-le}
-use lib.Pow.{pow-add}
 use lib.Seq.{drop-append-le, take-append-le, take-append-add, drop-append-add, take-all, getD-drop}
 use Rattle.lists.specs.Number.{number, number-append, number-lt}
 use Rattle.keccak.specs.Strings.{word}
+use Rattle.squeezing.proofs.Shift.{pow-bytes}
 
 module _ (m p : List ℕ) (q : ℕ) where
   -- a word of the first string
@@ -43,10 +42,6 @@ module _ (m p : List ℕ) (q : ℕ) where
 pub word-past : (m : List ℕ) (q : ℕ) → length m ≤ q → word m q ≡ 0
 unfolding word number
 word-past m q h = ap (λ (l : List ℕ). number 256 (take 8 l)) (drop-of-length-le m {i = q} h)
-
-pub pow-bytes : (r : ℕ) → 256 ^ r ≡ 2 ^ (r * 8)
-pow-bytes zero = refl
-pow-bytes (suc r) = pow-suc 256 r ∙ ap (λ (x : ℕ). x * 256) (pow-bytes r) ∙ sym (ap (λ (x : ℕ). 2 ^ x) (suc-mul r 8) ∙ pow-add 2 (r * 8) 8)
 
 drop-bytes : (m : List ℕ) (q : ℕ) → ((i : ℕ) → getD m i 0 < 256) → (i : ℕ) → getD (drop q m) i 0 < 256
 drop-bytes m q h i = subst (λ (x : ℕ). x < 256) (sym (getD-drop q m i 0)) (h (q + i))

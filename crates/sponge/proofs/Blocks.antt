@@ -6,13 +6,14 @@ use native.Mathlib.Nat.{zero-add, le-of-eq}
 use native.Mathlib.Omega.{arith}
 use lib.Bits.{bitXor}
 use lib.ListN.{length, getD, take, drop, length-append, length-drop}
-use lib.Seq.{drop-append-le, take-append-le, drop-drop, take-take, take-all}
+use lib.Seq.{drop-append-le, drop-append-add, drop-drop, take-take, take-all}
 use Rattle.lists.specs.Tabulate.{tabulate, tabulate-ext}
 use Rattle.lists.specs.Number.{number}
 use Rattle.lists.specs.Pieces.{drop-take}
 use Rattle.keccak.specs.Strings.{word}
 use Rattle.sponge.specs.Shake.{padded, xorBlock}
 use Rattle.sponge.proofs.Padding.{padding, padded-is}
+use Rattle.sponge.proofs.Appended.{word-before}
 
 -- a state of 25 lanes has 25 after a block
 pub length-xorBlock : (a p : List ℕ) (at : ℕ) → length a ≡ 25 → length (xorBlock a p at) ≡ 25
@@ -49,17 +50,24 @@ front-block a p =
     ∙ ap (λ (l : List ℕ). number 256 (take 8 l)) (drop-take q (136 - q) p)
     ∙ ap (number 256) (take-take 8 (136 - q) (drop q p) (omega arith)))
 
--- a block that the string fills
+-- a part of the string as long as a block
+pub part-block : (a m : List ℕ) (at : ℕ) → xorBlock a (take (at + 136 - at) (drop at m)) 0 ≡ xorBlock a m at
+part-block a m at =
+    let size : at + 136 - at ≡ 136 = omega arith in
+    ap (λ (k : ℕ). xorBlock a (take k (drop at m)) 0) size ∙ front-block a (drop at m) ∙ rest-block a m at
+
+-- a block of the first of two strings
+pub block-before : (a m p : List ℕ) (at : ℕ) → at + 136 ≤ length m → xorBlock a m at ≡ xorBlock a (m ++ p) at
+block-before a m p at h = same-words a m (m ++ p) at at (λ j b. sym (word-before m p (at + 8 * j) (omega arith)))
+
+-- .. and so of the padded string
 pub full-block : (a m : List ℕ) (at : ℕ) → at + 136 ≤ length m → xorBlock a (take (at + 136 - at) (drop at m)) 0 ≡ xorBlock a (padded m) at
 full-block a m at h =
-    let p : List ℕ = padding (136 - length m % 136) in
-    let size : at + 136 - at ≡ 136 = omega arith in
-    let fit : 136 ≤ length (drop at m) = omega (arith, length-drop at m) in
-    ap (λ (k : ℕ). xorBlock a (take k (drop at m)) 0) size
-    ∙ ap (λ (l : List ℕ). xorBlock a l 0) (sym (take-append-le 136 (drop at m) p fit) ∙ ap (take 136) (sym (drop-append-le at m p (omega arith))))
-    ∙ front-block a (drop at (m ++ p))
-    ∙ rest-block a (m ++ p) at
-    ∙ ap (λ (l : List ℕ). xorBlock a l at) (sym (padded-is m))
+    part-block a m at ∙ block-before a m (padding (136 - length m % 136)) at h ∙ ap (λ (l : List ℕ). xorBlock a l at) (sym (padded-is m))
+
+-- a block of the second
+pub block-after : (a m p : List ℕ) (at : ℕ) → xorBlock a (m ++ p) (length m + at) ≡ xorBlock a p at
+block-after a m p at = sym (rest-block a (m ++ p) (length m + at)) ∙ ap (λ (l : List ℕ). xorBlock a l 0) (drop-append-add m p at) ∙ rest-block a p at
 
 -- the last block: after whole blocks, the rest of the string is padded as the string is
 pub last-padded : (a m : List ℕ) (at : ℕ) → at % 136 ≡ 0 → at ≤ length m → xorBlock a (padded (take (length m - at) (drop at m))) 0 ≡ xorBlock a (padded m) at

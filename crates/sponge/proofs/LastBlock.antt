@@ -17,7 +17,8 @@ use Rattle.lists.specs.Number.{number, order}
 use Rattle.keccak.specs.Strings.{word}
 use Rattle.sponge.specs.Shake.{padded, xorBlock}
 use Rattle.sponge.proofs.Padding.{padding, padded-is, padding-front, padding-whole, padding-middle, padding-end}
-use Rattle.sponge.proofs.Appended.{word-before, word-across, word-after, word-past, word-lt, pow-bytes}
+use Rattle.sponge.proofs.Appended.{word-before, word-across, word-after, word-past, word-lt}
+use Rattle.squeezing.proofs.Shift.{pow-bytes}
 use Rattle.keccak.specs.Xor.{xor-assoc}
 
 -- ---- the two exclusive ors: 0x1f after the string's last byte, and the last bit of the block

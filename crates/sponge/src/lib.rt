@@ -1,12 +1,15 @@
-// SHAKE256 of FIPS 202, cut to 32 bytes.
+// SHAKE256 of FIPS 202: cut to 32 bytes, with output of any length, and of many strings that begin alike.
 ghost use mathlib.Core.Path.{_≡_};
-ghost use Prim.Native.Nat.{_≤_, _<_, _/_};
+ghost use Prim.Native.Nat.{_*_, _/_, _≤_, _<_};
 ghost use lib.ListN.{length};
 ghost use Rattle.sponge.specs.Shake as S;
 ghost use Rattle.sponge.specs.Step as W;
 ghost use Rattle.sponge.specs.Digest as D;
+ghost use Rattle.sponge.specs.Resume as R;
+ghost use Rattle.sponge.specs.Draw as O;
 use permutation::keccak_f;
 use squeezing::squeeze;
+use squeezing::squeeze_block;
 use words::word;
 
 const RATE: usize = 136; // bytes of a block
@@ -71,4 +74,72 @@ pub fn digest(s: &[u8]) -> [u8; 32]
     ensures { λ r. ⌜ r ≡ D.digest (now (s .entry)) ⌝ }
 {
     squeeze(absorb(s))
+}
+
+// ---- output of any length, and from a state on: apart from `absorb`, which is the faster for having one caller
+
+// The full blocks of a string go into the state. The result is how many bytes they have.
+fn absorb_blocks(a: &mut [u64; 25], s: &[u8]) -> usize
+    requires { ⌜ length (now a) ≡ 25 ⌝ }
+    ensures { λ r. ⌜ (r ≡ length (now (s .entry)) / 136 * 136) × (now (a .exit) ≡ R.absorbedFrom (now (a .entry)) (now (s .entry)) (length (now (s .entry)) / 136)) ⌝ }
+{
+    let mut done: usize = 0;
+    while RATE <= s.len() - done {
+        let next = done + RATE;
+        xor_words(a, &s[done..next]);
+        keccak_f(a);
+        done = next;
+    }
+    done
+}
+
+// All blocks of the padded string go into the state.
+fn absorb_tail(a: &mut [u64; 25], s: &[u8])
+    requires { ⌜ length (now a) ≡ 25 ⌝ }
+    ensures { λ _. ⌜ now (a .exit) ≡ R.finished (now (a .entry)) (now (s .entry)) ⌝ }
+{
+    let at = absorb_blocks(a, s);
+    xor_last_block(a, &s[at..]);
+    keccak_f(a);
+}
+
+// Output of any length: a block at a time, and a permutation between two.
+fn squeeze_all(a: [u64; 25], out: &mut [u8])
+    ensures { λ _. ⌜ now (out .exit) ≡ R.output a (length (now (out .entry))) ⌝ }
+{
+    let mut b = a;
+    let mut at: usize = 0;
+    while RATE < out.len() - at {
+        let next = at + RATE;
+        squeeze_block(b, &mut out[at..next]);
+        keccak_f(&mut b);
+        at = next;
+    }
+    squeeze_block(b, &mut out[at..]);
+}
+
+// The state after the full blocks of a string, for `draw_after`.
+pub fn absorb_prefix(s: &[u8]) -> [u64; 25]
+    ensures { λ r. ⌜ r ≡ O.prefixState (now (s .entry)) ⌝ }
+{
+    let mut a = [0u64; 25];
+    absorb_blocks(&mut a, s);
+    a
+}
+
+// SHAKE256 of a string of which `a` has absorbed the full blocks before `tail`: as many bytes as `out` has.
+pub fn draw_after(a: [u64; 25], tail: &[u8], out: &mut [u8])
+    ensures { λ _. ⌜ now (out .exit) ≡ O.drawnAfter a (now (tail .entry)) (length (now (out .entry))) ⌝ }
+{
+    let mut b = a;
+    absorb_tail(&mut b, tail);
+    squeeze_all(b, out);
+}
+
+// SHAKE256 of a byte string: as many bytes as `out` has.
+pub fn draw(s: &[u8], out: &mut [u8])
+    ensures { λ _. ⌜ now (out .exit) ≡ O.draw (now (s .entry)) (length (now (out .entry))) ⌝ }
+{
+    let a = [0u64; 25];
+    draw_after(a, s, out);
 }

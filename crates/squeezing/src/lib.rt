@@ -1,6 +1,7 @@
 // Lanes as bytes.
 ghost use mathlib.Core.Path.{_≡_};
-ghost use lib.ListN.{take};
+ghost use Prim.Native.Nat.{_≤_};
+ghost use lib.ListN.{length, take};
 ghost use Rattle.keccak.specs.Strings.{bytes};
 
 // The first 32 bytes of a state.
@@ -45,4 +46,18 @@ pub fn squeeze(a: [u64; 25]) -> [u8; 32]
         ((a3 >> 48) % 256) as u8,
         ((a3 >> 56) % 256) as u8,
     ]
+}
+
+// The first bytes of a state, at most as many as a block has.
+pub fn squeeze_block(a: [u64; 25], out: &mut [u8])
+    requires { ⌜ length (now out) ≤ 136 ⌝ }
+    ensures { λ _. ⌜ now (out .exit) ≡ take (length (now (out .entry))) (bytes a) ⌝ }
+{
+    let mut i: usize = 0;
+    while i < out.len() {
+        let k = i / 8;
+        let shift = i % 8 * 8;
+        out[i] = ((a[k] >> shift) % 256) as u8;
+        i += 1;
+    }
 }

@@ -1,6 +1,7 @@
-// Prints SHAKE256 digests of 32 bytes, each as a line of hexadecimal digits: of the two messages of FIPS 202's published examples, the empty one and
-// 1600 bits that are 200 bytes 0xa3; then of the first n bytes of a pattern, for n from 0 to 307; then of four leaf strings, of 135, 139, 271 and 275
-// bytes. The file stdout is made by tools/sponge_vectors.py from a second implementation.
+// Prints SHAKE256 outputs, each as a line of hexadecimal digits. 32 bytes by `digest`: of the two messages of FIPS 202's published examples, the empty one
+// and 1600 bits that are 200 bytes 0xa3; of the first n bytes of a pattern, for n from 0 to 307; of four leaf strings, of 135, 139, 271 and 275 bytes. Then
+// outputs of many lengths by `draw`, and outputs of 137 bytes by `draw_after`. The file stdout is made by tools/sponge_vectors.py from a second
+// implementation.
 ghost use mathlib.Core.Path.{_≡_};
 ghost use Prim.Native.Nat.{_+_, _*_, _%_, _≤_};
 ghost use lib.ListN.{length};
@@ -12,15 +13,16 @@ fn wide(b: u8) -> u64 {
     b as u64
 }
 
-fn print_digest(d: [u8; 32]) {
-    for i in 0..32 {
+fn print_bytes(d: &[u8]) {
+    for i in 0..d.len() {
         io::print_hex(STDOUT_FILENO, wide(d[i]), 2);
     }
     io::write_all(STDOUT_FILENO, b"\n");
 }
 
 fn print_digest_of(m: &[u8]) {
-    print_digest(sponge::digest(m));
+    let d = sponge::digest(m);
+    print_bytes(&d);
 }
 
 // The pattern: byte i is 7 i + 3, modulo 256.
@@ -46,7 +48,7 @@ fn print_leaf(m: &[u8], values: usize)
     let size = 4 * values + 32;
     let mut d = [0u8; 32];
     digests::leaf_digest(LeafIndex(4095), &m[0..size], &mut d);
-    print_digest(d);
+    print_bytes(&d);
 }
 
 // With 25 and with 59 values the string is one byte short of whole blocks, and the padding is one byte; with one value more it ends three bytes after.
@@ -59,12 +61,69 @@ fn print_leaves(m: &[u8])
     print_leaf(m, 60);
 }
 
+fn fill_and_print(m: &[u8], out: &mut [u8]) {
+    sponge::draw(m, out);
+    print_bytes(out);
+}
+
+fn print_draw(m: &[u8], n: usize)
+    requires { ⌜ n ≤ 544 ⌝ }
+{
+    let mut out = [0u8; 544];
+    fill_and_print(m, &mut out[0..n]);
+}
+
+// Outputs below, at and above one block of 136 bytes, two, and four.
+fn print_draws(m: &[u8]) {
+    print_draw(m, 1);
+    print_draw(m, 2);
+    print_draw(m, 31);
+    print_draw(m, 32);
+    print_draw(m, 33);
+    print_draw(m, 96);
+    print_draw(m, 135);
+    print_draw(m, 136);
+    print_draw(m, 137);
+    print_draw(m, 272);
+    print_draw(m, 544);
+}
+
+// The output for the first `prefix` + `more` bytes of m, from the state after the full blocks of the first `prefix`.
+fn print_resumed(m: &[u8], prefix: usize, more: usize)
+    requires { ⌜ (prefix ≤ 272) × (more ≤ 136) × (408 ≤ length (now m)) ⌝ }
+{
+    let a = sponge::absorb_prefix(&m[0..prefix]);
+    let rest = prefix / 136 * 136;
+    let end = prefix + more;
+    let mut out = [0u8; 137];
+    sponge::draw_after(a, &m[rest..end], &mut out);
+    print_bytes(&out);
+}
+
+fn print_tails(m: &[u8], prefix: usize)
+    requires { ⌜ (prefix ≤ 272) × (408 ≤ length (now m)) ⌝ }
+{
+    print_resumed(m, prefix, 4);
+    print_resumed(m, prefix, 135);
+    print_resumed(m, prefix, 136);
+}
+
 fn main() {
     let example = [0xa3u8; 200];
     print_digest_of(&example[0..0]);
     print_digest_of(&example);
-    let mut m = [0u8; 307];
+    let mut m = [0u8; 408];
     fill_pattern(&mut m);
-    print_all(&m);
+    print_all(&m[0..307]);
     print_leaves(&m);
+    print_draws(&m[0..0]);
+    print_draws(&m[0..65]);
+    print_draws(&m[0..136]);
+    print_draws(&m[0..307]);
+    print_tails(&m, 0);
+    print_tails(&m, 132);
+    print_tails(&m, 135);
+    print_tails(&m, 136);
+    print_tails(&m, 137);
+    print_tails(&m, 272);
 }
