@@ -1,0 +1,1 @@
+// No function: proofs without a conversation, their definitions and the theorems about them.
