@@ -47,7 +47,7 @@ fn asked_verdict(question: &[u8], s: Shape, m: u32, reply: &[u8]) -> u32
 }
 
 // The value buffer's test, 2, and the reply's; the values once none of them holds.
-fn check_reply(question: &[u8], s: Shape, m: u32, reply: &[u8], values: &mut [u32]) -> u32
+pub fn check_reply(question: &[u8], s: Shape, m: u32, reply: &[u8], values: &mut [u32]) -> u32
     requires { ⌜ questioned (now question) ≡ WellFormed s m ⌝ }
     ensures { λ r. ⌜ (r, now (values .exit)) ≡ checkingReply (readQuestion (now (question .entry))) (now (reply .entry)) (now (values .entry)) ⌝ }
 {

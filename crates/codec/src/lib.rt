@@ -1,7 +1,7 @@
 // Words of bytes: read from them, written to them, and tested.
 ghost use mathlib.Core.Path.{_≡_};
 ghost use mathlib.Core.Bool.{_&&_};
-ghost use mathlib.Core.List.{_++_};
+ghost use mathlib.Core.List.{_++_, map, flatten};
 ghost use Prim.Native.Nat.{_+_, _*_, _<_, _≤_};
 ghost use lib.ListN.{length, take, drop};
 ghost use Rattle.lists.specs.Bytes.{fromBytes, littleEndian, halves, words, bytesOf};
@@ -52,7 +52,7 @@ pub fn put_bytes(out: &mut [u8], at: usize, bytes: &[u8])
 }
 
 // A word, lowest byte first, from `at` on.
-fn put_word(out: &mut [u8], at: usize, x: u32)
+pub fn put_word(out: &mut [u8], at: usize, x: u32)
     requires { ⌜ at + 4 ≤ length (now out) ⌝ }
     ensures { λ _. ⌜ now (out .exit) ≡ spliced at 4 (littleEndian 4 x) (now (out .entry)) ⌝ }
 {
@@ -69,6 +69,25 @@ pub fn put_words(out: &mut [u8], at: usize, words: &[u32])
 {
     for i in 0..words.len() {
         put_word(out, at + 4 * i, words[i]);
+    }
+}
+
+// A number of two bytes, lowest byte first, from `at` on.
+fn put_half(out: &mut [u8], at: usize, x: usize)
+    requires { ⌜ at + 2 ≤ length (now out) ⌝ }
+    ensures { λ _. ⌜ now (out .exit) ≡ spliced at 2 (littleEndian 2 x) (now (out .entry)) ⌝ }
+{
+    out[at] = (x % 256) as u8;
+    out[at + 1] = (x / 256 % 256) as u8;
+}
+
+// The numbers, two bytes each, from `at` on.
+pub fn put_halves(out: &mut [u8], at: usize, numbers: &[usize])
+    requires { ⌜ at + 2 * length (now numbers) ≤ length (now out) ⌝ }
+    ensures { λ _. ⌜ now (out .exit) ≡ spliced at (2 * length (now (numbers .entry))) (flatten (map (littleEndian 2) (now (numbers .entry)))) (now (out .entry)) ⌝ }
+{
+    for i in 0..numbers.len() {
+        put_half(out, at + 2 * i, numbers[i]);
     }
 }
 

@@ -106,7 +106,7 @@ fn lengths_ok(
 }
 
 // Is each lent word below q?
-fn words_ok(coefficients: &[u32], tails: &[u32], masks: &[u32], table: &[u32]) -> bool
+pub fn words_ok(coefficients: &[u32], tails: &[u32], masks: &[u32], table: &[u32]) -> bool
     ensures { λ r. ⌜ r ≡ every (elements (now (table .entry)) ∷ lentElements (lentOf (now (coefficients .entry)) (now (tails .entry)) (now (masks .entry)) [])) ⌝ }
 {
     both(
@@ -116,7 +116,7 @@ fn words_ok(coefficients: &[u32], tails: &[u32], masks: &[u32], table: &[u32]) -
 }
 
 // Does the lent tree end with the question's root?
-fn root_ok(question: &[u8], tree: &[u8]) -> bool
+pub fn root_ok(question: &[u8], tree: &[u8]) -> bool
     requires { ⌜ (challengesAt ≤ length (now question)) × (32 ≤ length (now tree)) ⌝ }
     ensures { λ r. ⌜ r ≡ same (lastDigest (now (tree .entry))) (take 32 (drop headerLength (now (question .entry)))) ⌝ }
 {
@@ -169,7 +169,7 @@ fn lent_verdict(
 // ---- the parts of the reply
 
 // The batching answers and the evaluation answers.
-fn put_sums(
+pub fn put_sums(
     s: Shape,
     m: u32,
     question: &[u8],
@@ -209,7 +209,7 @@ fn put_sums(
 }
 
 // The leaf records and the missing nodes; returns the reply's length.
-fn put_leaves(
+pub fn put_leaves(
     s: Shape,
     m: u32,
     indices: &[usize],

@@ -38,7 +38,7 @@ pointsIn (Refused v) = 0
 
 -- ---- a verdict's answer
 
-answered-well : (v : ℕ) (b : Bytes) (s : Shape) (m : ℕ) → answered v b ≡ WellFormed s m → (v ≡ 0) × (s ≡ headerShape b) × (m ≡ headerPoints b)
+pub answered-well : (v : ℕ) (b : Bytes) (s : Shape) (m : ℕ) → answered v b ≡ WellFormed s m → (v ≡ 0) × (s ≡ headerShape b) × (m ≡ headerPoints b)
 unfolding answered
 answered-well v b s m = go (eqb v 0) refl
   where
@@ -46,7 +46,7 @@ answered-well v b s m = go (eqb v 0) refl
     go true e h = (eqb-true v 0 e, sym (ap (shapeIn s) h), sym (ap pointsIn h))
     go false e h = absurd (false≢true (ap isWell h))
 
-answered-refused : (v : ℕ) (b : Bytes) (u : ℕ) → answered v b ≡ Refused u → (v ≡ u) × (0 < u)
+pub answered-refused : (v : ℕ) (b : Bytes) (u : ℕ) → answered v b ≡ Refused u → (v ≡ u) × (0 < u)
 unfolding answered
 answered-refused v b u = go (eqb v 0) refl
   where

@@ -10,7 +10,7 @@ use codec::elements_in;
 use codec::elements_ok;
 
 // Is each of the n values of each leaf record an element?
-fn record_elements(at: usize, size: usize, n: usize, count: usize, reply: &[u8]) -> bool
+pub fn record_elements(at: usize, size: usize, n: usize, count: usize, reply: &[u8]) -> bool
     requires { ⌜ (at + size * count ≤ length (now reply)) × (4 * n ≤ size) ⌝ }
     ensures { λ r. ⌜ r ≡ each count (recordElementsAt at size n (now (reply .entry))) ⌝ }
 {
