@@ -1,0 +1,2 @@
+-- A counter tried.
+pub mod Tried

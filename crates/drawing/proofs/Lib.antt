@@ -1,0 +1,2 @@
+-- What is drawn, as the code writes it.
+pub mod Parts
