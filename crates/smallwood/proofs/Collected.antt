@@ -1,4 +1,5 @@
--- Collected replies for the two entries of the check: a list of calls of either, each as its contract describes it.
+-- Collected replies for the four entries of the check, those of proofs among them: a list of calls of any, each as its contract describes it. A proof is taken as
+-- the question so drawn and the reply after its counter.
 use mathlib.Core.List.{List, List·Memᴰ as Mem}
 use Prim.Native.Nat.{ℕ}
 use contract.Lifetimes.{Lfts}
@@ -7,9 +8,14 @@ use denote.Triple.Clauses.{AtExit}
 use borrow.Fn.Kinds.{Dens, resT, endedOf}
 use Rattle.lists.specs.Bytes.{Bytes}
 use Rattle.scheme.specs.Collect.{forRust, forC, Call, Answered, NoCollision, Covered, Extracted}
-use Rattle.scheme.proofs.Replies.{collected-replies}
+use Rattle.fiat_shamir.specs.CollectProofs.{ProofCall, ProofAnswered, AnyCall, conversation, alone, AnyAnswered, joined}
+use Rattle.fiat_shamir.proofs.Joined.{collected-proofs}
 use Rattle.checker.proofs.check.Kinds as check-kinds
 use Rattle.checker.proofs.check.Reads as check
+use Rattle.proof_checker.proofs.check_proof.Kinds as check-proof-kinds
+use Rattle.proof_checker.proofs.check_proof.Reads as check-proof
+use Rattle.smallwood.proofs.smallwood_check_proof.Kinds as smallwood-check-proof-kinds
+use Rattle.smallwood.proofs.smallwood_check_proof.Reads as smallwood-check-proof
 use Rattle.smallwood.proofs.smallwood_check.Kinds as smallwood-check-kinds
 use Rattle.smallwood.proofs.smallwood_check.Reads as smallwood-check
 
@@ -31,19 +37,41 @@ module _ (κs : Lfts 3) (a : Dens κs smallwood-check-kinds.ps) (r : resT smallw
   answered-c : smallwood-check.Learnt κs a r e → Answered callC
   answered-c h = record { outcome = h }
 
+module _ (κs : Lfts 3) (a : Dens κs check-proof-kinds.ps) (r : resT check-proof-kinds.r κs .Denot) (e : AtExit (endedOf 3 check-proof-kinds.ps check-proof-kinds.r) κs) where
+  abbrev pub proofRust : ProofCall
+  proofRust = record { entry = forRust; question = now (a .0); κ = a .1 .0; proof = now (a .1 .1 .0); before = now (a .1 .1 .1 .0); verdict = r; after = now (e .1 .1 .1 .0) }
+
+  -- the contract of `check_proof`
+  answered-proof : check-proof.Learnt κs a r e → ProofAnswered proofRust
+  answered-proof h = record { outcome = h }
+
+module _ (κs : Lfts 3) (a : Dens κs smallwood-check-proof-kinds.ps) (r : resT smallwood-check-proof-kinds.r κs .Denot) (e : AtExit (endedOf 3 smallwood-check-proof-kinds.ps smallwood-check-proof-kinds.r) κs) where
+  abbrev pub proofC : ProofCall
+  proofC = record { entry = forC; question = now (a .0); κ = a .1 .0; proof = now (a .1 .1 .0); before = now (a .1 .1 .1 .0); verdict = r; after = now (e .1 .1 .1 .0) }
+
+  -- and that of `smallwood_check_proof`
+  answered-proof-c : smallwood-check-proof.Learnt κs a r e → ProofAnswered proofC
+  answered-proof-c h = record { outcome = h }
+
 -- ---- a list of calls
 
--- a call of one of the two entries, which its contract describes
-pub data Made : Call → Type 0 where
+-- a call of one of the four entries, which its contract describes
+pub data Made : AnyCall → Type 0 where
   rust : (κs : Lfts 3) (a : Dens κs check-kinds.ps) (r : resT check-kinds.r κs .Denot) (e : AtExit (endedOf 3 check-kinds.ps check-kinds.r) κs)
-      → check.Learnt κs a r e → Made (callRust κs a r e)
+      → check.Learnt κs a r e → Made (conversation (callRust κs a r e))
   c : (κs : Lfts 3) (a : Dens κs smallwood-check-kinds.ps) (r : resT smallwood-check-kinds.r κs .Denot) (e : AtExit (endedOf 3 smallwood-check-kinds.ps smallwood-check-kinds.r) κs)
-      → smallwood-check.Learnt κs a r e → Made (callC κs a r e)
+      → smallwood-check.Learnt κs a r e → Made (conversation (callC κs a r e))
+  proof-rust : (κs : Lfts 3) (a : Dens κs check-proof-kinds.ps) (r : resT check-proof-kinds.r κs .Denot) (e : AtExit (endedOf 3 check-proof-kinds.ps check-proof-kinds.r) κs)
+      → check-proof.Learnt κs a r e → Made (alone (proofRust κs a r e))
+  proof-c : (κs : Lfts 3) (a : Dens κs smallwood-check-proof-kinds.ps) (r : resT smallwood-check-proof-kinds.r κs .Denot)
+      (e : AtExit (endedOf 3 smallwood-check-proof-kinds.ps smallwood-check-proof-kinds.r) κs) → smallwood-check-proof.Learnt κs a r e → Made (alone (proofC κs a r e))
 
-answered : (x : Call) → Made x → Answered x
+answered : (x : AnyCall) → Made x → AnyAnswered x
 answered x (rust κs a r e h) = answered-rust κs a r e h
 answered x (c κs a r e h) = answered-c κs a r e h
+answered x (proof-rust κs a r e h) = answered-proof κs a r e h
+answered x (proof-c κs a r e h) = answered-proof-c κs a r e h
 
-pub collected : (calls : List Call) (header root : Bytes) → ((x : Call) → Mem x calls → Made x) → NoCollision calls header root
-    → (L : List ℕ) (k : ℕ) (challenges : List ℕ) (answers : List (List ℕ)) → Covered calls header root L k challenges answers → Extracted calls header root L
-collected calls header root made = collected-replies calls header root (λ x m. answered x (made x m))
+pub collected : (calls : List AnyCall) (header root : Bytes) → ((x : AnyCall) → Mem x calls → Made x) → NoCollision (joined calls) header root
+    → (L : List ℕ) (k : ℕ) (challenges : List ℕ) (answers : List (List ℕ)) → Covered (joined calls) header root L k challenges answers → Extracted (joined calls) header root L
+collected calls header root made = collected-proofs calls header root (λ x m. answered x (made x m))

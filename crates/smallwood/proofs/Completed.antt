@@ -44,15 +44,15 @@ use Rattle.smallwood.proofs.smallwood_check.Reads as c-check
 
 -- ---- outcomes that are equal to the definitions
 
-first : {A : Type 0} {a b : ℕ} {x y : A} → _≡_ {A = ℕ × A} (a, x) (b, y) → a ≡ b
+pub first : {A : Type 0} {a b : ℕ} {x y : A} → _≡_ {A = ℕ × A} (a, x) (b, y) → a ≡ b
 first {A} e = ap (λ (z : ℕ × A). z .0) e
 
-rest : {A : Type 0} {a b : ℕ} {x y : A} → _≡_ {A = ℕ × A} (a, x) (b, y) → x ≡ y
+pub rest : {A : Type 0} {a b : ℕ} {x y : A} → _≡_ {A = ℕ × A} (a, x) (b, y) → x ≡ y
 rest {A} e = ap (λ (z : ℕ × A). z .1) e
 
 module _ (s : Sizes) (l : Lent) (right : WellLent s l) where
   -- a table and a tree of the right lengths
-  committed : (table : List ℕ) (nodes : Bytes) → filledOk s table nodes ≡ true → (v : ℕ) (t : List ℕ) (n : Bytes) → (v, t, n) ≡ committing s l table nodes
+  pub committed : (table : List ℕ) (nodes : Bytes) → filledOk s table nodes ≡ true → (v : ℕ) (t : List ℕ) (n : Bytes) → (v, t, n) ≡ committing s l table nodes
       → (v ≡ 0) × (t ≡ tableOf s l) × (n ≡ treeOf s l)
   committed table nodes f v t n h =
       let e : _≡_ {A = ℕ × List ℕ × Bytes} (v, t, n) (0, tableOf s l, treeOf s l) = h ∙ completeness s l right .0 table nodes f in

@@ -2,9 +2,12 @@
 
 -- values as words and as bytes; a length written or left
 pub mod Values
+pub mod ProofValues
 pub mod Sized
 pub mod Length
--- the theorems: one length, completeness, collected replies
+pub mod ProofLength
+-- the theorems: one length, completeness, completeness of proofs, collected replies
 pub mod OneLength
 pub mod Completed
+pub mod CompletedProofs
 pub mod Collected

@@ -8,10 +8,14 @@ ghost use Rattle.scheme.specs.Commit.{committing};
 ghost use Rattle.scheme.specs.Sizing.{sizingC};
 ghost use Rattle.scheme.specs.Open.{openingC};
 ghost use Rattle.scheme.specs.Check.{checking, checkingC};
+ghost use Rattle.fiat_shamir.specs.Prove.{provingC};
+ghost use Rattle.fiat_shamir.specs.CheckProof.{checkingProof, checkingProofC};
 ghost use Rattle.smallwood.specs.InBytes.{inBytes};
 use codec::put_words;
+use offline_question::ask_offline;
 use opener::Opened;
 use planner::Planned;
+use prover::Proved;
 use question::Questioned;
 use question::ask;
 
@@ -98,6 +102,9 @@ pub extern "C" fn smallwood_open(
     }
 }
 
+// The number of a value buffer of another length.
+const WRONG_BUFFER: u32 = 2;
+
 // Room for the values as words, and for at most 64 of them. Functions of their own, so that a caller's goals do not show the zeros.
 fn blank() -> [u32; 2048] {
     [0u32; 2048]
@@ -107,17 +114,25 @@ fn blank_few() -> [u32; 64] {
     [0u32; 64]
 }
 
+// Hands on a verdict, and after verdict 0 the words as bytes.
+fn put_values(verdict: u32, words: &[u32], values: &mut [u8]) -> u32
+    requires { ⌜ length (now values) ≡ 4 * length (now words) ⌝ }
+    ensures { λ r. ⌜ (r, now (values .exit)) ≡ inBytes (verdict, now (words .entry)) (now (values .entry)) ⌝ }
+{
+    if verdict != 0 {
+        return verdict;
+    }
+    put_words(values, 0, words);
+    0
+}
+
 // The check by way of lent words, which are written as bytes on verdict 0.
 fn check_into(question: &[u8], reply: &[u8], words: &mut [u32], values: &mut [u8]) -> u32
     requires { ⌜ length (now values) ≡ 4 * length (now words) ⌝ }
     ensures { λ r. ⌜ (r, now (values .exit)) ≡ inBytes (checking (now (question .entry)) (now (reply .entry)) (now (words .entry))) (now (values .entry)) ⌝ }
 {
     let verdict = checker::check(question, reply, words);
-    if verdict != 0 {
-        return verdict;
-    }
-    put_words(values, 0, words);
-    0
+    put_values(verdict, words, values)
 }
 
 // Checks: writes the values, four bytes each, or returns the number of a refusal and leaves them as they were. Few values take a small array, since arrays are cleared.
@@ -130,7 +145,7 @@ pub extern "C" fn smallwood_check(question: &[u8], reply: &[u8], values: &mut [u
         Questioned::WellFormed(s, m) => {
             let n = s.w as usize * m as usize;
             if values.len() != 4 * n {
-                return 2;
+                return WRONG_BUFFER;
             }
             if n <= 64 {
                 let mut words = blank_few();
@@ -138,6 +153,90 @@ pub extern "C" fn smallwood_check(question: &[u8], reply: &[u8], values: &mut [u
             } else {
                 let mut words = blank();
                 check_into(question, reply, &mut words[0..n], values)
+            }
+        }
+        Questioned::Refused(v) => v,
+    }
+}
+
+// ---- proofs without a conversation
+
+// Proves: fills the front of the proof's buffer and writes the proof's length, or returns the number of a refusal and leaves both as they were.
+#[no_mangle]
+pub extern "C" fn smallwood_prove(
+    question: &[u8],
+    kappa: u32,
+    limit: u32,
+    coefficients: &[u32],
+    tails: &[u32],
+    masks: &[u32],
+    table: &[u32],
+    nonces: &[u8],
+    tree: &[u8],
+    proof: &mut [u8],
+    length: &mut u64,
+) -> u32
+    ensures { λ r. ⌜ (r, now (length .exit), now (proof .exit)) ≡ provingC (now (question .entry)) kappa limit (lentOf (now (coefficients .entry)) (now (tails .entry)) (now (masks .entry)) (now (nonces .entry))) (now (table .entry)) (now (tree .entry)) (now (proof .entry)) (now (length .entry)) ⌝ }
+{
+    let answer = prover::prove(
+        question,
+        kappa,
+        limit,
+        coefficients,
+        tails,
+        masks,
+        table,
+        nonces,
+        tree,
+        proof,
+    );
+    match answer {
+        Proved::Proof(n) => {
+            *length = n as u64;
+            0
+        }
+        Proved::Refused(v) => v,
+    }
+}
+
+// The check of a proof by way of lent words, which are written as bytes on verdict 0.
+fn check_proof_into(
+    question: &[u8],
+    kappa: u32,
+    proof: &[u8],
+    words: &mut [u32],
+    values: &mut [u8],
+) -> u32
+    requires { ⌜ length (now values) ≡ 4 * length (now words) ⌝ }
+    ensures { λ r. ⌜ (r, now (values .exit)) ≡ inBytes (checkingProof (now (question .entry)) kappa (now (proof .entry)) (now (words .entry))) (now (values .entry)) ⌝ }
+{
+    let verdict = proof_checker::check_proof(question, kappa, proof, words);
+    put_values(verdict, words, values)
+}
+
+// Checks a proof: writes the values, four bytes each, or returns the number of a refusal and leaves them as they were. Few values take a small array, since arrays are cleared.
+#[no_mangle]
+pub extern "C" fn smallwood_check_proof(
+    question: &[u8],
+    kappa: u32,
+    proof: &[u8],
+    values: &mut [u8],
+) -> u32
+    ensures { λ r. ⌜ (r, now (values .exit)) ≡ checkingProofC (now (question .entry)) kappa (now (proof .entry)) (now (values .entry)) ⌝ }
+{
+    let answer = ask_offline(question, kappa);
+    match answer {
+        Questioned::WellFormed(s, m) => {
+            let count = s.w as usize * m as usize;
+            if values.len() != 4 * count {
+                return WRONG_BUFFER;
+            }
+            if count <= 64 {
+                let mut words = blank_few();
+                check_proof_into(question, kappa, proof, &mut words[0..count], values)
+            } else {
+                let mut words = blank();
+                check_proof_into(question, kappa, proof, &mut words[0..count], values)
             }
         }
         Questioned::Refused(v) => v,

@@ -1,0 +1,30 @@
+-- `smallwood::check_proof_into` meets its contract.
+use mathlib.Core.Path.{_∙_, ap, sym}
+use mathlib.Core.List.{List}
+use Rattle.smallwood.specs.InBytes.{inBytes}
+use Prim.Native.Nat.{_*_, ℕ}
+use borrow.Author.Needs.{needs}
+use Rattle.smallwood.proofs.check_proof_into.Statement.{statement}
+use Rattle.smallwood.proofs.check_proof_into.Tie as tie
+
+check-proof-requires : tie.Need-check-proof-requires
+check-proof-requires c κs = search needs
+
+put-values-requires : tie.Need-put-values-requires
+put-values-requires c κs =
+    c .before .before .before .before .before .before .before .before .before .before .pre ∙ ap (λ (n : ℕ). 4 * n) (sym (c .before .before .before .before .check-proof .kept .1 .1 .1 .0))
+
+same-length : tie.Need-same-length
+same-length c = search needs
+
+same-length-2 : tie.Need-same-length-2
+same-length-2 c = search needs
+
+returns : tie.Need-returns
+returns c =
+    c .before .before .put-values .ensures ∙ ap (λ (z : ℕ × List ℕ). inBytes z (c .before .before .before .before .before .before .before .before .before .before .before .before .before .args .values .now))
+    (c .before .before .before .before .before .before .before .check-proof .ensures)
+
+pub check-proof-into-spec : {M : Type 1} → statement M
+check-proof-into-spec =
+    tie.close (tie.spec check-proof-requires put-values-requires same-length same-length-2 returns)
