@@ -28,6 +28,7 @@ MOST_LINES, LONGEST_LINE, LONG_LINE = 500, 400, 240
 ENDS = [
     ("scheme/proofs/Reading.antt", "*", "reading aids"),
     ("scheme/proofs/Printed.antt", "*", "reading aids"),
+    ("fiat_shamir/proofs/Reading.antt", "*", "reading aids"),
 ]
 
 # Words in backticks that are no names of the repository's own.
@@ -594,7 +595,8 @@ class Repository:
                 outside = False
                 for other in self.rt.values():
                     by = file.path.stem if other.crate == file.crate else file.crate
-                    imported = any(crate.split("::")[-1] == by and name == item.name for _, crate, name in other.code.uses)
+                    homes = {by, "super::" + by, "%s::%s" % (by, file.path.stem)}
+                    imported = any(crate in homes and name == item.name for _, crate, name in other.code.uses)
                     if other is not file and (imported and other.code.words.use(item) or (by, item.name) in other.code.words.behind):
                         outside = True
                 if item.kind == "fn" and item.pub and not outside:

@@ -4,7 +4,7 @@
     tools/stored_openings.py            writes it
     tools/stored_openings.py --check    makes it anew and compares it with what is stored
 
-Nothing here runs the proved program: the inputs are made by the rules that crates/openings/src/inputs.rt states, every outcome
+Nothing here runs the proved program: the inputs are made by the rules that crates/runs/src/inputs.rt states, every outcome
 is what reference/smallwood.py says, and each reply is checked by it. Each refusal also has the number that its construction gives.
 """
 
@@ -127,6 +127,10 @@ def with_item(items, at, value):
     return items[:at] + (bytes([value]) if isinstance(items, bytes) else [value]) + items[at + 1 :]
 
 
+def raised(data, at):
+    return with_item(data, at, (data[at] + 1) % 256)
+
+
 def refused_commits():
     s = SMALL
     given, table, tree = lent(s)
@@ -170,9 +174,6 @@ def refused_opens():
     def with_q(k):
         return [with_item(g, len(g) - 1, Q) if i == k else g for i, g in enumerate(given)]
 
-    def raised(data, at):
-        return with_item(data, at, (data[at] + 1) % 256)
-
     def asked(challenges=words(5, s.eta), points=points(s.m), indices=(1, 3)):
         return S.write_question(Question(s, tree[-32:], challenges, points, indices))
 
@@ -210,15 +211,15 @@ def output():
     return "".join(line + "\n" for line in lines).encode()
 
 
-def main():
+def compare_or_write(path, output):
     made = output()
     if sys.argv[1:] == ["--check"]:
-        if STORED.read_bytes() != made:
-            sys.exit("%s differs" % STORED.relative_to(ROOT))
-        print("as stored: %s" % STORED.relative_to(ROOT))
+        if path.read_bytes() != made:
+            sys.exit("%s differs" % path.relative_to(ROOT))
+        print("as stored: %s" % path.relative_to(ROOT))
     else:
-        STORED.write_bytes(made)
+        path.write_bytes(made)
 
 
 if __name__ == "__main__":
-    main()
+    compare_or_write(STORED, output)

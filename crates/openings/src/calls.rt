@@ -1,67 +1,26 @@
-// Commits and opens with the fronts of buffers.
-ghost use Prim.Native.Nat.{_≤_};
-ghost use lib.ListN.{length};
-use super::sizes::Lengths;
-use commitment::Shape;
-use committer::commit;
+// Asks for a reply's length, and opens with the fronts of buffers.
 use opener::Opened;
 use opener::open;
+use planner::Planned;
+use planner::reply_length;
+use runs::calls::front_bytes;
+use runs::calls::front_bytes_mut;
+use runs::calls::front_words;
+use runs::printing::print_number;
+use runs::sizes::Lengths;
 
-// The first n items of a buffer, or all where it has fewer.
-pub fn front_words(buffer: &[u32], n: usize) -> &[u32]
-    ensures { λ r. ⌜ (length (now r) ≤ n) × (length (now r) ≤ length (now (buffer .entry))) ⌝ }
-{
-    if n < buffer.len() {
-        return &buffer[..n];
+// Asks for the length of the reply to a question: prints the number, and with 0 the length. Returns the length, or 0.
+pub fn print_reply_length(question: &[u8]) -> usize {
+    match reply_length(question) {
+        Planned::Length(n) => {
+            print_number(b"size 0 ", n as u64);
+            n
+        }
+        Planned::Refused(v) => {
+            print_number(b"size ", v as u64);
+            0
+        }
     }
-    buffer
-}
-
-pub fn front_bytes(buffer: &[u8], n: usize) -> &[u8] {
-    if n < buffer.len() {
-        return &buffer[..n];
-    }
-    buffer
-}
-
-fn front_words_mut(buffer: &mut [u32], n: usize) -> &mut [u32] {
-    if n < buffer.len() {
-        return &mut buffer[..n];
-    }
-    buffer
-}
-
-fn front_bytes_mut(buffer: &mut [u8], n: usize) -> &mut [u8] {
-    if n < buffer.len() {
-        return &mut buffer[..n];
-    }
-    buffer
-}
-
-pub fn commit_front(
-    s: Shape,
-    n: Lengths,
-    coefficients: &[u32],
-    tails: &[u32],
-    masks: &[u32],
-    nonces: &[u8],
-    table: &mut [u32],
-    tree: &mut [u8],
-) -> u32 {
-    commit(
-        s.h,
-        s.mu,
-        s.nu,
-        s.w,
-        s.l,
-        s.eta,
-        front_words(coefficients, n.coefficients),
-        front_words(tails, n.tails),
-        front_words(masks, n.masks),
-        front_bytes(nonces, n.nonces),
-        front_words_mut(table, n.table),
-        front_bytes_mut(tree, n.tree),
-    )
 }
 
 // With so many bytes for the reply.

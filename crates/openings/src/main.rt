@@ -1,21 +1,16 @@
 // Commits, asks for a reply's length and opens at several sizes and prints what comes out, then refusals of every number.
 // The file stdout is made by tools/stored_openings.py from a second implementation.
 mod accepted; // accepted.rt: runs that are accepted
-mod calls; // calls.rt: committing and opening with the fronts of buffers
-mod inputs; // inputs.rt: the rules by which all inputs are made
-mod printing; // printing.rt: digests, and what is printed
-mod questions; // questions.rt: questions, made from what is asked
+mod calls; // calls.rt: asking for a reply's length, and opening with the fronts of buffers
 mod refused_commits; // refused_commits.rt
 mod refused_opens; // refused_opens.rt
-mod sizes; // sizes.rt: sizes, and the lengths that belong to them
-mod small; // small.rt: the inputs of the refusals
 
 use accepted::print_filled;
 use accepted::print_p;
 use refused_commits::print_refused_commits;
 use refused_opens::print_refused_opens;
-use sizes::shape;
-use small::small;
+use runs::sizes::shape;
+use runs::small::small;
 
 fn main() {
     print_p();

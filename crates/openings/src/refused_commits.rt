@@ -1,25 +1,25 @@
 // Commits that are refused for sizes, lengths and words, in the order of the committer's tests: 1 2 3.
-use super::inputs::COEFFICIENTS;
-use super::inputs::MASKS;
-use super::inputs::NONCES;
-use super::inputs::TABLE;
-use super::inputs::TAILS;
-use super::inputs::TREE;
-use super::inputs::filled_bytes;
-use super::inputs::filled_words;
-use super::printing::print_number;
-use super::printing::print_sizes;
-use super::printing::word_digest;
-use super::sizes::Lengths;
-use super::sizes::shape;
-use super::sizes::shorter;
-use super::small::NONE;
-use super::small::commit_small;
-use super::small::print_same;
-use super::small::small;
-use super::small::small_lengths;
 use codec::put_bytes;
 use commitment::Shape;
+use runs::inputs::COEFFICIENTS;
+use runs::inputs::MASKS;
+use runs::inputs::NONCES;
+use runs::inputs::TABLE;
+use runs::inputs::TAILS;
+use runs::inputs::TREE;
+use runs::inputs::filled_bytes;
+use runs::inputs::filled_words;
+use runs::printing::print_number;
+use runs::printing::print_sizes;
+use runs::printing::word_digest;
+use runs::sizes::Lengths;
+use runs::sizes::shape;
+use runs::sizes::shorter;
+use runs::small::NONE;
+use runs::small::commit_small;
+use runs::small::print_same;
+use runs::small::small;
+use runs::small::small_lengths;
 
 // One digest of all that committing may write.
 fn written_digest(table: &[u32], tree: &[u8]) -> [u8; 32] {

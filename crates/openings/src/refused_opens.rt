@@ -1,41 +1,40 @@
 // Openings that are refused, in the order of the opener's tests: 6 5 1 6 3 4 2 3 8. The reply's length is asked for before each.
-use super::calls::front_bytes;
 use super::calls::open_front;
-use super::inputs::COEFFICIENTS;
-use super::inputs::MASKS;
-use super::inputs::NONCES;
-use super::inputs::Q;
-use super::inputs::REPLY;
-use super::inputs::TABLE;
-use super::inputs::TAILS;
-use super::inputs::TREE;
-use super::inputs::filled_bytes;
-use super::inputs::filled_words;
-use super::printing::print_number;
-use super::printing::print_reply_length;
-use super::questions::Asked;
-use super::questions::filled_question;
-use super::questions::put_question;
-use super::sizes::Lengths;
-use super::sizes::shorter;
-use super::small::NONE;
-use super::small::commit_small;
-use super::small::print_same;
-use super::small::small;
-use super::small::small_coefficients;
-use super::small::small_lengths;
-use super::small::small_masks;
-use super::small::small_tails;
-use super::small::spoil;
+use super::calls::print_reply_length;
 use opener::Opened;
+use runs::calls::front_bytes;
+use runs::inputs::COEFFICIENTS;
+use runs::inputs::MASKS;
+use runs::inputs::NONCES;
+use runs::inputs::Q;
+use runs::inputs::REPLY;
+use runs::inputs::TABLE;
+use runs::inputs::TAILS;
+use runs::inputs::TREE;
+use runs::inputs::filled_bytes;
+use runs::inputs::filled_words;
+use runs::printing::print_number;
+use runs::questions::Asked;
+use runs::questions::filled_question;
+use runs::questions::put_question;
+use runs::sizes::Lengths;
+use runs::sizes::shorter;
+use runs::small::NONE;
+use runs::small::NOWHERE;
+use runs::small::commit_small;
+use runs::small::print_same;
+use runs::small::raise;
+use runs::small::small;
+use runs::small::small_coefficients;
+use runs::small::small_lengths;
+use runs::small::small_masks;
+use runs::small::small_tails;
+use runs::small::spoil;
 
 // The reply at the small sizes: three answers of 4 words, two records of 4 words and a nonce, and 2 missing nodes; and with as many nodes as two paths have.
 const REPLY_LENGTH: usize = 208;
 
 const REPLY_BOUND: usize = 272;
-
-// No byte is raised at a place beyond all buffers.
-const NOWHERE: usize = 65536;
 
 // An opening at the small sizes with something wrong: a byte of the question or the tree is raised by 1, the last word of one slice is made q.
 struct Attempt {
@@ -60,19 +59,6 @@ fn sound() -> Attempt {
         question_at: NOWHERE,
         tree_at: NOWHERE,
         spoiled: NONE,
-    }
-}
-
-fn next_byte(b: u8) -> u8 {
-    if b == 255 {
-        return 0;
-    }
-    b + 1
-}
-
-fn raise(bytes: &mut [u8], at: usize) {
-    if at < bytes.len() {
-        bytes[at] = next_byte(bytes[at]);
     }
 }
 

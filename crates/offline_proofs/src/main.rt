@@ -1,0 +1,21 @@
+// Commits, proves and checks at several sizes and prints what comes out, then refusals of the prover and of the check of a proof.
+// The file stdout is made by tools/stored_proofs.py from a second implementation.
+mod accepted; // accepted.rt: runs that are accepted
+mod attempt; // attempt.rt: a call of the prover, with something wrong where a test is meant
+mod refused_checks; // refused_checks.rt
+mod refused_proofs; // refused_proofs.rt
+
+use accepted::print_proven;
+use refused_checks::print_refused_checks;
+use refused_proofs::print_refused_proofs;
+use runs::sizes::shape;
+use runs::small::small;
+
+fn main() {
+    print_proven(shape(1, 1, 1, 1, 1, 1), 1, 0);
+    print_proven(small(), 2, 3);
+    print_proven(shape(4, 3, 2, 4, 5, 4), 3, 8);
+    print_proven(shape(4, 2, 3, 1, 4, 3), 2, 9);
+    print_refused_proofs();
+    print_refused_checks();
+}

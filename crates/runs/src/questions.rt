@@ -1,0 +1,101 @@
+// Questions, made from what is asked.
+use super::calls::front_words;
+use super::inputs::filled_challenges;
+use super::inputs::filled_points;
+use super::inputs::low_byte;
+use super::sizes::product;
+use codec::put_bytes;
+use codec::put_words;
+use commitment::Shape;
+
+// Where header and root end.
+pub const WORDS_AT: usize = 46;
+
+// The number of points; challenges and points, of which a question holds the first ones; the indices first, first + step, first + 2 step, ..
+pub struct Asked {
+    pub m: u32,
+    pub challenges: [u32; 4],
+    pub points: [u32; 8],
+    pub first: usize,
+    pub step: usize,
+}
+
+// With challenges and points by the rules.
+pub fn filled_question(m: u32, first: usize, step: usize) -> Asked {
+    Asked {
+        m: m,
+        challenges: filled_challenges(),
+        points: filled_points(),
+        first: first,
+        step: step,
+    }
+}
+
+fn put_indices(first: usize, step: usize, out: &mut [u8]) {
+    let n = out.len() / 2;
+    for k in 0..n {
+        let i = first % 65536 + product(step, k);
+        out[2 * k] = low_byte(i);
+        out[2 * k + 1] = low_byte(i / 256);
+    }
+}
+
+fn header(s: Shape, m: u32) -> [u8; 14] {
+    let nu = s.nu as usize;
+    let w = s.w as usize;
+    [
+        83,
+        87,
+        81,
+        1,
+        0,
+        low_byte(s.h as usize),
+        low_byte(s.mu as usize),
+        low_byte(nu),
+        low_byte(nu / 256),
+        low_byte(w),
+        low_byte(w / 256),
+        low_byte(s.l as usize),
+        low_byte(s.eta as usize),
+        low_byte(m as usize),
+    ]
+}
+
+// The question of a proof, header, root and points, to the front of `question`.
+pub fn put_offline_question(s: Shape, m: u32, points: &[u32], tree: &[u8], question: &mut [u8]) {
+    let asked = front_words(points, m as usize);
+    if tree.len() < 32 {
+        return;
+    }
+    if question.len() < WORDS_AT + 4 * asked.len() {
+        return;
+    }
+    let head = header(s, m);
+    let root_at = tree.len() - 32;
+    put_bytes(question, 0, &head);
+    put_bytes(question, 14, &tree[root_at..]);
+    put_words(question, WORDS_AT, asked);
+}
+
+// A question of these sizes about the root, the last 32 bytes of the tree, to the front of `question`; the rest of it is filled with indices.
+pub fn put_question(s: Shape, a: Asked, tree: &[u8], question: &mut [u8]) {
+    let all_challenges = a.challenges;
+    let all_points = a.points;
+    let challenges = front_words(&all_challenges, s.eta as usize);
+    let points = front_words(&all_points, a.m as usize);
+    let points_at = WORDS_AT + 4 * challenges.len();
+    let indices_at = points_at + 4 * points.len();
+    if tree.len() < 32 {
+        return;
+    }
+    if question.len() < indices_at {
+        return;
+    }
+    let head = header(s, a.m);
+    let root_at = tree.len() - 32;
+    put_bytes(question, 0, &head);
+    put_bytes(question, 14, &tree[root_at..]);
+    put_words(question, WORDS_AT, challenges);
+    put_words(question, points_at, points);
+    put_indices(a.first, a.step, &mut question[indices_at..]);
+}
