@@ -4,7 +4,7 @@
 
 Everything is deterministic. Where the construction of a case tells the verdict (or the values), that is
 asserted against smallwood.py while the case is made, so that a run of this file is a test of it too.
-Calls of the other entries are in calls.py.
+Calls of the other entries are in calls.py, those of prover and check of a proof in proofs.py.
 """
 
 import sys
@@ -17,9 +17,11 @@ import smallwood as S
 from calls import commit_calls, length_calls, open_calls
 from drafts import (
     LAST_WORD, Lent, Source, allowed, ask, border_sizes, case_p, committed, ends, honest, large_drafts,
-    leaf_sizes, lend, name, prefill, product, random_commitment, simulated, small_drafts, true_values, vanishing,
+    leaf_sizes, lend, name, prefill, product, random_commitment, simulated, small_drafts, small_proofs, true_values,
+    vanishing,
 )  # fmt: skip
 from faults import STAGES, faulty, levels_with, place_faults, spoil, wrong_batchings, wrong_strings
+from proofs import PROOF_GROUPS, prove_calls
 from smallwood import Q, Sizes
 
 # The value buffer is given in bytes, before and after the call. The check's entry on words is meant too
@@ -483,6 +485,17 @@ def byte_cases():
         yield check_case("byte: noise %d" % n, data[:cut], data[cut:])
 
 
+def proof_cases():
+    """A proof as the conversation has it: the question so drawn, and the reply after the counter."""
+    for d in small_proofs():
+        for kappa in (0, 3):
+            counter = d.least(kappa)
+            e = d.opened(counter)
+            yield draft_case("drawn: counter %d" % counter, e, 0)
+            yield check_case("drawn: the proof itself [%s]" % name(d.sizes), e.question(), d.proof(counter), 7)
+            yield check_case("drawn: a proof's question [%s]" % name(d.sizes), d.question(), e.reply(), 6)
+
+
 CHECK_GROUPS = (
     honest_cases,
     place_cases,
@@ -495,6 +508,7 @@ CHECK_GROUPS = (
     mark_cases,
     buffer_cases,
     byte_cases,
+    proof_cases,
 )
 
 
@@ -560,7 +574,7 @@ def main():
     for group in CHECK_GROUPS:
         counted(group.__name__, group(), lambda case: case.number)
     counted("program_cases", program_cases(checks), lambda case: int(case.output.split()[1]))
-    for group in (commit_calls, open_calls, length_calls):
+    for group in (commit_calls, open_calls, length_calls, prove_calls) + PROOF_GROUPS:
         counted(group.__name__, group(), lambda call: call.number)
     print("digest of all cases", total.hexdigest(16))
     return 0

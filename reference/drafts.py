@@ -5,7 +5,7 @@ from functools import lru_cache
 from hashlib import shake_256
 
 import smallwood as S
-from smallwood import Q, Question, Reply, Sizes
+from smallwood import Q, ProofQuestion, Question, Reply, Sizes
 
 LAST_WORD = 2**32 - 1
 
@@ -232,6 +232,92 @@ def honest(c, q):
     return Draft(q, S.read_reply(q.sizes, reply))
 
 
+# ---- Proofs -----------------------------------------------------------------------------------------
+
+
+def proof_question(src, c, m=None, points=None):
+    """A proof's question to a commitment, with another m if that is given; points that are not given are drawn."""
+    s = c.sizes._replace(m=m or c.sizes.m)
+    return ProofQuestion(s, c.tree[-32:], points or src.elements(s.m))
+
+
+def proof_buffer(s):
+    """The buffer in which the prover writes."""
+    return prefill(S.proof_bound(s))
+
+
+class ProofDraft:
+    """A proof to be: answers that can be altered, and a commitment that is opened at the leaves then drawn."""
+
+    def __init__(self, c, p, parts=None):
+        self.commitment, self.question_parts, self.sizes = c, p, p.sizes
+        lent = c.lent
+        batchings, answers = parts or S.answers_to(
+            p.sizes, S.draw_challenges(p), p.points, lent.coefficients, lent.tails, lent.masks
+        )
+        self.batchings, self.answers = [list(x) for x in batchings], [list(x) for x in answers]
+
+    def copy(self):
+        return ProofDraft(self.commitment, self.question_parts, (self.batchings, self.answers))
+
+    def question(self):
+        return S.write_proof_question(self.question_parts)
+
+    def draw(self, counter):
+        p = self.question_parts
+        return S.leaf_draw(p, S.leaf_draws(p, S.write_answers(self.batchings, self.answers)), counter)
+
+    def counters(self, wanted):
+        """The counters, from 0 on, whose draw is wanted."""
+        p = self.question_parts
+        draws = S.leaf_draws(p, S.write_answers(self.batchings, self.answers))
+        return (counter for counter in range(2**32) if wanted(S.leaf_draw(p, draws, counter)))
+
+    def qualifying(self, kappa):
+        return self.counters(lambda draw: leading_zeros(draw) >= kappa)
+
+    def least(self, kappa):
+        return next(self.qualifying(kappa))
+
+    def others(self, kappa):
+        """The counters that do not qualify."""
+        return self.counters(lambda draw: leading_zeros(draw) < kappa)
+
+    def indices(self, counter):
+        return S.question_by_draw(self.question_parts, self.draw(counter)).indices
+
+    def opened(self, counter):
+        """The conversation's question that the counter gives, with its reply."""
+        c, q = self.commitment, S.question_by_draw(self.question_parts, self.draw(counter))
+        leaves, nodes = S.opened_at(self.sizes, q.indices, c.lent.nonces, c.table, c.tree)
+        return Draft(q, Reply(self.batchings, self.answers, leaves, nodes))
+
+    def proof(self, counter):
+        return S.write_counter(counter) + self.opened(counter).reply()
+
+    def values(self):
+        """The values that the answers' columns give."""
+        return self.opened(0).values()
+
+
+def leading_zeros(data):
+    """How many bits are zero before the first that is not, from the top bit of the first byte on."""
+    return 8 * len(data) - int.from_bytes(data, "big").bit_length()
+
+
+@lru_cache(maxsize=None)
+def small_proofs():
+    """Honest proofs to be, to the commitments of case P and of the small drafts."""
+    drafts = []
+    for d in small_drafts():
+        c = case_p_commitment() if d is case_p() else random_commitment(d.sizes)
+        drafts.append(ProofDraft(c, proof_question(Source("proof " + name(d.sizes)), c)))
+    return drafts
+
+
+# ---- Drafts that others begin with ------------------------------------------------------------------
+
+
 def true_values(c, q):
     """The polynomials' values, straight from the coefficients."""
     each = c.sizes.mu * c.sizes.nu
@@ -265,10 +351,14 @@ def simulated(src, s, **given):
 
 
 @lru_cache(maxsize=None)
+def case_p_commitment():
+    return committed(Sizes(1, 1, 1, 1, 1, 1, 1), Lent([5], [9], [7, 2], bytes(64)))
+
+
+@lru_cache(maxsize=None)
 def case_p():
-    s = Sizes(1, 1, 1, 1, 1, 1, 1)
-    c = committed(s, Lent([5], [9], [7, 2], bytes(64)))
-    return honest(c, Question(s, c.tree[-32:], [10], [6], [1]))
+    c = case_p_commitment()
+    return honest(c, Question(c.sizes, c.tree[-32:], [10], [6], [1]))
 
 
 @lru_cache(maxsize=None)

@@ -1,7 +1,7 @@
 """Faults for questions, replies and calls: one at a time at first and last places, or several at once."""
 
 import smallwood as S
-from drafts import LAST_WORD, Q, add, ends, product, vanishing
+from drafts import LAST_WORD, ProofDraft, Q, add, ends, product, vanishing
 
 
 def spoil(data, at):
@@ -158,12 +158,22 @@ def faulty(d, faults, v):
     if "indices" in faults:
         last = turn((s.leaves, d.indices[0], 65535), v if s.l > 1 else 0)
         d.indices = d.indices[:-1] + [last]
-    question, reply = d.question(), d.reply()
+    reply = d.reply()
     if "value buffer" in faults:
-        size = turn((size + 4, size - 4, 0, 2 * size, size + 1, size - 1), v)
+        size = faulty_size(size, v)
     if "reply length" in faults:
         longer, shorter = [reply + bytes(n) for n in (1, 32)], [reply[:-n] for n in (1, 4, 32)]
         reply = turn(longer + shorter + [b""], v)
+    return faulty_bytes(d.question(), faults, v), reply, size
+
+
+def faulty_size(size, v):
+    """A wrong length of the value buffer."""
+    return turn((size + 4, size - 4, 0, 2 * size, size + 1, size - 1), v)
+
+
+def faulty_bytes(question, faults, v):
+    """A question's bytes with those of the faults that are not in its elements or indices."""
     if "question length" in faults:
         longer, shorter = [question + bytes(n) for n in (1, 4)], [question[:-n] for n in (1, 2)]
         question = turn(longer + shorter + [question[:14]], v)
@@ -174,7 +184,83 @@ def faulty(d, faults, v):
         question = turn(BAD_MARKS, v) + question[5:]
     if "under 14 bytes" in faults:
         question = question[: turn((13, 0, 5, 1), v)]
-    return question, reply, size
+    return question
+
+
+# ---- Several faults at once in a proof --------------------------------------------------------------
+
+# The tests of a proof's question in their order, each with its number.
+PROOF_QUESTION_STAGES = (
+    ("under 14 bytes", 6),
+    ("mark", 5),
+    ("sizes", 1),
+    ("kappa", 1),
+    ("question length", 6),
+    ("question element", 3),
+)
+
+# What the check of a proof tests, in order.
+PROOF_STAGES = PROOF_QUESTION_STAGES + (
+    ("value buffer", 2),
+    ("no room for the answers", 7),
+    ("proof length", 7),
+    ("reply element", 3),
+    ("counter", 12),
+    ("root", 8),
+    ("batching", 9),
+    ("evaluation", 10),
+)
+
+BAD_KAPPAS = (17, 18, 24, 32, 255, 256, 65536, 2**31, LAST_WORD)
+
+
+def faulty_proof_question(question, kappa, faults, v):
+    """Bytes of a proof's question, and kappa, with these faults."""
+    if "question element" in faults:
+        at = turn((46, len(question) - 4), v)
+        question = question[:at] + S.to_bytes([turn((Q, LAST_WORD), v // 2)]) + question[at + 4 :]
+    return faulty_bytes(question, faults, v), turn(BAD_KAPPAS, v) if "kappa" in faults else kappa
+
+
+def faulty_answers(d, faults, v):
+    """Puts the faults that the draw sees into a proof to be."""
+    s = d.sizes
+    if "root" in faults and v % 3 == 0:
+        root = spoil(d.question_parts.root, turn((0, 31, 7), v // 3))
+        d = ProofDraft(d.commitment, d.question_parts._replace(root=root))
+    if "batching" in faults:
+        k = turn((0, s.eta - 1), v)
+        d.batchings[k] = add(d.batchings[k], [1])
+    if "evaluation" in faults:
+        answer = d.answers[turn((0, s.m - 1), v)]
+        answer[turn((0, -1), v)] = (answer[turn((0, -1), v)] + 1) % Q
+    if "reply element" in faults and v % 6 < 4:
+        record = turn((d.batchings[0], d.batchings[-1], d.answers[0], d.answers[-1]), v % 6)
+        record[turn((0, -1), v // 6)] = turn((Q, LAST_WORD), v)
+    return d
+
+
+def faulty_proof(d, kappa, faults, v):
+    """Question, kappa, proof and value buffer length of a proof to be with these faults; kappa must not be 0."""
+    d, s = faulty_answers(d.copy(), faults, v), d.sizes
+    wanted = d.others(kappa) if "counter" in faults else d.qualifying(kappa)
+    counter = turn([next(wanted) for _ in range(3)], v)
+    e = d.opened(counter)
+    if "root" in faults and v % 3 == 1:
+        e.leaves[-1] = e.leaves[-1][0], spoil(e.leaves[-1][1], turn((0, 31), v))
+    if "root" in faults and v % 3 == 2:
+        e.nodes[-1] = spoil(e.nodes[-1], turn((0, 31), v))
+    if "reply element" in faults and v % 6 >= 4:
+        e.leaves[turn((0, -1), v)][0][turn((0, -1), v // 6)] = turn((Q, LAST_WORD), v // 2)
+    proof, room = S.write_counter(counter) + e.reply(), S.COUNTER_BYTES + S.answer_bytes(s)
+    if "proof length" in faults:
+        longer, shorter = [proof + bytes(n) for n in (1, 32)], [proof[:-n] for n in (1, 4, 32)]
+        proof = turn(longer + shorter + [proof[:room]], v)
+    if "no room for the answers" in faults:
+        proof = proof[: turn((room - 1, 0, 4, 3, 1, 2, room - 4), v)]
+    size = 4 * s.w * s.m
+    size = faulty_size(size, v) if "value buffer" in faults else size
+    return *faulty_proof_question(d.question(), kappa, faults, v), proof, size
 
 
 # ---- Mistakes in strings and batching ---------------------------------------------------------------

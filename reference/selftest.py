@@ -5,11 +5,13 @@
 Prints a summary; the exit status is 1 when a test fails.
 """
 
+import hashlib
 import random
 import sys
+from itertools import product
 
 import smallwood as S
-from smallwood import Q, Question, Sizes
+from smallwood import Q, ProofQuestion, Question, Sizes
 
 counts = {"passed": 0, "failed": 0}
 
@@ -86,6 +88,47 @@ def naive_table(s, coefficients, tails, masks):
         for k in range(s.eta):
             table.append(naive_polynomial(masks[k * len(points) : (k + 1) * len(points)], leaf))
     return table
+
+
+def naive_bits(data):
+    """The bits as a string of 0 and 1, each byte's top bit first."""
+    return "".join("{:08b}".format(byte) for byte in data)
+
+
+def naive_choose(leaves, words):
+    """The indices by marks: from index 0 on, as many unmarked ones are passed over as the rank tells."""
+    marked = [False] * leaves
+    for j, word in enumerate(words):
+        passed = word - word // (leaves - j) * (leaves - j)
+        at = 0
+        while marked[at] or passed:
+            passed -= not marked[at]
+            at += 1
+        marked[at] = True
+    return [i for i in range(leaves) if marked[i]]
+
+
+def naive_draw(s, question, proof):
+    """(the draw's first 32 bytes, gammas, indices) that belong to a proof, straight from its bytes."""
+
+    def words(data):
+        return [int.from_bytes(data[at : at + 8], "little") for at in range(0, len(data), 8)]
+
+    answers = proof[4 : 4 + 4 * (s.eta + s.m) * (s.w * s.nu + s.l)]
+    draw = hashlib.shake_256(b"\x03" + question + answers + proof[:4]).digest(32 + 8 * s.l)
+    gammas = words(hashlib.shake_256(b"\x02" + question[:46]).digest(8 * s.eta))
+    return draw[:32], [word % 4294967291 for word in gammas], naive_choose(2**s.h, words(draw[32:]))
+
+
+def naive_question(s, question, proof):
+    """The conversation's question that a proof stands for, as bytes."""
+    _, gammas, indices = naive_draw(s, question, proof)
+    challenges = b"".join(gamma.to_bytes(4, "little") for gamma in gammas)
+    return question[:46] + challenges + question[46:] + b"".join(i.to_bytes(2, "little") for i in indices)
+
+
+def naive_qualifies(s, question, proof, kappa):
+    return naive_bits(naive_draw(s, question, proof)[0]).startswith("0" * kappa)
 
 
 # ---- Fixtures ---------------------------------------------------------------------------------------
@@ -374,6 +417,155 @@ def test_completeness(rng, rounds):
         expect("spoilt", S.check(question, spoilt, [1] * (s.w * s.m)), (wanted, [1] * (s.w * s.m)))
 
 
+# ---- Proofs -----------------------------------------------------------------------------------------
+
+
+def test_choosing(rng):
+    """Every sequence of ranks over few leaves, then words at the borders of their remainders."""
+    for leaves, count in ((2, 1), (4, 1), (4, 2), (4, 3), (8, 3)):
+        for ranks in product(*(range(leaves - j) for j in range(count))):
+            words = [rank + rng.randrange(2**60) * (leaves - j) for j, rank in enumerate(ranks)]
+            expect("choosing %s of %d" % (ranks, leaves), S.choose(leaves, words), naive_choose(leaves, words))
+    for leaves, count in ((2, 1), (8, 7), (128, 64), (4096, 64), (4096, 1)):
+        first = [0] * count
+        last = [leaves - j - 1 for j in range(count)]
+        turns = [last[j] if j % 2 else 0 for j in range(count)]
+        most = [2**64 // (leaves - j) * (leaves - j) for j in range(count)]  # the last multiple, or 2^64 itself
+        expect("ranks 0", S.choose(leaves, first), list(range(count)))
+        expect("last ranks", S.choose(leaves, last), list(range(leaves - count, leaves)))
+        for words in (turns, [2**64 - 1] * count, [x - 1 for x in most], [x % 2**64 for x in most]):
+            expect("choosing at borders", S.choose(leaves, words), naive_choose(leaves, words))
+        expect("moduli N - j", S.choose(leaves, [leaves - j for j in range(count)]), list(range(count)))
+        for _ in range(20):
+            words = [rng.randrange(2**64) for _ in range(count)]
+            found = S.choose(leaves, words)
+            expect("choosing", found, naive_choose(leaves, words))
+            expect("different, rising, below N", found, sorted(set(found) & set(range(leaves))))
+            expect("as many as words", len(found), count)
+    expect("ranks among the unused", S.choose(8, [3, 3, 3]), [3, 4, 5])
+
+
+def test_qualifying():
+    for first in range(24):  # the place of the first bit that is 1
+        for rest in (0, 0x5A5A5A, 0xFFFFFF):
+            bits = (1 << 24 >> (first + 1)) | (rest & ((1 << 24 >> (first + 1)) - 1))
+            draw = bits.to_bytes(3, "big") + bytes(29)
+            for kappa in range(17):
+                expect("first bit %d" % first, S.qualifies(draw, kappa), kappa <= first)
+                expect("bits", S.qualifies(draw, kappa), naive_bits(draw)[:kappa] == "0" * kappa)
+
+
+def change_proof(proof, counter):
+    return counter.to_bytes(4, "little") + proof[4:]
+
+
+def refit(s, question, lent, table, tree, proof, counter):
+    """The proof that has this counter, whether it qualifies or not: leaves and nodes are those then drawn."""
+    other = change_proof(proof, counter)
+    drawn = naive_question(s, question, other)
+    length = S.reply_length(drawn)[1]
+    return counter.to_bytes(4, "little") + S.open_reply(drawn, *lent, table, tree, bytes(length))[2]
+
+
+def expect_proof(rng, s, lent, table, tree, points, kappa):
+    """One honest proof: what the papers say of it, against the naive definitions."""
+    label = "proof, kappa %d, %s: " % (kappa, s)
+    question = S.write_header(s) + tree[-32:] + b"".join(z.to_bytes(4, "little") for z in points)
+    bound = 4 + naive_length(s, s.l * s.h)
+    before = rng.randbytes(bound)
+    number, length, after = S.prove(question, kappa, 2**32 - 1, *lent, table, tree, before)
+    expect(label + "made", number, 0)
+    proof = after[:length]
+    expect(label + "bytes after it", after[length:], before[length:])
+    counter = int.from_bytes(proof[:4], "little")
+    least = next(c for c in range(counter + 1) if naive_qualifies(s, question, change_proof(proof, c), kappa))
+    expect(label + "least counter", counter, least)
+    drawn = naive_question(s, question, proof)
+    expect(label + "drawn question", S.read_question(drawn)[0], 0)
+    expect(label + "length", S.reply_length(drawn), (0, length - 4))
+    opened = S.open_reply(drawn, *lent, table, tree, bytes(length - 4))
+    expect(label + "counter, then the reply", opened, (0, length - 4, proof[4:]))
+    each = s.mu * s.nu
+    values = [naive_polynomial(lent[0][i * each : (i + 1) * each], z) for z in points for i in range(s.w)]
+    blank = [7] * (s.w * s.m)
+    expect(label + "conversation", S.check(drawn, proof[4:], blank), (0, values))
+    expect(label + "values", S.check_proof(question, kappa, proof, blank), (0, values))
+    found = S.check_proof_c(question, kappa, proof, bytes(4 * s.w * s.m))
+    expect(label + "values for C", found, (0, S.to_bytes(values)))
+    none = S.prove(question, kappa, counter, *lent, table, tree, before)
+    expect(label + "no counter below", none, (11, None, before))
+    again = S.prove(question, kappa, counter + 1, *lent, table, tree, before)
+    expect(label + "one counter more", again, (0, length, after))
+    expect(label + "limit 0", S.prove(question, kappa, 0, *lent, table, tree, before), (11, None, before))
+    for other in {counter + 1, counter + 2, counter + 3, 2**32 - 1} | set(range(counter)[-3:]):
+        refitted = refit(s, question, lent, table, tree, proof, other)
+        wanted = (0, values) if naive_qualifies(s, question, refitted, kappa) else (12, blank)
+        expect(label + "counter %d" % other, S.check_proof(question, kappa, refitted, blank), wanted)
+    later = next(c for c in range(counter + 1, 2**32) if naive_qualifies(s, question, change_proof(proof, c), kappa))
+    refitted = refit(s, question, lent, table, tree, proof, later)
+    expect(label + "later counter", S.check_proof(question, kappa, refitted, blank), (0, values))
+    for cut in {0, 1, 2, 3, 4, 3 + S.answer_bytes(s), 4 + S.answer_bytes(s), length - 32, length - 1}:
+        expect(label + "cut at %d" % cut, S.check_proof(question, kappa, proof[:cut], blank), (7, blank))
+    for more in (1, 32):
+        longer = proof + bytes(more)
+        expect(label + "%d bytes more" % more, S.check_proof(question, kappa, longer, blank), (7, blank))
+    for size in {0, bound - 1, bound + 1, length} - {bound}:
+        buffer = rng.randbytes(size)
+        found = S.prove(question, kappa, 2**32 - 1, *lent, table, tree, buffer)
+        expect(label + "buffer of %d bytes" % size, found, (2, None, buffer))
+    expect_order(label, s, question, proof, kappa, drawn)
+
+
+def expect_order(label, s, question, proof, kappa, drawn):
+    """Two faults at once: the earlier test decides."""
+    blank = [7] * (s.w * s.m)
+
+    def expect_number(what, number, question=question, kappa=kappa, proof=proof, words=blank):
+        expect(label + what, S.check_proof(question, kappa, proof, words), (number, words))
+
+    bad_point = question[:46] + b"\xff" * 4 + question[50:]
+    bad_record = proof[: 4 + S.answer_bytes(s)] + b"\xff" * 4 + proof[8 + S.answer_bytes(s) :]
+    expect_number("a conversation's question", 6, question=drawn)
+    expect_number("13 bytes", 6, question=question[:13], kappa=17)
+    expect_number("mark, kappa", 5, question=b"swq" + question[3:], kappa=17)
+    for above in (17, 255, 2**32 - 1):
+        expect_number("kappa, length", 1, question=question[:-1], kappa=above)
+    expect_number("length, point", 6, question=bad_point + b"\0")
+    expect_number("point, buffer", 3, question=bad_point, words=[])
+    expect_number("buffer, length", 2, proof=b"", words=blank + [1])
+    expect_number("length, element", 7, proof=bad_record + b"\0")
+    expect_number("element", 3, proof=bad_record)
+
+
+def test_proofs(rng, rounds):
+    for n in range(rounds):
+        s = random_sizes(rng)
+        lent = (*lend(s, lambda count: [rng.randrange(Q) for _ in range(count)]), rng.randbytes(32 * 2**s.h))
+        number, table, tree = S.commit(*s[:6], *lent, *empty_outputs(s))
+        points = [rng.choice((0, Q - 1, rng.randrange(Q))) for _ in range(s.m)]
+        expect_proof(rng, s, lent, table, tree, points, n % 10)
+    number, table, tree = S.commit(*P_SIZES[:6], *P_LENT, bytes(64), *empty_outputs(P_SIZES))
+    for kappa in range(17):
+        expect_proof(rng, P_SIZES, (*P_LENT, bytes(64)), table, tree, [6], kappa)
+
+
+def test_question_parts():
+    """The draws hash the bytes of the question and of the answers as they are lent."""
+    s = Sizes(3, 2, 1, 2, 2, 2, 2)
+    p = ProofQuestion(s, bytes(range(32)), [5, Q - 1])
+    question = S.write_proof_question(p)
+    expect("proof's question", len(question), 14 + 32 + 4 * 2)
+    expect("read back", S.read_proof_question(question, 16), (0, p))
+    answers = b"\xff" * S.answer_bytes(s)  # no elements
+    proof = b"\1\2\3\4" + answers
+    start, gammas, indices = naive_draw(s, question, proof)
+    draw = S.leaf_draw(p, S.leaf_draws(p, answers), 0x04030201)
+    expect("draw of what is no element", draw[:32], start)
+    drawn = S.question_by_draw(p, draw)
+    expect("challenges and indices", (drawn.challenges, drawn.indices), (gammas, indices))
+    expect("root and points", (drawn.sizes, drawn.root, drawn.points), tuple(p))
+
+
 def main():
     rng = random.Random(1)
     test_small_instances()
@@ -384,6 +576,10 @@ def main():
     test_reply_length(rng)
     test_reply_length_refused()
     test_completeness(rng, 150)
+    test_choosing(rng)
+    test_qualifying()
+    test_question_parts()
+    test_proofs(rng, 60)
     print("%(passed)d passed, %(failed)d failed" % counts)
     return 1 if counts["failed"] else 0
 

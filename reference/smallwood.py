@@ -21,6 +21,8 @@ VERSION = 1
 HEADER_BYTES = 14
 DIGEST_BYTES = 32
 NONCE_BYTES = 32
+COUNTER_BYTES = 4
+MAX_KAPPA = 16  # bits of a leaf draw that may have to be zero
 INPUT_LIMIT = 65536  # bytes that the checking program reads
 
 
@@ -263,6 +265,7 @@ def root_of(h, indices, leaf_digests, nodes):
 # ---- Byte forms -------------------------------------------------------------------------------------
 
 Question = namedtuple("Question", "sizes root challenges points indices")
+ProofQuestion = namedtuple("ProofQuestion", "sizes root points")  # what is left where challenges and indices are drawn
 Reply = namedtuple("Reply", "batchings answers leaves nodes")  # leaves: (values, nonce) for each index
 
 
@@ -283,15 +286,30 @@ def question_bytes(s):
     return HEADER_BYTES + DIGEST_BYTES + 4 * s.eta + 4 * s.m + 2 * s.l
 
 
+def proof_question_bytes(s):
+    """Length of a proof's question with these sizes: header, root, points."""
+    return HEADER_BYTES + DIGEST_BYTES + 4 * s.m
+
+
+def answer_bytes(s):
+    """Length of batching and evaluation answers, with which a reply begins."""
+    return 4 * s.width * (s.eta + s.m)
+
+
 def reply_bytes(s, node_count):
     """Length of a reply with this many nodes."""
     leaf_bytes = 4 * s.record + NONCE_BYTES
-    return 4 * s.width * (s.eta + s.m) + leaf_bytes * s.l + DIGEST_BYTES * node_count
+    return answer_bytes(s) + leaf_bytes * s.l + DIGEST_BYTES * node_count
 
 
 def reply_bound(s):
     """What no reply of these sizes exceeds: each opened leaf misses at most one node on a level."""
     return reply_bytes(s, s.l * s.h)
+
+
+def proof_bound(s):
+    """The prover's buffer: the counter, and a reply with l h nodes."""
+    return COUNTER_BYTES + reply_bound(s)
 
 
 def reply_bytes_to(q):
@@ -308,10 +326,21 @@ def write_question(q):
     return write_header(q.sizes) + q.root + words + struct.pack("<%dH" % len(q.indices), *q.indices)
 
 
+def write_proof_question(p):
+    return write_header(p.sizes) + p.root + to_bytes(p.points)
+
+
+def write_answers(batchings, answers):
+    return b"".join(to_bytes(words) for words in batchings + answers)
+
+
 def write_reply(r):
-    parts = [to_bytes(words) for words in r.batchings + r.answers]
-    parts += [to_bytes(values) + nonce for values, nonce in r.leaves]
-    return b"".join(parts + list(r.nodes))
+    leaves = [to_bytes(values) + nonce for values, nonce in r.leaves]
+    return b"".join([write_answers(r.batchings, r.answers)] + leaves + list(r.nodes))
+
+
+def write_counter(counter):
+    return struct.pack("<I", counter)
 
 
 def read_header(data):
@@ -343,6 +372,23 @@ def read_question(question):
     return 0, Question(s, root, words[: s.eta], words[s.eta :], indices)
 
 
+def read_proof_question(question, kappa):
+    """The tests of a proof's question, in their order: (number, None), or (0, the parsed question)."""
+    if len(question) < HEADER_BYTES:
+        return 6, None
+    number, s = read_header(question)
+    if number:
+        return number, None
+    if kappa > MAX_KAPPA:
+        return 1, None
+    if len(question) != proof_question_bytes(s):
+        return 6, None
+    points = to_words(question[HEADER_BYTES + DIGEST_BYTES :])
+    if not elements(points):
+        return 3, None
+    return 0, ProofQuestion(s, question[HEADER_BYTES : HEADER_BYTES + DIGEST_BYTES], points)
+
+
 def read_reply(s, reply):
     """The parts of a reply that has its length."""
     at = 0
@@ -359,6 +405,57 @@ def read_reply(s, reply):
     while at < len(reply):
         nodes.append(take(DIGEST_BYTES))
     return Reply(batchings, answers, leaves, nodes)
+
+
+# ---- Draws: the challenges and indices of a proof -----------------------------------------------------
+
+
+def to_long_words(data):
+    """8-byte words."""
+    return list(struct.unpack("<%dQ" % (len(data) // 8), data))
+
+
+def draw_challenges(p):
+    """The first eta words of SHAKE256 over 0x02, header, root, each modulo q."""
+    string = b"\x02" + write_header(p.sizes) + p.root
+    return [word % Q for word in to_long_words(shake_256(string).digest(8 * p.sizes.eta))]
+
+
+def leaf_draws(p, answers):
+    """Of the leaf draws, what does not depend on the counter: SHAKE256 after 0x03, header, root, points, answers.
+
+    The answers are bytes, as a reply begins with them, elements or not.
+    """
+    return shake_256(b"\x03" + write_proof_question(p) + answers)
+
+
+def leaf_draw(p, draws, counter):
+    """The 32 + 8 l bytes that a counter gives."""
+    string = draws.copy()
+    string.update(write_counter(counter))
+    return string.digest(DIGEST_BYTES + 8 * p.sizes.l)
+
+
+def qualifies(draw, kappa):
+    """Whether the first kappa bits are zero, from the top bit of the first byte on."""
+    return all(draw[bit // 8] >> (7 - bit % 8) & 1 == 0 for bit in range(kappa))
+
+
+def choose(leaves, words):
+    """The indices that the words name: word j modulo N - j is the rank of one of those not yet named."""
+    unused = list(range(leaves))
+    return sorted(unused.pop(word % len(unused)) for word in words)
+
+
+def question_by_draw(p, draw):
+    """The conversation's question that a leaf draw gives, whether its counter qualifies or not."""
+    indices = choose(p.sizes.leaves, to_long_words(draw[DIGEST_BYTES:]))
+    return Question(p.sizes, p.root, draw_challenges(p), p.points, indices)
+
+
+def least_counter(p, draws, kappa, limit):
+    """The least counter below the limit that qualifies, or None."""
+    return next((c for c in range(limit) if qualifies(leaf_draw(p, draws, c), kappa)), None)
 
 
 # ---- Entries ----------------------------------------------------------------------------------------
@@ -414,11 +511,23 @@ def reply_length(question):
     return (number, None) if number else (0, reply_bytes_to(q))
 
 
+def answers_to(s, challenges, points, coefficients, tails, masks):
+    """Batching answers and evaluation answers; they do not depend on the indices."""
+    lines = lines_of(s, coefficients, tails)
+    batchings = [batching_of(s, lines, mask_of(s, masks, k), challenges[k]) for k in range(s.eta)]
+    return batchings, [answer_of(lines, z) for z in points]
+
+
+def opened_at(s, indices, nonces, table, tree):
+    """The leaves of a reply and its nodes. Table and tree are believed: values and nodes are copied from them."""
+    leaves = [(table[s.record * i : s.record * (i + 1)], nonce_of(nonces, i)) for i in indices]
+    return leaves, [tree_node(s, tree, level, i) for level, i in missing_nodes(s.h, indices)]
+
+
 def open_reply(question, coefficients, tails, masks, nonces, table, tree, buffer):
     """Open: returns (number, length, buffer), where both lengths are the reply's; None after a refusal.
 
     Tests 6 5 1 6 3 4, then 2, 3 over all lent words (the table too), 8 against the lent root.
-    Table and tree are believed: leaf values and nodes are copied from them.
     """
     number, q = read_question(question)
     if number:
@@ -432,34 +541,43 @@ def open_reply(question, coefficients, tails, masks, nonces, table, tree, buffer
         return 3, None, buffer
     if q.root != tree[-DIGEST_BYTES:]:
         return 8, None, buffer
-    lines = lines_of(s, coefficients, tails)
-    reply = write_reply(
-        Reply(
-            [batching_of(s, lines, mask_of(s, masks, k), q.challenges[k]) for k in range(s.eta)],
-            [answer_of(lines, z) for z in q.points],
-            [(table[s.record * i : s.record * (i + 1)], nonce_of(nonces, i)) for i in q.indices],
-            [tree_node(s, tree, level, i) for level, i in missing_nodes(s.h, q.indices)],
-        )
-    )
+    answers = answers_to(s, q.challenges, q.points, coefficients, tails, masks)
+    reply = write_reply(Reply(*answers, *opened_at(s, q.indices, nonces, table, tree)))
     return 0, len(reply), reply
 
 
-def judge(question, reply, buffer_bytes):
-    """The check's verdict for a value buffer of this many bytes: (number, values or None).
+def prove(question, kappa, limit, coefficients, tails, masks, nonces, table, tree, buffer):
+    """Prove: returns (number, length, buffer); the length is the proof's, None after a refusal.
 
-    Tests 6 5 1 6 3 4, then 2, 7, 3 over the reply, 8, 9, 10.
+    Tests 6 5 1 6 3, then 2, 3 over all lent words (the table too), 8 against the lent root, 11. The buffer begins
+    with the proof, and its bytes after that stay.
     """
-    number, q = read_question(question)
+    number, p = read_proof_question(question, kappa)
     if number:
-        return number, None
+        return number, None, buffer
+    s = p.sizes
+    if len(buffer) != proof_bound(s) or not lent_lengths_hold(
+        s, coefficients, tails, masks, nonces, table, tree
+    ):
+        return 2, None, buffer
+    if not (elements(coefficients) and elements(tails) and elements(masks) and elements(table)):
+        return 3, None, buffer
+    if p.root != tree[-DIGEST_BYTES:]:
+        return 8, None, buffer
+    answers = answers_to(s, draw_challenges(p), p.points, coefficients, tails, masks)
+    draws = leaf_draws(p, write_answers(*answers))
+    counter = least_counter(p, draws, kappa, limit)
+    if counter is None:
+        return 11, None, buffer
+    q = question_by_draw(p, leaf_draw(p, draws, counter))
+    reply = write_reply(Reply(*answers, *opened_at(s, q.indices, nonces, table, tree)))
+    proof = write_counter(counter) + reply
+    return 0, len(proof), proof + buffer[len(proof) :]
+
+
+def verify(q, r):
+    """The tests that are left for a reply of its length and of elements: (8, 9 or 10, None), or (0, the values)."""
     s = q.sizes
-    if buffer_bytes != 4 * s.w * s.m:
-        return 2, None
-    if len(reply) != reply_bytes_to(q):
-        return 7, None
-    r = read_reply(s, reply)
-    if not all(map(elements, r.batchings + r.answers + [values for values, _ in r.leaves])):
-        return 3, None
     strings = [leaf_string(i, values, nonce) for i, (values, nonce) in zip(q.indices, r.leaves)]
     if root_of(s.h, q.indices, [digest(string) for string in strings], r.nodes) != q.root:
         return 8, None
@@ -478,6 +596,28 @@ def judge(question, reply, buffer_bytes):
     return 0, [v for z, c in zip(q.points, columns) for v in values_of(s, z, c)]
 
 
+def reply_elements(r):
+    """Test 3 over a reply."""
+    return all(map(elements, r.batchings + r.answers + [values for values, _ in r.leaves]))
+
+
+def judge(question, reply, buffer_bytes):
+    """The check's verdict for a value buffer of this many bytes: (number, values or None).
+
+    Tests 6 5 1 6 3 4, then 2, 7, 3 over the reply, 8, 9, 10.
+    """
+    number, q = read_question(question)
+    if number:
+        return number, None
+    s = q.sizes
+    if buffer_bytes != 4 * s.w * s.m:
+        return 2, None
+    if len(reply) != reply_bytes_to(q):
+        return 7, None
+    r = read_reply(s, reply)
+    return verify(q, r) if reply_elements(r) else (3, None)
+
+
 def check(question, reply, values):
     """Check: returns (number, values); the value buffer has w m words, point by point."""
     number, found = judge(question, reply, 4 * len(values))
@@ -487,6 +627,43 @@ def check(question, reply, values):
 def check_c(question, reply, value_bytes):
     """The check's entry for C: the value buffer has 4 w m bytes. Returns (number, value_bytes)."""
     number, found = judge(question, reply, len(value_bytes))
+    return number, value_bytes if number else to_bytes(found)
+
+
+def judge_proof(question, kappa, proof, buffer_bytes):
+    """The verdict on a proof for a value buffer of this many bytes: (number, values or None).
+
+    Tests 6 5 1 6 3, then 2, 7 for what has no room for counter and answers; the draw; then 7, 3 over the reply, 12,
+    and 8, 9, 10 as in the conversation.
+    """
+    number, p = read_proof_question(question, kappa)
+    if number:
+        return number, None
+    s = p.sizes
+    if buffer_bytes != 4 * s.w * s.m:
+        return 2, None
+    if len(proof) < COUNTER_BYTES + answer_bytes(s):
+        return 7, None
+    counter, reply = to_words(proof[:COUNTER_BYTES])[0], proof[COUNTER_BYTES:]
+    draw = leaf_draw(p, leaf_draws(p, reply[: answer_bytes(s)]), counter)
+    q = question_by_draw(p, draw)
+    if len(reply) != reply_bytes_to(q):
+        return 7, None
+    r = read_reply(s, reply)
+    if not reply_elements(r):
+        return 3, None
+    return verify(q, r) if qualifies(draw, kappa) else (12, None)
+
+
+def check_proof(question, kappa, proof, values):
+    """Check of a proof: returns (number, values); the value buffer has w m words, point by point."""
+    number, found = judge_proof(question, kappa, proof, 4 * len(values))
+    return number, values if number else found
+
+
+def check_proof_c(question, kappa, proof, value_bytes):
+    """Its entry for C: the value buffer has 4 w m bytes. Returns (number, value_bytes)."""
+    number, found = judge_proof(question, kappa, proof, len(value_bytes))
     return number, value_bytes if number else to_bytes(found)
 
 

@@ -2,8 +2,9 @@
  *
  *     bench                      all tables below, in Markdown
  *     bench times                time of each entry at all sizes
+ *     bench proofs               time of proving and of checking a proof beside the conversation's, at all sizes
  *     bench growth               how the times of the library and of plain C grow with each size
- *     bench stack                stack that committing, opening, checking use
+ *     bench stack                stack that committing, opening, checking, proving, checking a proof use
  *     bench names                the implementations, one to a line
  *     bench sizes                the numbers of the sizes, one to a line
  *     bench once OP SIZE NAME    one call alone, to be counted by valgrind (bench.sh)
@@ -11,7 +12,7 @@
  *
  * plain_keccak_* and plain_pairs_* are plain C with plain/keccak.c, the latter with PLAIN_PAIRS (plain/plain.h). Built
  * with -DPLAIN_OPENSSL, plain_* is plain C with OpenSSL's hash; built with -DBEFORE, before_* is the older library.
- * Times are processor time of this program. */
+ * Times are processor time of this program. An older library may lack the entries for proofs. */
 #define _GNU_SOURCE
 #include <inttypes.h>
 #include <pthread.h>
@@ -20,246 +21,32 @@
 #include <string.h>
 #include <sys/mman.h>
 
-#include "instance.h"
-#include "plain/shake.h"
-#include "timing.h"
+#include "bench_operations.h"
+#include "bench_proofs.h"
 
-ENTRIES(smallwood);
-ENTRIES(before);
-ENTRIES(plain);
-ENTRIES(plain_keccak);
-ENTRIES(plain_pairs);
-
-#define ROUNDS 25          /* runs of which least and median are taken */
-#define RUN_SECONDS 2e-3   /* a run repeats the call for about so long */
 #define STACK_BYTES ((size_t)16 << 20)
 #define STACK_BYTE 0x5a
 
-enum operation { COMMIT, OPEN, CHECK, LENGTH, OPERATIONS };
-
-#define MAIN_OPERATIONS LENGTH /* those in all tables; the others are in those of times and instructions */
-
-static const char *const operation_names[OPERATIONS] = {"commit", "open", "check", "length"};
-
-static const struct implementation implementations[] = {
-    IMPLEMENTATION(smallwood),
-#ifdef BEFORE
-    IMPLEMENTATION(before),
-#endif
-#ifdef PLAIN_OPENSSL
-    IMPLEMENTATION(plain),
-#endif
-    IMPLEMENTATION(plain_keccak),
-    IMPLEMENTATION(plain_pairs),
-};
-
-#define IMPLEMENTATIONS (sizeof implementations / sizeof implementations[0])
-#define PLAIN_C (IMPLEMENTATIONS - 2)
-
-/* tools/growth_svg.py knows `library` and `plain C`. */
-static const char *const shown_names[IMPLEMENTATIONS] = {
-    "library",
-#ifdef BEFORE
-    "before",
-#endif
-#ifdef PLAIN_OPENSSL
-    "plain C, OpenSSL",
-#endif
-    [PLAIN_C] = "plain C",
-    "plain C, two at once",
-};
-
-/* The library, and the older one after it. */
-#ifdef BEFORE
-#define LIBRARIES 2
-#else
-#define LIBRARIES 1
-#endif
-
-static const struct sizes all_sizes[] = {
-    {1, 1, 1, 1, 1, 1, 1},      {4, 4, 2, 2, 4, 1, 1},      {6, 8, 4, 4, 8, 2, 1},
-    {8, 16, 8, 8, 16, 2, 2},    {10, 32, 16, 8, 32, 3, 4},  {12, 64, 16, 16, 64, 4, 8},
-    {12, 64, 1, 256, 64, 4, 8}, {12, 64, 256, 1, 64, 4, 8}, {12, 8, 21, 1, 17, 2, 1},
-    {10, 16, 8, 4, 24, 2, 3},   {8, 4, 4, 4, 16, 1, 1},
-};
-
-#define SIZES (sizeof all_sizes / sizeof all_sizes[0])
-
-static uint32_t call(const struct implementation *with, enum operation operation,
-                     struct instance *a)
-{
-    switch (operation) {
-    case COMMIT:
-        return commit_with(with, a);
-    case OPEN:
-        return open_with(with, a);
-    case CHECK:
-        return check_with(with, a);
-    default:
-        return reply_length_with(with, a);
-    }
-}
-
-/* An instance on which plain C has done what comes before the operation. It depends on nothing but the sizes. */
-static struct instance *prepared(struct sizes s, enum operation operation)
-{
-    const struct implementation *with = &implementations[PLAIN_C];
-    struct instance *a;
-
-    draw_again();
-    a = make_instance(s);
-    if (operation > COMMIT) {
-        if (call(with, COMMIT, a) != 0)
-            fail("committing was refused");
-        ask(a);
-    }
-    if (operation > OPEN && call(with, OPEN, a) != 0)
-        fail("opening was refused");
-    return a;
-}
-
-/* Clears what an operation writes, or copies it out; returns its bytes. */
-static size_t outcome(struct instance *a, enum operation operation, uint8_t *copy)
-{
-    uint8_t *first = operation == COMMIT ? a->tree : operation == OPEN ? a->reply : a->values;
-    size_t bytes = operation == COMMIT  ? a->tree_bytes
-                   : operation == OPEN  ? a->reply_bytes
-                   : operation == CHECK ? a->value_bytes
-                                        : 0;
-    size_t more = operation == COMMIT ? 4 * a->table_count : operation == CHECK ? 0 : 8;
-    void *second = operation == COMMIT ? (void *)a->table : (void *)&a->length;
-
-    if (copy == NULL) {
-        memset(first, 0, bytes);
-        memset(second, 0, more);
-    } else {
-        memcpy(copy, first, bytes);
-        memcpy(copy + bytes, second, more);
-    }
-    return bytes + more;
-}
-
-/* All implementations have to leave the same. */
-static void compare(struct instance *a, enum operation operation)
-{
-    size_t bytes = outcome(a, operation, NULL);
-    uint8_t *first = allocate(bytes), *other = allocate(bytes);
-
-    for (size_t i = 0; i < IMPLEMENTATIONS; i++) {
-        outcome(a, operation, NULL);
-        if (call(&implementations[i], operation, a) != 0)
-            fail("an honest call was refused");
-        outcome(a, operation, i == 0 ? first : other);
-        if (i > 0 && memcmp(first, other, bytes) != 0)
-            fail("the implementations differ");
-    }
-    free(first);
-    free(other);
-}
-
-/* ---- Permutations of Keccak, from the lengths of the strings hashed ------------------------------- */
-
-static uint64_t permutations(const struct instance *a, enum operation operation)
-{
-    const struct sizes *s = &a->s;
-    uint64_t leaves = (uint64_t)1 << s->h;
-    uint64_t leaf = permutations_of(3 + 4 * (s->mu + s->eta) + 32);
-    uint64_t node = permutations_of(1 + 2 * DIGEST_BYTES);
-
-    if (operation == COMMIT)
-        return leaves * leaf + (leaves - 1) * node;
-    return operation == CHECK ? s->l * leaf + nodes_above(a) * node : 0;
-}
-
 /* ---- Times --------------------------------------------------------------------------------------- */
-
-static double run(const struct implementation *with, enum operation operation, struct instance *a,
-                  uint64_t times)
-{
-    double start = now();
-
-    for (uint64_t i = 0; i < times; i++)
-        call(with, operation, a);
-    return (now() - start) / (double)times;
-}
-
-/* The implementations that the table has, in turn. */
-static void measure(struct instance *a, enum operation operation, int (*has)(size_t),
-                    struct timing *found)
-{
-    static double seconds[IMPLEMENTATIONS][ROUNDS];
-    double once = run(&implementations[0], operation, a, 1);
-    uint64_t times = once < RUN_SECONDS ? (uint64_t)(RUN_SECONDS / (once + 1e-8)) + 1 : 1;
-    size_t had[IMPLEMENTATIONS], count = 0;
-
-    for (size_t i = 0; i < IMPLEMENTATIONS; i++)
-        if (has(i))
-            had[count++] = i;
-    for (size_t r = 0; r < ROUNDS; r++)
-        for (size_t i = 0; i < count; i++) {
-            size_t turn = had[turn_of(r, i, count)];
-            seconds[turn][r] = run(&implementations[turn], operation, a, times);
-        }
-    for (size_t i = 0; i < count; i++)
-        found[had[i]] = timing_of(seconds[had[i]], ROUNDS);
-}
-
-static void print_sizes(const struct sizes *s)
-{
-    printf("| %u | %u | %u | %u | %u | %u | %u ", s->h, s->mu, s->nu, s->w, s->l, s->eta, s->m);
-}
-
-static void begin_row(const struct instance *a, enum operation operation)
-{
-    print_sizes(&a->s);
-    printf("| %s | %" PRIu64 " ", operation_names[operation], permutations(a, operation));
-}
-
-static int in_times(size_t implementation)
-{
-    return implementation < IMPLEMENTATIONS;
-}
 
 static void show_times(void)
 {
-    printf("\nMicroseconds of processor time for one call, least (median) of %d runs in turn; the ratio is "
-           "the library's least over the other's least, and in brackets that of the medians.\n\n",
-           ROUNDS);
+    printf("\n" TIMES_CAPTION "\n\n", ROUNDS);
     printf("| h | mu | nu | w | l | eta | m | operation | permutations ");
-    for (size_t i = 0; i < IMPLEMENTATIONS; i++)
-        printf("| %s ", shown_names[i]);
-    for (size_t i = 1; i < IMPLEMENTATIONS; i++)
-        printf("| to %s ", shown_names[i]);
-    printf("|\n|---|---|---|---|---|---|---|---|---|");
-    for (size_t i = 1; i < 2 * IMPLEMENTATIONS; i++)
-        printf("---|");
-    puts("");
+    end_times_head(9);
     for (size_t n = 0; n < SIZES; n++)
-        for (enum operation operation = 0; operation < OPERATIONS; operation++) {
+        for (enum operation operation = 0; operation < TIMED_OPERATIONS; operation++) {
             struct instance *a = prepared(all_sizes[n], operation);
             struct timing found[IMPLEMENTATIONS];
-            int decimals = operation == LENGTH ? 3 : 2;
             compare(a, operation);
             measure(a, operation, in_times, found);
             begin_row(a, operation);
-            for (size_t i = 0; i < IMPLEMENTATIONS; i++)
-                printf("| %.*f (%.*f) ", decimals, 1e6 * found[i].least, decimals,
-                       1e6 * found[i].median);
-            for (size_t i = 1; i < IMPLEMENTATIONS; i++)
-                printf("| %.2f (%.2f) ", found[0].least / found[i].least,
-                       found[0].median / found[i].median);
-            puts("|");
-            fflush(stdout);
+            end_times_row(found, operation == LENGTH ? 3 : 2);
             free_instance(a);
         }
 }
 
 /* ---- Growth -------------------------------------------------------------------------------------- */
-
-static int in_growth(size_t implementation)
-{
-    return implementation < LIBRARIES || implementation == PLAIN_C;
-}
 
 /* `value` is what the doubled size has in s; `above` has the least seconds of the row above, or 0. */
 static void show_growth_row(const char *name, struct sizes s, enum operation operation, uint32_t value,
@@ -374,6 +161,46 @@ static size_t touched(struct stack_call *c)
     return STACK_BYTES - at;
 }
 
+static const enum operation stack_operations[] = {COMMIT, OPEN, CHECK, PROVE, CHECK_PROOF};
+
+#define STACK_OPERATIONS (sizeof stack_operations / sizeof stack_operations[0])
+
+static size_t stack_of(size_t implementation, enum operation operation, struct sizes s, size_t base)
+{
+    struct instance *a = prepared(s, operation);
+    struct stack_call c = {&implementations[implementation], operation, a, 0};
+    size_t used = touched(&c);
+
+    if (c.number != 0)
+        fail("an honest call was refused");
+    free_instance(a);
+    return used > base ? used - base : 0;
+}
+
+static void show_stack_row(struct sizes s, size_t base)
+{
+    double bytes[IMPLEMENTATIONS][STACK_OPERATIONS];
+
+    print_sizes(&s);
+    for (size_t i = 0; i < IMPLEMENTATIONS; i++)
+        for (size_t o = 0; o < STACK_OPERATIONS; o++)
+            if (has_operation(i, stack_operations[o])) {
+                size_t used = stack_of(i, stack_operations[o], s, base);
+                printf("| %zu ", used);
+                bytes[i][o] = (double)used;
+            } else {
+                printf("| ");
+            }
+    for (size_t i = 1; i < LIBRARIES; i++)
+        for (size_t o = 0; o < STACK_OPERATIONS; o++)
+            if (has_operation(i, stack_operations[o]))
+                printf("| %.2f ", bytes[0][o] / bytes[i][o]);
+            else
+                printf("| ");
+    puts("|");
+    fflush(stdout);
+}
+
 static void show_stack(void)
 {
     struct stack_call none = {.with = NULL};
@@ -383,36 +210,17 @@ static void show_stack(void)
          "call.\n");
     printf("| h | mu | nu | w | l | eta | m ");
     for (size_t i = 0; i < IMPLEMENTATIONS; i++)
-        for (enum operation operation = 0; operation < MAIN_OPERATIONS; operation++)
-            printf("| %s, %s ", operation_names[operation], shown_names[i]);
+        for (size_t o = 0; o < STACK_OPERATIONS; o++)
+            printf("| %s, %s ", operation_names[stack_operations[o]], shown_names[i]);
     for (size_t i = 1; i < LIBRARIES; i++)
-        for (enum operation operation = 0; operation < MAIN_OPERATIONS; operation++)
-            printf("| %s, to %s ", operation_names[operation], shown_names[i]);
+        for (size_t o = 0; o < STACK_OPERATIONS; o++)
+            printf("| %s, to %s ", operation_names[stack_operations[o]], shown_names[i]);
     printf("|\n|---|---|---|---|---|---|---|");
-    for (size_t i = 0; i < MAIN_OPERATIONS * (IMPLEMENTATIONS + LIBRARIES - 1); i++)
+    for (size_t i = 0; i < STACK_OPERATIONS * (IMPLEMENTATIONS + LIBRARIES - 1); i++)
         printf("---|");
     puts("");
-    for (size_t n = 0; n < SIZES; n++) {
-        double bytes[IMPLEMENTATIONS][MAIN_OPERATIONS];
-        print_sizes(&all_sizes[n]);
-        for (size_t i = 0; i < IMPLEMENTATIONS; i++)
-            for (enum operation operation = 0; operation < MAIN_OPERATIONS; operation++) {
-                struct instance *a = prepared(all_sizes[n], operation);
-                struct stack_call c = {&implementations[i], operation, a, 0};
-                size_t used = touched(&c);
-                if (c.number != 0)
-                    fail("an honest call was refused");
-                used = used > base ? used - base : 0;
-                printf("| %zu ", used);
-                bytes[i][operation] = (double)used;
-                free_instance(a);
-            }
-        for (size_t i = 1; i < LIBRARIES; i++)
-            for (enum operation operation = 0; operation < MAIN_OPERATIONS; operation++)
-                printf("| %.2f ", bytes[0][operation] / bytes[i][operation]);
-        puts("|");
-        fflush(stdout);
-    }
+    for (size_t n = 0; n < SIZES; n++)
+        show_stack_row(all_sizes[n], base);
 }
 
 /* ---- One call ------------------------------------------------------------------------------------ */
@@ -470,16 +278,19 @@ int main(int count, char **words)
     } else if (strcmp(mode, "sizes") == 0) {
         for (size_t n = 1; n <= SIZES; n++)
             printf("%zu\n", n);
-    } else if (all || strcmp(mode, "times") == 0 || strcmp(mode, "growth") == 0 ||
-               strcmp(mode, "stack") == 0) {
+    } else if (all || strcmp(mode, "times") == 0 || strcmp(mode, "proofs") == 0 ||
+               strcmp(mode, "growth") == 0 || strcmp(mode, "stack") == 0) {
         if (all || strcmp(mode, "times") == 0)
             show_times();
+        if (all || strcmp(mode, "proofs") == 0)
+            show_proofs();
         if (all || strcmp(mode, "growth") == 0)
             show_growth();
         if (all || strcmp(mode, "stack") == 0)
             show_stack();
     } else {
-        fail("usage: bench [times | growth | stack | names | sizes | once OP SIZE NAME | row OP SIZE]");
+        fail("usage: bench [times | proofs | growth | stack | names | sizes | once OP SIZE NAME | "
+             "row OP SIZE]");
     }
     return 0;
 }

@@ -1,11 +1,12 @@
 #!/bin/sh
 # Cost of the library beside the plain C implementation; prints Markdown tables.
 #
-#     tools/bench.sh                   times, growth, stack, and instructions where valgrind is installed
-#     tools/bench.sh times             one of: times, growth, stack, instructions
+#     tools/bench.sh                   times, proofs, growth, stack, and instructions where valgrind is installed
+#     tools/bench.sh times             one of: times, proofs, growth, stack, instructions
 #
 #     --archive FILE     measures this archive and does not build the library
-#     --before FILE      measures this older archive too, in the same runs: the tables have it as `before`
+#     --before FILE      measures this older archive too, in the same runs: the tables have it as `before`, but not
+#                        with what it lacks of the entries for proofs
 #     --stand-in         measures the plain C implementation, to test these tools
 #
 # Needs gcc, rt unless an archive is given, and binutils for --before. With OpenSSL's headers (libssl-dev) the plain
@@ -22,7 +23,8 @@ find_before smallwood
 object keccak.o plain/keccak.c
 object plain-keccak.o plain/plain.c -DPLAIN_PREFIX=plain_keccak
 object plain-pairs.o plain/plain.c -DPLAIN_PREFIX=plain_pairs -DPLAIN_PAIRS=1
-objects="$build/keccak.o $build/plain-keccak.o $build/plain-pairs.o"
+object converse.o plain/converse.c
+objects="$build/converse.o $build/keccak.o $build/plain-keccak.o $build/plain-pairs.o"
 with=$before
 if has_openssl EVP_shake256; then
     object plain.o plain/plain.c -DPLAIN_OPENSSL
@@ -35,6 +37,14 @@ fi
 # With all symbols bound at the start, no count includes the linker's work.
 # shellcheck disable=SC2086
 "$CC" $CFLAGS "$tools/bench.c" "$tools/instance.c" $objects "$archive" $with -lpthread -Wl,-z,now -o "$build/bench"
+
+# lacks NAME OPERATION: whether an older library has no such entry
+lacks() {
+    [ "$1" = before ] && case $2 in
+        prove | check_proof) ! grep -q "before_$2$" "$build/before.names" ;;
+        *) false ;;
+    esac
+}
 
 # count OPERATION SIZE NAME: instructions inside that call
 count() {
@@ -54,10 +64,15 @@ instructions() {
     for name in $names; do [ "$name" = smallwood ] || printf -- '---|'; done
     echo
     for size in $("$build/bench" sizes); do
-        for operation in commit open check length; do
+        for operation in commit open check length prove check_proof; do
             "$build/bench" row "$operation" "$size"
             ratios=
             for name in $names; do
+                if lacks "$name" "$operation"; then
+                    printf '| '
+                    ratios="$ratios| "
+                    continue
+                fi
                 found=$(count "$operation" "$size" "$name")
                 printf '| %s ' "$found"
                 if [ "$name" = smallwood ]; then
@@ -82,7 +97,7 @@ case ${1:-all} in
             echo "valgrind is not installed: instructions are not counted"
         fi
         ;;
-    times | growth | stack) exec "$build/bench" "$1" ;;
+    times | proofs | growth | stack) exec "$build/bench" "$1" ;;
     instructions)
         need valgrind "to count instructions"
         instructions

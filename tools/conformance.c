@@ -1,9 +1,10 @@
 /* Calls the entries of a linked archive for requests on standard input, one after the other.
  *
- * Request:  kind ('c' commit, 'l' reply_length, 'o' open, 'k' check); for 'c' six 32-bit sizes; for 'l' and
- *           'o' the 64-bit length as it stands before the call; then each slice in the entry's order: a
- *           32-bit number of elements and the elements.
- * Answer:   the 32-bit number returned, the 64-bit length after the call (0 for 'c' and 'k'), 32-bit flags
+ * Request:  kind ('c' commit, 'l' reply_length, 'o' open, 'k' check, 'p' prove, 'q' check_proof); the 32-bit
+ *           numbers that the entry takes (for 'c' six sizes, for 'p' kappa and limit, for 'q' kappa); for 'l',
+ *           'o' and 'p' the 64-bit length as it stands before the call; then each slice in the entry's order:
+ *           a 32-bit number of elements and the elements.
+ * Answer:   the 32-bit number returned, the 64-bit length after the call (0 where it has none), 32-bit flags
  *           (below), the 32-bit number of calls made, then every slice as it stands after the call, the
  *           ones lent for reading too.
  *
@@ -154,15 +155,22 @@ static void take_slice(size_t width)
 #define WORDS(i) (uint32_t *)(void *)slices[i].lent, slices[i].count
 #define BYTES(i) slices[i].lent, slices[i].count
 
-/* The entries: the kind of their requests, how many slices they take, and the bytes of an element in each. */
+#define NUMBERS 6
+
+/* The entries: the kind of their requests, how many numbers they take, whether they write a length, how many slices
+ * they take, and the bytes of an element in each. */
 static const struct entry {
     int kind;
+    size_t numbers;
+    int writes_length;
     size_t count, widths[SLICES];
 } entries[] = {
-    {'c', 6, {4, 4, 4, 1, 4, 1}},
-    {'l', 1, {1}},
-    {'o', 8, {1, 4, 4, 4, 4, 1, 1, 1}},
-    {'k', 3, {1, 1, 1}},
+    {'c', 6, 0, 6, {4, 4, 4, 1, 4, 1}},
+    {'l', 0, 1, 1, {1}},
+    {'o', 0, 1, 8, {1, 4, 4, 4, 4, 1, 1, 1}},
+    {'k', 0, 0, 3, {1, 1, 1}},
+    {'p', 2, 1, 8, {1, 4, 4, 4, 4, 1, 1, 1}},
+    {'q', 1, 0, 3, {1, 1, 1}},
 };
 
 static const struct entry *entry_of(int kind)
@@ -174,16 +182,21 @@ static const struct entry *entry_of(int kind)
     return NULL;
 }
 
-static uint32_t call(int kind, const uint32_t sizes[6], uint64_t *length)
+static uint32_t call(int kind, const uint32_t n[NUMBERS], uint64_t *length)
 {
     if (kind == 'c')
-        return smallwood_commit(sizes[0], sizes[1], sizes[2], sizes[3], sizes[4], sizes[5],
-                                WORDS(0), WORDS(1), WORDS(2), BYTES(3), WORDS(4), BYTES(5));
+        return smallwood_commit(n[0], n[1], n[2], n[3], n[4], n[5], WORDS(0), WORDS(1), WORDS(2),
+                                BYTES(3), WORDS(4), BYTES(5));
     if (kind == 'l')
         return smallwood_reply_length(BYTES(0), length);
     if (kind == 'o')
         return smallwood_open(BYTES(0), WORDS(1), WORDS(2), WORDS(3), WORDS(4), BYTES(5), BYTES(6),
                               BYTES(7), length);
+    if (kind == 'p')
+        return smallwood_prove(BYTES(0), n[0], n[1], WORDS(1), WORDS(2), WORDS(3), WORDS(4), BYTES(5),
+                               BYTES(6), BYTES(7), length);
+    if (kind == 'q')
+        return smallwood_check_proof(BYTES(0), n[0], BYTES(1), BYTES(2));
     return smallwood_check(BYTES(0), BYTES(1), BYTES(2));
 }
 
@@ -199,12 +212,11 @@ static void serve(int kind)
 {
     const struct entry *entry = entry_of(kind);
     size_t count = entry->count;
-    uint32_t sizes[6] = {0}, number = 0, flags = 0, calls = 0;
+    uint32_t numbers[NUMBERS] = {0}, number = 0, flags = 0, calls = 0;
     uint64_t given_length = 0, length = 0;
 
-    if (kind == 'c')
-        take(sizes, sizeof sizes);
-    if (kind == 'l' || kind == 'o')
+    take(numbers, entry->numbers * sizeof numbers[0]);
+    if (entry->writes_length)
         take(&given_length, sizeof given_length);
     slice_count = 0;
     while (slice_count < count)
@@ -216,7 +228,7 @@ static void serve(int kind)
             continue;
         for (size_t i = 0; i < count; i++)
             lend(&slices[i], place);
-        found = call(kind, sizes, &found_length);
+        found = call(kind, numbers, &found_length);
         calls++;
         if (place == ALLOCATED) {
             number = found;

@@ -21,21 +21,24 @@ from cases import (
     CHECK_GROUPS, CheckCase, commit_calls, honest_cases, length_calls, open_calls, place_cases, program_borders,
     program_case,
 )  # fmt: skip
-from drafts import case_p, large_drafts, small_drafts
+from drafts import case_p, large_drafts, small_drafts, small_proofs
 from drawn import BLOCK, drawn_inputs
+from proofs import PROOF_GROUPS, ProofCase, ProveCall, honest_proofs, prove_calls
 from smallwood import to_bytes
 
 SHOWN = 10  # differences after which a run stops
 DRAWN = 1000  # drawn inputs of a run without --long
 EVERY = 12  # the program gets one of so many check cases without --long
 UNTOUCHED = 0x1122334455667788  # the length before a call that may write it
-KINDS = {"commit": b"c", "length": b"l", "open": b"o", "check": b"k"}  # as conformance.c has them
+# As conformance.c has them.
+KINDS = {"commit": b"c", "length": b"l", "open": b"o", "check": b"k", "prove": b"p", "proof": b"q"}
 FLAGS = {1: "bytes beside a slice changed", 2: "the outcome depends on where the slices stand"}
 
 COMMIT_SLICES = ("coefficients", "tails", "masks", "nonces", "table", "tree")
 LENGTH_SLICES = ("question",)
 OPEN_SLICES = ("question", "coefficients", "tails", "masks", "table", "nonces", "tree", "buffer")
 CHECK_SLICES = ("question", "reply", "buffer")
+PROOF_SLICES = ("question", "proof", "buffer")
 
 
 class Broken(Exception):
@@ -85,8 +88,23 @@ def check(label, slices, number, after):
     return Call(label, "check", b"", slices, number, 0, after)
 
 
+def proved(label, kappa, limit, slices, number, length, after):
+    head = struct.pack("<IIQ", kappa, limit, UNTOUCHED)
+    return Call(label, "prove", head, slices, number, written(length), after)
+
+
+def proof(label, kappa, slices, number, after):
+    return Call(label, "proof", struct.pack("<I", kappa), slices, number, 0, after)
+
+
 def call_of(case):
     """The call that a case of the second implementation describes."""
+    if isinstance(case, ProofCase):
+        slices = {name: getattr(case, name) for name in PROOF_SLICES}
+        return proof(case.label, case.kappa, slices, case.number, {"buffer": case.after})
+    if isinstance(case, ProveCall):
+        slices, after = {name: getattr(case, name) for name in OPEN_SLICES}, {"buffer": case.buffer_after}
+        return proved(case.label, case.kappa, case.limit, slices, case.number, case.length, after)
     if isinstance(case, CheckCase):
         slices = {name: getattr(case, name) for name in CHECK_SLICES}
         return check(case.label, slices, case.number, {"buffer": case.after})
@@ -118,16 +136,26 @@ def empty_calls():
     yield check("empty: check", empty(CHECK_SLICES), 6, {})
     yield check("empty: check, but the question", empty(CHECK_SLICES, question=question), 2, {})
     yield check("empty: check, reply", empty(CHECK_SLICES, question=question, buffer=bytes(4)), 7, {})
+    question = small_proofs()[0].question()
+    for kappa, number in ((0, 2), (16, 2), (17, 1), (2**32 - 1, 1)):
+        label, asked = "empty: kappa %d, " % kappa, dict(question=question)
+        yield proved(label + "prove", kappa, 2**32 - 1, empty(OPEN_SLICES), 6, None, {})
+        yield proved(label + "prove, but the question", kappa, 0, empty(OPEN_SLICES, **asked), number, None, {})
+        yield proof(label + "proof", kappa, empty(PROOF_SLICES), 6, {})
+        yield proof(label + "proof, but the question", kappa, empty(PROOF_SLICES, **asked), number, {})
+        values = empty(PROOF_SLICES, **asked, buffer=bytes(4))
+        yield proof(label + "proof, but question and values", kappa, values, 7 if kappa <= 16 else 1, {})
 
 
 def call_groups(drawn, seed):
     """(name, calls) of every group; the quick groups come first."""
     yield "empty slices", empty_calls()
     quick = [group for group in CHECK_GROUPS if group not in (honest_cases, place_cases)]
+    quick += [group for group in PROOF_GROUPS if group is not honest_proofs]
     for group in quick + [length_calls, place_cases]:
         yield group.__name__, map(call_of, group())
     yield "drawn inputs", map(call_of, drawn_inputs(drawn, seed))
-    for group in (commit_calls, open_calls, honest_cases):
+    for group in (commit_calls, open_calls, prove_calls, honest_proofs, honest_cases):
         yield group.__name__, map(call_of, group())
 
 
@@ -290,7 +318,7 @@ class Run:
         print("numbers expected: %s; entries called %d times, %d with NULL" % (numbers, *calls))
         if not self.program:
             print("no checking program was given: it is not compared")
-        kinds = "check", "commit", "length", "open", "program"
+        kinds = "check", "commit", "length", "open", "prove", "proof", "program"
         counts = ", ".join("%d %s" % (self.counts[kind], kind) for kind in kinds)
         outcome = "%d DIFFERENT, first: %s" % (len(self.failed), self.failed[0]) if self.failed else "all equal"
         print("conformance: %s inputs in %.0f s: %s" % (counts, seconds, outcome), flush=True)

@@ -8,10 +8,11 @@ import smallwood as S
 from calls import CommitCall, LengthCall, OpenCall, off_by, with_word
 from cases import check_case
 from drafts import (
-    LAST_WORD, Draft, Source, ask, committed, drawn_question, honest, lend, name, outputs, product, reply_buffer,
-    simulated, vanishing,
+    LAST_WORD, Draft, ProofDraft, Source, add, ask, committed, drawn_question, honest, lend, name, outputs, product,
+    proof_buffer, proof_question, reply_buffer, simulated, vanishing,
 )  # fmt: skip
-from faults import BAD_MARKS, BAD_SIZES, spoil
+from faults import BAD_KAPPAS, BAD_MARKS, BAD_SIZES, spoil
+from proofs import ProveCall, proof_case
 from smallwood import Q, Reply
 
 BLOCK = 10000  # inputs for one seed
@@ -72,7 +73,8 @@ def root(src, d):
 
 
 def batching_word(src, d):
-    d.shift_batching(place(src, d.batchings), [0] * src.below(d.sizes.width) + [src.nonzero()])
+    k = place(src, d.batchings)
+    d.batchings[k] = add(d.batchings[k], [0] * src.below(d.sizes.width) + [src.nonzero()])
 
 
 def batching_at_one_leaf(src, d):
@@ -147,6 +149,28 @@ def node_too_many(src, d):
     d.nodes.insert(src.below(len(d.nodes) + 1), src.pick(d.nodes + [d.root]))
 
 
+def large_answer(src, d):
+    record = src.pick(d.batchings + d.answers)
+    record[place(src, record)] = src.pick((Q, Q + 1, LAST_WORD, Q - 1))
+
+
+def exchanged_answers(src, d):
+    sequence = src.pick((d.batchings, d.answers))
+    a, b = place(src, sequence), place(src, sequence)
+    sequence[a], sequence[b] = sequence[b], sequence[a]
+
+
+def right_at_one_leaf(src, d):
+    """An R or T that is right at one leaf, which may be drawn."""
+    shift = product(vanishing([src.below(d.sizes.leaves)]), [src.nonzero()])
+    if src.below(2):
+        answer = place(src, d.answers)
+        d.answers[answer] = add(d.answers[answer], [S.evaluate(shift, x) for x in S.grid_points(d.sizes)])
+    else:
+        batching = place(src, d.batchings)
+        d.batchings[batching] = add(d.batchings[batching], shift)
+
+
 # ---- Faults in the bytes ----------------------------------------------------------------------------
 
 
@@ -218,6 +242,14 @@ QUESTION_FAULTS = (
     challenge, point, exchanged, index, large_word, second_encoding, question_byte, question_length, mark, bad_size,
     header_byte,
 )  # fmt: skip
+
+
+# Those that a proof's draw sees, and those after it. Indices and challenges stand in no proof, and its root is hashed.
+ANSWER_FAULTS = (batching_word, answer_word, large_answer, exchanged_answers, right_at_one_leaf)
+
+LATE_FAULTS = (leaf_value, nonce, node, node_left_out, node_too_many)
+
+PROOF_FAULTS = ANSWER_FAULTS + LATE_FAULTS + BYTE_FAULTS
 
 
 def with_faults(src, d, faults):
@@ -299,6 +331,59 @@ class Pool:
         label = "drawn %d.%d: length, %s [%s]" % (self.seed, self.count, shown(faults), name(s))
         return LengthCall(label, question, *S.reply_length(question))
 
+    def proof_draft(self):
+        """A proof to be: of the small commitments mostly."""
+        src = self.src
+        c = self.commitments[src.pick((8, 9)) if src.below(12) == 0 else src.below(8)]
+        m = src.between(1, 8)
+        return ProofDraft(c, proof_question(src, c, m, src.edgy(m)))
+
+    def proof_case(self):
+        """One input of the check of a proof, with none, one or two faults."""
+        self.next()
+        src, d = self.src, self.proof_draft()
+        kappa = src.pick((0, 0, 1, 2, 3, src.between(0, 8)))
+        faults = [src.pick(PROOF_FAULTS) for _ in range(src.pick((0, 1, 1, 1, 2, 2)))]
+        for fault in faults:
+            if fault in ANSWER_FAULTS:
+                fault(src, d)
+        counter = src.pick((d.least(kappa), d.least(kappa), src.below(2**32)))
+        e = d.opened(counter)
+        for fault in faults:
+            if fault in LATE_FAULTS:
+                fault(src, e)
+        if src.below(12) == 0:
+            counter = src.pick((counter + 1, counter ^ 1 << src.below(32), src.below(2**32))) % 2**32
+        question, proof, size = d.question(), S.write_counter(counter) + e.reply(), 4 * d.sizes.w * d.sizes.m
+        for fault in faults:
+            if fault in BYTE_FAULTS:
+                question, proof, size = fault(src, question, proof, size)
+        if src.below(12) == 0:
+            kappa = src.pick(BAD_KAPPAS + (kappa + 1, kappa + 1, 16))
+        label = "drawn %d.%d: proof, %s" % (self.seed, self.count, shown(faults))
+        case = proof_case(label, question, kappa, proof, None, None, size)
+        return case._replace(label="%s [%s]" % (label, name(d.sizes)))
+
+    def prove_call(self):
+        """A call of the prover, with a fault in one of two."""
+        self.next()
+        src, d = self.src, self.proof_draft()
+        c, kappa, question = d.commitment, src.between(0, 9), d.question()
+        limit = src.pick((LAST_WORD, LAST_WORD, src.below(2**kappa + 2), d.least(kappa), d.least(kappa) + 1))
+        given = dict(c.lent._asdict(), table=c.table, tree=c.tree, buffer=proof_buffer(d.sizes))
+        label = "drawn %d.%d: prove" % (self.seed, self.count)
+        kind = src.below(6)
+        if kind == 0:
+            question = src.pick((changed_byte, changed_length))(src, question)
+            label += ", question"
+        elif kind == 1:
+            label += self.slice_fault(given)
+        elif kind == 2:
+            kappa = src.pick(BAD_KAPPAS)
+        found = S.prove(question, kappa, limit, *given.values())
+        label = "%s, kappa %d, limit %d [%s]" % (label, kappa, limit, name(d.sizes))
+        return ProveCall(label, question, kappa, limit, *given.values(), *found)
+
     def commit_call(self):
         """A call of the committer with drawn words, with a fault in one of three."""
         self.next()
@@ -352,9 +437,12 @@ class Pool:
 
 
 def drawn_inputs(count, seed=1):
-    """This many inputs, mostly of the check; of 50, one calls the committer, one the opener, four reply_length."""
+    """This many inputs, mostly of the checks: of 50, fifteen are proofs, one calls the committer, one the opener, one
+    the prover, four reply_length."""
     pool = None
-    others = {49: Pool.commit_call, 24: Pool.open_call, **dict.fromkeys((9, 19, 29, 39), Pool.length_call)}
+    others = {n: Pool.proof_case for n in range(0, 48, 3)}
+    others.update({49: Pool.commit_call, 24: Pool.open_call, 34: Pool.prove_call})
+    others.update(dict.fromkeys((10, 19, 29, 40), Pool.length_call))
     for n in range(count):
         if n % BLOCK == 0:
             pool = Pool(seed + n // BLOCK)

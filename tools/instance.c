@@ -79,6 +79,8 @@ void set_points(struct instance *a, uint32_t m)
     s->m = m;
     a->question_bytes = 14 + 32 + 4 * (s->eta + m) + 2 * s->l;
     a->value_bytes = 4 * (size_t)s->w * m;
+    a->proof_question_bytes = 14 + 32 + 4 * m;
+    a->proof_bytes = 4 + reply_with(s, (size_t)s->l * s->h);
 }
 
 struct instance *make_instance(struct sizes s)
@@ -105,6 +107,8 @@ struct instance *make_instance(struct sizes s)
     a->question = allocate(a->question_bytes);
     a->reply = allocate(reply_with(&a->s, (size_t)s.l * s.h)); /* no reply has more nodes */
     a->values = allocate(a->value_bytes);
+    a->proof_question = allocate(a->proof_question_bytes);
+    a->proof = allocate(a->proof_bytes);
     set_points(a, s.m);
     return a;
 }
@@ -120,6 +124,8 @@ void free_instance(struct instance *a)
     free(a->question);
     free(a->reply);
     free(a->values);
+    free(a->proof_question);
+    free(a->proof);
     free(a);
 }
 
@@ -154,6 +160,8 @@ void ask(struct instance *a)
             a->indices[taken++] = i;
             to = put(to, i, 2);
         }
+    memcpy(a->proof_question, a->question, 14 + 32);
+    memcpy(a->proof_question + 14 + 32, a->question + 14 + 32 + 4 * s->eta, 4 * s->m);
     /* Of the 2 n children of the n nodes above the opened leaves, l are these leaves and n - 1 such nodes;
      * the others are missing. */
     a->reply_bytes = reply_with(s, nodes_above(a) + 1 - s->l);
@@ -186,4 +194,18 @@ uint32_t check_with(const struct implementation *with, struct instance *a)
 {
     return with->check(a->question, a->question_bytes, a->reply, a->length, a->values,
                        a->value_bytes);
+}
+
+uint32_t prove_with(const struct implementation *with, struct instance *a, uint32_t kappa, uint32_t limit)
+{
+    return with->prove(a->proof_question, a->proof_question_bytes, kappa, limit, a->coefficients,
+                       a->coefficient_count, a->tails, a->tail_count, a->masks, a->mask_count, a->table,
+                       a->table_count, a->nonces, a->nonce_bytes, a->tree, a->tree_bytes, a->proof,
+                       a->proof_bytes, &a->proof_length);
+}
+
+uint32_t check_proof_with(const struct implementation *with, struct instance *a, uint32_t kappa)
+{
+    return with->check_proof(a->proof_question, a->proof_question_bytes, kappa, a->proof, a->proof_length,
+                             a->values, a->value_bytes);
 }

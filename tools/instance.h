@@ -20,6 +20,9 @@ struct instance {
     uint32_t *coefficients, *tails, *masks, *table;
     uint8_t *nonces, *tree, *question, *reply, *values;
     uint64_t length; /* of the reply, as an entry wrote it */
+    size_t proof_question_bytes, proof_bytes; /* the latter of the buffer */
+    uint8_t *proof_question, *proof;
+    uint64_t proof_length; /* as an entry wrote it */
     uint32_t points[MAX_POINTS], indices[64];
 };
 
@@ -34,10 +37,15 @@ struct implementation {
                      const uint32_t *, size_t, const uint32_t *, size_t, const uint8_t *, size_t,
                      const uint8_t *, size_t, uint8_t *, size_t, uint64_t *);
     uint32_t (*check)(const uint8_t *, size_t, const uint8_t *, size_t, uint8_t *, size_t);
+    uint32_t (*prove)(const uint8_t *, size_t, uint32_t, uint32_t, const uint32_t *, size_t, const uint32_t *, size_t,
+                      const uint32_t *, size_t, const uint32_t *, size_t, const uint8_t *, size_t, const uint8_t *,
+                      size_t, uint8_t *, size_t, uint64_t *);
+    uint32_t (*check_proof)(const uint8_t *, size_t, uint32_t, const uint8_t *, size_t, uint8_t *, size_t);
 };
 
-#define IMPLEMENTATION(prefix) \
-    {#prefix, prefix##_commit, prefix##_reply_length, prefix##_open, prefix##_check}
+#define IMPLEMENTATION(prefix)                                                                     \
+    {#prefix,       prefix##_commit, prefix##_reply_length, prefix##_open, prefix##_check,        \
+     prefix##_prove, prefix##_check_proof}
 
 /* Ends the program with a message. */
 void fail(const char *message) __attribute__((noreturn));
@@ -56,7 +64,7 @@ void free_instance(struct instance *a);
 /* Another number of points. */
 void set_points(struct instance *a, uint32_t m);
 
-/* Draws a question to the commitment that the tree has. */
+/* Draws a question to the commitment that the tree has, and a proof's question with the same points. */
 void ask(struct instance *a);
 
 /* How many nodes are above the drawn question's leaves, the root too. */
@@ -69,6 +77,8 @@ uint32_t commit_with(const struct implementation *with, struct instance *a);
 uint32_t reply_length_with(const struct implementation *with, struct instance *a);
 uint32_t open_with(const struct implementation *with, struct instance *a);
 uint32_t check_with(const struct implementation *with, struct instance *a);
+uint32_t prove_with(const struct implementation *with, struct instance *a, uint32_t kappa, uint32_t limit);
+uint32_t check_proof_with(const struct implementation *with, struct instance *a, uint32_t kappa);
 
 /* A number as little-endian bytes; returns what follows. */
 uint8_t *put(uint8_t *to, uint32_t number, int bytes);

@@ -1,11 +1,14 @@
 /* Verdicts without a restart:  soak FILE [SECONDS]     (12 hours unless told otherwise)
  *
- * FILE has inputs of the check with their expected outcomes (soak_inputs.py). They are checked in drawn
- * order. In between, questions are drawn for commitments made at the start: the reply's length must be the
- * counted one, the opener's reply must be accepted with the polynomials' values, and the same reply with one
- * bit changed must be refused with the number that the bit's place tells. Every number and every byte of the
- * value buffer is compared. From the end of a first pass over all inputs on, the resident memory must not
- * grow. Exit status 1 after a difference or growth. */
+ * FILE has inputs of the check and of the check of a proof with their expected outcomes (soak_inputs.py). They
+ * are checked in drawn order. In between, questions are drawn for commitments made at the start: the reply's
+ * length must be the counted one, the opener's reply must be accepted with the polynomials' values, and the
+ * same reply with one bit changed must be refused with the number that the bit's place tells. Then a proof is
+ * made for the same points: it must be accepted with the same values, as it is and as a reply in the
+ * conversation, with one bit changed behind its answers it must be refused, and with its counter for a limit
+ * the prover must find none. Every number and every byte of the value buffer is compared. From the end of a
+ * first pass over all inputs on, the resident memory must not grow. Exit status 1 after a difference or
+ * growth. */
 #define _POSIX_C_SOURCE 200809L
 #include <inttypes.h>
 #include <stdio.h>
@@ -14,6 +17,7 @@
 #include <time.h>
 
 #include "instance.h"
+#include "plain/converse.h"
 
 ENTRIES(smallwood);
 
@@ -22,6 +26,10 @@ ENTRIES(smallwood);
 #define GUARD_BYTE 0xa5
 #define ALLOWED_GROWTH 256 /* kB of resident memory: what the C library and the kernel may need */
 #define FRESH_EVERY 64     /* inputs from the file to one drawn question */
+#define NUMBERS 13         /* that a call may return, from 0 on */
+#define MOST_KAPPA 8       /* of a drawn proof */
+#define COUNTER_BYTES 4
+#define MAX_QUESTION 222
 
 static void differ(const char *what, size_t number, uint32_t found, uint32_t expected)
 {
@@ -34,10 +42,18 @@ static void differ(const char *what, size_t number, uint32_t found, uint32_t exp
 
 static uint8_t *values; /* between guard bytes */
 static size_t values_room;
-static uint64_t verdicts, by_number[11];
+static uint64_t verdicts, by_number[NUMBERS];
 
-static uint32_t check(const uint8_t *question, size_t question_bytes, const uint8_t *reply,
-                      size_t reply_bytes, const uint8_t *before, size_t value_bytes)
+/* What is checked: a reply, or a proof under its kappa. */
+struct checked {
+    uint32_t is_proof, kappa;
+    const uint8_t *question;
+    size_t question_bytes;
+    const uint8_t *bytes;
+    size_t count;
+};
+
+static uint32_t check(const struct checked *c, const uint8_t *before, size_t value_bytes)
 {
     uint32_t number;
 
@@ -47,14 +63,17 @@ static uint32_t check(const uint8_t *question, size_t question_bytes, const uint
         memcpy(values, before, value_bytes);
     memset(values - GUARD, GUARD_BYTE, GUARD);
     memset(values + value_bytes, GUARD_BYTE, GUARD);
-    number = smallwood_check(question, question_bytes, reply, reply_bytes, values, value_bytes);
+    number = c->is_proof ? smallwood_check_proof(c->question, c->question_bytes, c->kappa, c->bytes,
+                                                 c->count, values, value_bytes)
+                         : smallwood_check(c->question, c->question_bytes, c->bytes, c->count,
+                                           values, value_bytes);
     for (size_t i = 0; i < GUARD; i++)
         if (values[-1 - (ptrdiff_t)i] != GUARD_BYTE || values[value_bytes + i] != GUARD_BYTE) {
             puts("soak: DIFFERENT: bytes beside the value buffer changed");
             exit(1);
         }
     verdicts++;
-    by_number[number < 11 ? number : 10]++;
+    by_number[number < NUMBERS ? number : NUMBERS - 1]++;
     return number;
 }
 
@@ -69,8 +88,9 @@ static void expect_values(const char *what, size_t number, const uint8_t *expect
 /* ---- Inputs from the file ------------------------------------------------------------------------ */
 
 struct input {
-    uint32_t question_bytes, reply_bytes, value_bytes, number;
-    const uint8_t *question, *reply, *before, *after;
+    struct checked checked;
+    uint32_t value_bytes, number;
+    const uint8_t *before, *after;
 };
 
 static struct input *inputs;
@@ -114,9 +134,17 @@ static void load_inputs(const char *path)
     inputs = allocate(input_count * sizeof *inputs);
     for (uint32_t i = 0; i < input_count; i++) {
         struct input *input = &inputs[i];
-        memcpy(input, take(&at, end, 16), 16);
-        input->question = take(&at, end, input->question_bytes);
-        input->reply = take(&at, end, input->reply_bytes);
+        struct checked *c = &input->checked;
+        uint32_t head[6];
+        memcpy(head, take(&at, end, sizeof head), sizeof head);
+        c->is_proof = head[0];
+        c->kappa = head[1];
+        c->question_bytes = head[2];
+        c->count = head[3];
+        input->value_bytes = head[4];
+        input->number = head[5];
+        c->question = take(&at, end, c->question_bytes);
+        c->bytes = take(&at, end, c->count);
         input->before = take(&at, end, input->value_bytes);
         input->after = take(&at, end, input->value_bytes);
         if (input->value_bytes > values_room)
@@ -127,8 +155,7 @@ static void load_inputs(const char *path)
 static void check_input(uint32_t i)
 {
     const struct input *input = &inputs[i];
-    uint32_t number = check(input->question, input->question_bytes, input->reply,
-                            input->reply_bytes, input->before, input->value_bytes);
+    uint32_t number = check(&input->checked, input->before, input->value_bytes);
 
     if (number != input->number)
         differ("input", i, number, input->number);
@@ -149,7 +176,7 @@ static const struct sizes sizes[] = {
 
 static struct instance *commitments[COMMITMENTS];
 static uint8_t *expected;
-static uint64_t opened;
+static uint64_t opened, proved;
 
 static void make_commitments(void)
 {
@@ -187,7 +214,7 @@ static void expect_polynomials(const struct instance *a)
 }
 
 /* What the check has to return when the byte at this place of an honest reply has been changed. */
-static uint32_t number_of_damage(const struct instance *a, size_t at)
+static uint32_t number_of_damage(const struct instance *a, const uint8_t *reply, size_t at)
 {
     const struct sizes *s = &a->s;
     size_t batchings = 4 * width_of(s) * s->eta, records = batchings + 4 * width_of(s) * s->m;
@@ -198,7 +225,7 @@ static uint32_t number_of_damage(const struct instance *a, size_t at)
         return 8; /* a node */
     if (at >= records && (at - records) % record >= record - 32)
         return 8; /* a nonce */
-    memcpy(&word, a->reply + at - at % 4, 4); /* all records have whole words */
+    memcpy(&word, reply + at - at % 4, 4); /* all records have whole words */
     return word >= Q ? 3 : at < batchings ? 9 : at < records ? 10 : 8;
 }
 
@@ -213,7 +240,63 @@ static void expect_length(const char *what, size_t which, const struct instance 
 
 static uint32_t check_instance(const struct instance *a, const uint8_t *before, size_t value_bytes)
 {
-    return check(a->question, a->question_bytes, a->reply, a->length, before, value_bytes);
+    struct checked c = {0, 0, a->question, a->question_bytes, a->reply, a->length};
+
+    return check(&c, before, value_bytes);
+}
+
+/* Accepted with the polynomials' values. */
+static void expect_accepted(const char *what, size_t which, const struct checked *c, const struct instance *a)
+{
+    uint32_t number = check(c, a->nonces, a->value_bytes);
+
+    if (number != 0)
+        differ(what, which, number, 0);
+    expect_values(what, which, expected, a->value_bytes);
+}
+
+/* With its own counter for a limit the prover has none, and leaves buffer and length. */
+static void expect_none_below(struct instance *a, uint32_t kappa, uint32_t counter, size_t which)
+{
+    uint64_t length = a->proof_length;
+    uint8_t *kept = allocate(a->proof_bytes);
+    uint32_t number;
+
+    memcpy(kept, a->proof, a->proof_bytes);
+    number = prove_with(&library, a, kappa, counter);
+    if (number != 11 || a->proof_length != length || memcmp(kept, a->proof, a->proof_bytes) != 0)
+        differ("no counter, commitment", which, number, 11);
+    free(kept);
+}
+
+/* A proof for the points of the drawn question. */
+static void check_fresh_proof(size_t which)
+{
+    struct instance *a = commitments[which];
+    uint32_t kappa = draw_below(MOST_KAPPA + 1), counter, number = prove_with(&library, a, kappa, ~0u);
+    uint8_t drawn[MAX_QUESTION];
+    size_t answers = 4 * width_of(&a->s) * (a->s.eta + a->s.m);
+    struct checked c = {1, kappa, a->proof_question, a->proof_question_bytes, a->proof, a->proof_length};
+    struct checked reply = {0, 0, drawn, 0, a->proof + COUNTER_BYTES, a->proof_length - COUNTER_BYTES};
+
+    proved++;
+    if (number != 0)
+        differ("proof of commitment", which, number, 0);
+    expect_accepted("proof, commitment", which, &c, a);
+    reply.question_bytes = question_of_proof(c.question, c.question_bytes, a->proof, drawn);
+    expect_accepted("proof as a reply, commitment", which, &reply, a);
+    memcpy(&counter, a->proof, COUNTER_BYTES);
+    expect_none_below(a, kappa, counter, which);
+    for (int i = 0; i < 4; i++) {
+        size_t at = answers + draw_below((uint32_t)(reply.count - answers));
+        uint8_t bit = (uint8_t)(1u << draw_below(8));
+        a->proof[COUNTER_BYTES + at] ^= bit;
+        number = check(&c, expected, a->value_bytes);
+        if (number != number_of_damage(a, reply.bytes, at))
+            differ("changed bit of a proof, commitment", which, number, number_of_damage(a, reply.bytes, at));
+        expect_values("changed bit of a proof, commitment", which, expected, a->value_bytes);
+        a->proof[COUNTER_BYTES + at] ^= bit;
+    }
 }
 
 /* A drawn question: the honest reply, then the reply with one bit changed. */
@@ -248,11 +331,12 @@ static void check_fresh(size_t which)
         uint8_t bit = (uint8_t)(1u << draw_below(8));
         a->reply[at] ^= bit;
         number = check_instance(a, expected, a->value_bytes);
-        if (number != number_of_damage(a, at))
-            differ("changed bit, commitment", which, number, number_of_damage(a, at));
+        if (number != number_of_damage(a, a->reply, at))
+            differ("changed bit, commitment", which, number, number_of_damage(a, a->reply, at));
         expect_values("changed bit, commitment", which, expected, a->value_bytes);
         a->reply[at] ^= bit;
     }
+    check_fresh_proof(which);
 }
 
 /* ---- Time and memory ----------------------------------------------------------------------------- */
@@ -285,9 +369,9 @@ static long resident(void)
 
 static void progress(double seconds, long size)
 {
-    printf("%8.0f s  %" PRIu64 " verdicts (%.0f a second), %" PRIu64 " openings, VmRSS %ld kB;",
-           seconds, verdicts, (double)verdicts / seconds, opened, size);
-    for (int i = 0; i < 11; i++)
+    printf("%8.0f s  %" PRIu64 " verdicts (%.0f a second), %" PRIu64 " openings, %" PRIu64 " proofs, VmRSS %ld kB;",
+           seconds, verdicts, (double)verdicts / seconds, opened, proved, size);
+    for (int i = 0; i < NUMBERS; i++)
         printf(" %d:%" PRIu64, i, by_number[i]);
     puts("");
     fflush(stdout);

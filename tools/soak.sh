@@ -16,8 +16,10 @@ read_options "$@"
 need_compiler
 need_python
 find_archive smallwood
+object keccak.o plain/keccak.c
+object converse.o plain/converse.c
 # shellcheck disable=SC2086
-"$CC" $CFLAGS "$tools/soak.c" "$tools/instance.c" "$archive" -o "$build/soak"
+"$CC" $CFLAGS "$tools/soak.c" "$tools/instance.c" "$build/converse.o" "$build/keccak.o" "$archive" -o "$build/soak"
 python3 "$tools/soak_inputs.py" "$build/soak.inputs"
 # shellcheck disable=SC2086
 exec "$build/soak" "$build/soak.inputs" $words

@@ -130,6 +130,19 @@ static inline void store_values(const struct question *q, const struct reply *r,
     }
 }
 
+/* The tests of a reply of its length that are left after its elements, and the values. */
+static inline uint32_t verify(const struct question *q, const struct reply *r, uint8_t *values)
+{
+    if (!root_holds(q, r))
+        return 8;
+    if (!batchings_hold(q, r))
+        return 9;
+    if (!answers_hold(q, r))
+        return 10;
+    store_values(q, r, values);
+    return 0;
+}
+
 uint32_t PLAIN(check)(const uint8_t *question, size_t question_bytes, const uint8_t *reply,
                       size_t reply_bytes, uint8_t *values, size_t value_bytes)
 {
@@ -145,14 +158,7 @@ uint32_t PLAIN(check)(const uint8_t *question, size_t question_bytes, const uint
         return 7;
     if (!read_reply(&q.sizes, reply, &r))
         return 3;
-    if (!root_holds(&q, &r))
-        return 8;
-    if (!batchings_hold(&q, &r))
-        return 9;
-    if (!answers_hold(&q, &r))
-        return 10;
-    store_values(&q, &r, values);
-    return 0;
+    return verify(&q, &r, values);
 }
 
 #endif

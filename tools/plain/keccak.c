@@ -133,6 +133,66 @@ void keccak_digest(const uint8_t *string, size_t length, uint8_t digest[DIGEST_B
     memcpy(digest, state, DIGEST_BYTES);
 }
 
+/* Absorbs the blocks that are whole; returns the bytes after them. */
+static const uint8_t *absorb_blocks(uint64_t state[LANES], const uint8_t *string, size_t length)
+{
+    for (; length >= RATE_BYTES; string += RATE_BYTES, length -= RATE_BYTES) {
+        for (size_t i = 0; i < RATE_LANES; i++)
+            state[i] ^= load64(string + 8 * i);
+        permute(state);
+    }
+    return string;
+}
+
+#define COUNTER_BYTES 4
+
+/* The ending is what the whole blocks leave of the string, the counter and the padding: one block, or two. */
+void keccak_begin(struct counted *s, const uint8_t *string, size_t length)
+{
+    uint8_t ending[2 * RATE_BYTES] = {0};
+    size_t rest = length % RATE_BYTES, end = rest + COUNTER_BYTES;
+
+    memset(s->first, 0, sizeof s->first);
+    memcpy(ending, absorb_blocks(s->first, string, length), rest);
+    s->two = end >= RATE_BYTES;
+    ending[end] ^= 0x1f;
+    ending[(s->two ? 2 : 1) * RATE_BYTES - 1] ^= 0x80;
+    for (size_t i = 0; i < RATE_LANES; i++)
+        s->first[i] ^= load64(ending + 8 * i);
+    for (size_t i = 0; i < RATE_LANES; i++)
+        s->second[i] = load64(ending + RATE_BYTES + 8 * i);
+    s->lane = rest / 8;
+    s->shift = 8 * (unsigned)(rest % 8);
+}
+
+/* What of a counter stands in the next lane. */
+static inline uint64_t carried(const struct counted *s, uint32_t counter)
+{
+    return s->shift > 32 ? (uint64_t)counter >> (64 - s->shift) : 0;
+}
+
+void keccak_count(const struct counted *s, uint32_t counter, uint8_t *out, size_t bytes)
+{
+    uint64_t state[LANES];
+
+    memcpy(state, s->first, sizeof state);
+    state[s->lane] ^= (uint64_t)counter << s->shift;
+    if (s->two) {
+        permute(state);
+        for (size_t i = 0; i < RATE_LANES; i++)
+            state[i] ^= s->second[i];
+        state[0] ^= carried(s, counter);
+    } else {
+        state[s->lane + 1] ^= carried(s, counter);
+    }
+    permute(state);
+    for (; bytes > RATE_BYTES; out += RATE_BYTES, bytes -= RATE_BYTES) {
+        memcpy(out, state, RATE_BYTES);
+        permute(state);
+    }
+    memcpy(out, state, bytes);
+}
+
 /* Both lanes at once, for stores of the size in which the permutation loads. */
 static inline void absorb_pair(lane_pair lanes, uint64_t first, uint64_t second)
 {
@@ -159,4 +219,25 @@ void keccak_digests(const uint8_t *first, const uint8_t *second, size_t length, 
         memcpy(first_digest + 8 * i, &state[i][0], 8);
         memcpy(second_digest + 8 * i, &state[i][1], 8);
     }
+}
+
+void keccak_count_pair(const struct counted *s, uint32_t counter, uint64_t first[2])
+{
+    lane_pair state[LANES];
+    uint32_t next = counter + 1;
+
+    for (size_t i = 0; i < LANES; i++)
+        state[i][0] = state[i][1] = s->first[i];
+    absorb_pair(state[s->lane], (uint64_t)counter << s->shift, (uint64_t)next << s->shift);
+    if (s->two) {
+        permute_pair(state);
+        for (size_t i = 0; i < RATE_LANES; i++)
+            absorb_pair(state[i], s->second[i], s->second[i]);
+        absorb_pair(state[0], carried(s, counter), carried(s, next));
+    } else {
+        absorb_pair(state[s->lane + 1], carried(s, counter), carried(s, next));
+    }
+    permute_pair(state);
+    first[0] = state[0][0];
+    first[1] = state[0][1];
 }

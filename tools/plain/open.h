@@ -81,6 +81,18 @@ static inline uint8_t *store_records(const struct question *q, const uint32_t *t
     return to;
 }
 
+/* All batching and evaluation answers. */
+static inline uint8_t *store_all_answers(const struct question *q, const uint32_t *coefficients,
+                                         const uint32_t *tails, const uint32_t *masks, uint8_t *to)
+{
+    uint32_t factors[MAX_COMBINATIONS][MAX_ROWS], combined[MAX_WIDTH][MAX_COMBINATIONS];
+
+    fill_factors(q, factors);
+    combine(&q->sizes, factors, coefficients, tails, combined);
+    to = store_batchings(&q->sizes, combined, masks, to);
+    return store_answers(&q->sizes, combined, to);
+}
+
 uint32_t PLAIN(open)(const uint8_t *question, size_t question_bytes, const uint32_t *coefficients,
                      size_t coefficient_count, const uint32_t *tails, size_t tail_count,
                      const uint32_t *masks, size_t mask_count, const uint32_t *table,
@@ -90,7 +102,6 @@ uint32_t PLAIN(open)(const uint8_t *question, size_t question_bytes, const uint3
 {
     struct question q;
     const struct sizes *s = &q.sizes;
-    uint32_t factors[MAX_COMBINATIONS][MAX_ROWS], combined[MAX_WIDTH][MAX_COMBINATIONS];
     uint8_t *to = reply;
     uint32_t number = read_question(question, question_bytes, &q);
 
@@ -105,10 +116,7 @@ uint32_t PLAIN(open)(const uint8_t *question, size_t question_bytes, const uint3
         return 3;
     if (memcmp(q.root, tree + tree_bytes - DIGEST_BYTES, DIGEST_BYTES) != 0)
         return 8;
-    fill_factors(&q, factors);
-    combine(s, factors, coefficients, tails, combined);
-    to = store_batchings(s, combined, masks, to);
-    to = store_answers(s, combined, to);
+    to = store_all_answers(&q, coefficients, tails, masks, to);
     to = store_records(&q, table, nonces, to);
     to = copy_missing(s->h, &q.opened, tree, to);
     *length = (uint64_t)(to - reply);

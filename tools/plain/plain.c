@@ -6,6 +6,7 @@
 #include "check.h"
 #include "commit.h"
 #include "open.h"
+#include "proof.h"
 #include "question.h"
 
 uint32_t PLAIN(reply_length)(const uint8_t *question, size_t question_bytes, uint64_t *length)

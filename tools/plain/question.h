@@ -59,6 +59,30 @@ static inline uint32_t read_question(const uint8_t *bytes, size_t length, struct
     return 0;
 }
 
+/* The most zero bits that a leaf draw may have to begin with. */
+#define MAX_KAPPA 16
+
+/* A proof's question; challenges and indices are left to the draws. */
+static inline uint32_t read_proof_question(const uint8_t *bytes, size_t length, uint32_t kappa,
+                                           struct question *q)
+{
+    struct sizes *s = &q->sizes;
+    uint32_t number;
+
+    if (length < HEADER_BYTES)
+        return 6;
+    number = read_header(bytes, s);
+    if (number != 0)
+        return number;
+    if (kappa > MAX_KAPPA)
+        return 1;
+    if (length != HEADER_BYTES + DIGEST_BYTES + 4 * s->m)
+        return 6;
+    q->root = bytes + HEADER_BYTES;
+    load_words(q->points, q->root + DIGEST_BYTES, s->m);
+    return are_elements(q->points, s->m) ? 0 : 3;
+}
+
 /* The length of the reply to a question. */
 static inline size_t exact_size(const struct question *q)
 {

@@ -47,9 +47,15 @@ static inline size_t record_size(const struct sizes *s)
     return 4 * (size_t)s->record + NONCE_BYTES;
 }
 
+/* Of all batching and evaluation answers. */
+static inline size_t answers_size(const struct sizes *s)
+{
+    return 4 * (size_t)s->width * (s->eta + s->m);
+}
+
 static inline size_t reply_size(const struct sizes *s, size_t nodes)
 {
-    return 4 * (size_t)s->width * (s->eta + s->m) + record_size(s) * s->l + DIGEST_BYTES * nodes;
+    return answers_size(s) + record_size(s) * s->l + DIGEST_BYTES * nodes;
 }
 
 /* Of what committing is lent, and opening after it. */
