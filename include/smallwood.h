@@ -1,8 +1,9 @@
 /*
  * SmallWood: a polynomial commitment over the field of q = 4294967291 elements.
  *
- * Four entries: commit, reply_length, open, check. Each is proved to return the number and to leave the contents that the definitions
- * give, for every input that keeps the rules below. Link with libsmallwood.a (x86-64, ELF, System V calls); it needs memcpy and memset.
+ * Six entries: commit, reply_length, open, check; and without a conversation prove, check_proof. Each is proved to return the number and
+ * to leave the contents that the definitions give, for every input that keeps the rules below. Link with libsmallwood.a (x86-64, ELF,
+ * System V calls); it needs memcpy and memset.
  *
  * Rules for a caller
  *
@@ -12,12 +13,13 @@
  *   Threads     No entry keeps anything between calls: no globals, no heap, no files. Any number of threads may call at once on slices
  *               of their own; slices that are only read may be shared.
  *   Stack       A commit takes about 18 kilobytes, an open 7, a check 52 (measured). It is not wiped: see below.
- *   Numbers     Words are in the machine's order. Multi-byte numbers in questions, replies and the check's values are little-endian.
+ *               A prove and a check_proof hold the string that draws the leaves: at most 17 kilobytes more than an open and a check.
+ *   Numbers     Words are in the machine's order. Multi-byte numbers in questions, replies, proofs and checked values are little-endian.
  *
  * What a reply shows
  *
- *   One commitment answers one question, and the library keeps no state: the caller sees to it. Each commitment has tails, masks and
- *   nonces of its own, drawn uniformly.
+ *   One commitment answers one question, by a reply or by a proof, and the library keeps no state: the caller sees to it. Each
+ *   commitment has tails, masks and nonces of its own, drawn uniformly. A proof shows what the reply in it shows.
  *
  *   Columns     For each point the reply has the value of every column: one linear equation on that column's mu coefficients. mu
  *               different points, over all questions, give every coefficient. With mu = 1 one reply shows them all.
@@ -27,8 +29,8 @@
  * What stays in memory
  *
  *   From the dead stack after a commit every mask and some whole rows can be computed, and after an open, at some sizes, a mask
- *   (measured). Overwrite 32 kilobytes of stack after either call, or call on a stack of your own and wipe that. Coefficients, tails,
- *   masks, nonces and the table are the caller's to wipe.
+ *   (measured). Overwrite 32 kilobytes of stack after either call, or call on a stack of your own and wipe that. A prove makes its answers
+ *   as an open does: do the same after it. Coefficients, tails, masks, nonces and the table are the caller's to wipe.
  *
  * What an accepted reply shows
  *
@@ -36,21 +38,31 @@
  *   challenges are drawn after the root is known, and indices only after all answers are. The answers, the first
  *   4 (w nu + l) (eta + m) bytes of a reply, do not depend on the indices: ask for them first, and compare them with the reply's.
  *
+ * What an accepted proof shows
+ *
+ *   That its counter qualifies, and that its reply fits the question so drawn. Who proves draws for himself, and may try as many draws as
+ *   he can hash: sizes and kappa have to stand against that work. Nothing binds a proof to a place, a time or a reader but the points:
+ *   whoever checks draws them himself and afresh, when he already has the root from someone that he trusts, and takes one proof for them.
+ *   With points that were known before, or that came with the proof, an old proof or a copied one is accepted as well as a new one. See
+ *   the handbook, "Proofs without a conversation".
+ *
  * What a call returns
  *
  *   0 where none of the tests below holds, and then the slices are filled. Otherwise the number of the first test that holds, and then
  *   every slice, and *length, is as it was: all tests come before the first write.
  *
- *    1   a size is outside its range, or w nu + l > N
+ *    1   a size is outside its range, or w nu + l > N, or kappa is above 16
  *    2   a lent slice is of wrong length
  *    3   an element is not below q
  *    4   the indices do not rise strictly, or one of them is not below N
  *    5   the mark or the version is wrong
  *    6   the question is under 14 bytes, or not of the length that its header gives
- *    7   the reply is not of its length
+ *    7   the reply is not of its length, or the proof not of its
  *    8   the root differs
  *    9   a batching answer fails at an opened leaf
  *   10   an evaluation answer fails at an opened leaf
+ *   11   no counter below the limit qualifies
+ *   12   the proof's counter does not qualify
  *
  * Sizes
  *
@@ -61,6 +73,7 @@
  *    l     opened leaves                             1 to 64, and w nu + l at most N
  *    eta   batching repetitions                      1 to 4
  *    m     evaluation points of a question           1 to 8
+ *    kappa zero bits that a proof's draw begins with 0 to 16
  *
  *   Below, width is w nu + l: the number of coefficients of a row's polynomial.
  *
@@ -74,6 +87,15 @@
  *   eta batching answers of width words each; for each point w nu column values and l tail values; for each index mu row values, eta mask
  *   values and a nonce of 32 bytes; then the missing nodes of the tree, 32 bytes each. Words take 4 bytes.
  *   Its length is 4 width (eta + m) + l (4 (mu + eta) + 32) + 32 for each missing node, of which there are at most l h.
+ *
+ * A question of a proof
+ *
+ *   The header, as above; the root (32 bytes); m points (4 bytes each, below q): 46 + 4 m bytes. Challenges and indices are drawn by
+ *   hashing (the handbook has the strings). kappa stands in no bytes: whoever checks says how many zero bits he wants.
+ *
+ * A proof
+ *
+ *   The counter (4 bytes), then the reply to the question so drawn: 4 bytes longer than a reply.
  */
 #ifndef SMALLWOOD_H
 #define SMALLWOOD_H
@@ -154,6 +176,57 @@ uint32_t smallwood_open(const uint8_t *question, size_t question_length,
 uint32_t smallwood_check(const uint8_t *question, size_t question_length,
                          const uint8_t *reply, size_t reply_length,
                          uint8_t *values, size_t values_length);
+
+/*
+ * Proves without a conversation: draws the challenges, searches the least counter that qualifies, and writes it and the reply to the
+ * question so drawn, from what was lent to smallwood_commit and what it left in table and tree. These are lent as to smallwood_open.
+ *
+ *   Reads
+ *     question       header, root, points                       46 + 4 m
+ *     kappa          how many zero bits the draw must begin with
+ *     limit          the counters 0, 1, .., limit - 1 are tried; 0 tries none, 4294967295 is allowed
+ *   Fills
+ *     proof          the proof, at the front; bytes after it stay as they were
+ *                                                               4 + 4 width (eta + m) + l (4 (mu + eta) + 32) + 32 l h, and no other
+ *     length         the proof's length in bytes
+ *
+ * Returns 0, or the first of: 6, for under 14 bytes; 5; 1, for the sizes or kappa; 6, for another length than the header's; 3, in the
+ * points; 2, for any of the seven other slices; 3, in any lent words, the table too; 8, where the tree's last 32 bytes are not the
+ * question's root; 11. With a refusal neither the buffer nor *length is changed.
+ *
+ * About one counter in 2^kappa qualifies. With a limit of 64 * 2^kappa an 11 has a probability of about e^-64. After an 11 nothing has
+ * been shown, and the same call with a greater limit may follow: the proof is the same for every limit above its counter.
+ * The time is that of an open, and one or two permutations of Keccak for each counter tried. It depends on the answers that the proof
+ * shows, through the number of counters tried, which is the counter in it and 1.
+ */
+uint32_t smallwood_prove(const uint8_t *question, size_t question_length,
+                         uint32_t kappa, uint32_t limit,
+                         const uint32_t *coefficients, size_t coefficients_length,
+                         const uint32_t *tails, size_t tails_length,
+                         const uint32_t *masks, size_t masks_length,
+                         const uint32_t *table, size_t table_length,
+                         const uint8_t *nonces, size_t nonces_length,
+                         const uint8_t *tree, size_t tree_length,
+                         uint8_t *proof, size_t proof_length,
+                         uint64_t *length);
+
+/*
+ * Checks a proof for a question, and on 0 hands out the polynomials' values. Any counter that qualifies is taken, the least or not.
+ *
+ *   Reads
+ *     question       header, root, points                       46 + 4 m
+ *     kappa          how many zero bits the draw must begin with
+ *     proof          the proof and nothing after it: of the prover's buffer the first *length bytes
+ *   Fills
+ *     values         as smallwood_check fills them              4 w m
+ *
+ * Returns 0, or the first of: 6, 5, 1, 6, 3 for question and kappa, as smallwood_prove; 2, where values has not 4 w m bytes; 7, for under
+ * 4 + 4 width (eta + m) bytes; then leaves are drawn, and 7, for another length than the drawn leaves give; 3, in the reply; 12; 8; 9; 10.
+ */
+uint32_t smallwood_check_proof(const uint8_t *question, size_t question_length,
+                               uint32_t kappa,
+                               const uint8_t *proof, size_t proof_length,
+                               uint8_t *values, size_t values_length);
 
 #ifdef __cplusplus
 }
