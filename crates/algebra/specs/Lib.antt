@@ -34,3 +34,6 @@ pub mod Sums
 -- values of several polynomials, polynomials through rows, polynomials stacked
 pub mod Values
 pub mod Stacked
+-- lists lowered by others, and a sum in which that cancels
+pub mod Lowered
+pub mod Telescope

@@ -1,13 +1,13 @@
 -- Rows behind batched answers and evaluation answers: the algebra of the three layers.
 use mathlib.Core.Path.{_≡_, refl, sym, _∙_, ap, ap₂}
 use mathlib.Core.List.{List, [], _∷_, _++_, map}
-use Prim.Native.Nat.{ℕ, zero, suc, _+_, _≤_, _<_}
-use native.Mathlib.Nat.{suc-inj, suc-ne-zero, not-suc-le-zero, add-suc, suc-add, add-zero}
+use Prim.Native.Nat.{ℕ, zero, suc, _+_, _*_, _≤_, _<_}
+use native.Mathlib.Nat.{suc-inj, suc-ne-zero, not-suc-le-zero, add-suc, suc-add, add-zero, zero-add, mul-zero}
 use native.Mathlib.Numerals.{one-add}
 use native.Mathlib.Omega.{arith}
 use lib.ListN.{length, getD}
 use Rattle.lists.specs.All.{All, Distinct, Sized}
-use Rattle.algebra.specs.Field.{K, _⊕_, _⊗_, 𝟎, 𝟏, dv, ring, dif-path}
+use Rattle.algebra.specs.Field.{K, _⊕_, _⊗_, 𝟎, 𝟏, dv, ring, dif-path, ⊗-assoc}
 use Rattle.algebra.specs.Poly.{eval, addV, scale, eval-add, eval-scale, length-addV-left, length-scale, unique}
 use Rattle.algebra.specs.Interp.{interp, interp-values, interp-of-values, length-interp, row, length-row, extract}
 
@@ -72,6 +72,21 @@ answer-honest ps n l s z pts lp d =
 unfoldable pub power : K → ℕ → K
 power x zero = 𝟏
 power x (suc n) = x ⊗ power x n
+
+one-more : (x : K) → x ≡ 𝟏 ⊗ x
+one-more x = rw (← dv x) (simp ring (dif-path _ _ _ _ (omega arith)))
+
+power-add : (x : K) (m n : ℕ) → power x (m + n) ≡ power x m ⊗ power x n
+unfolding power
+power-add x zero n = ap (power x) (zero-add n) ∙ one-more (power x n)
+power-add x (suc m) n = ap (power x) (suc-add m n) ∙ ap (λ (t : K). x ⊗ t) (power-add x m n) ∙ sym (⊗-assoc x (power x m) (power x n))
+
+pub power-mul : (x : K) (m n : ℕ) → power (power x m) n ≡ power x (m * n)
+unfolding power
+power-mul x m zero = ap (power x) (sym (mul-zero m))
+power-mul x m (suc n) =
+    let e : m + m * n ≡ m * suc n = omega arith in
+    ap (λ (t : K). power x m ⊗ t) (power-mul x m n) ∙ sym (power-add x m (m * n)) ∙ ap (power x) e
 
 pub eval-append : (p r : List K) (x : K) → eval (p ++ r) x ≡ eval p x ⊕ power x (length p) ⊗ eval r x
 unfolding eval power

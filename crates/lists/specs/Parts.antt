@@ -5,7 +5,7 @@ use Prim.Native.Nat.{ℕ, _+_, _-_, _*_, _≤_, _<_}
 use native.Mathlib.Nat.{sub-zero, mul-suc, mul-le-mul-left, le-of-eq}
 use native.Mathlib.Omega.{arith}
 use lib.ListN.{length, getD, take, drop, length-take, length-drop, length-append, drop-of-length-le, List·getD-append}
-use lib.Seq.{take-at, take-all, drop-at, length-take-le, getD-take, getD-append-add}
+use lib.Seq.{take-at, take-all, drop-at, length-take-le, getD-take, getD-drop, getD-append-add}
 use borrow.Rule.Slice.PartMut.{midOf, putMid}
 use Rattle.lists.specs.Pieces.{piece}
 
@@ -26,6 +26,9 @@ part-is k a t = let e : k * a + k - k * a ≡ k = omega arith in ap (λ (n : ℕ
 
 pub length-piece : {A : Type 0} (k a : ℕ) (t : List A) → k * a + k ≤ length t → length (piece k a t) ≡ k
 length-piece k a t h = length-take-le k (drop (k * a) t) (omega (arith, length-drop (k * a) t))
+
+pub piece-at : (k a : ℕ) (x : List ℕ) (j : ℕ) → j < k → getD (piece k a x) j 0 ≡ getD x (k * a + j) 0
+piece-at k a x j l = getD-take k (drop (k * a) x) j 0 l ∙ getD-drop (k * a) x j 0
 
 -- a front that was written, read again
 pub front-is : {A : Type 0} (n : ℕ) (p d : List A) → length p ≡ n → take (n - 0) (p ++ d) ≡ p
