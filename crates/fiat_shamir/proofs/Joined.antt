@@ -126,7 +126,7 @@ module _ (calls : List Call) (header root : Bytes) where
       → asked (taken p) .challenges ≡ asked (taken p′) .challenges
   same-challenges p p′ o o′ k k′ = proof-challenges p o k ∙ sym (proof-challenges p′ o′ k′)
 
--- while a covered collection has μ + 1 different ones in one repetition
+-- while a covered collection has μ + β + 1 different ones in one repetition
 module _ (ps : List ProofCall) (header root : Bytes) (h : (p : ProofCall) → Mem p ps → ProofAnswered p) where
   abbrev calls : List Call
   calls = joined (map alone ps)

@@ -12,9 +12,9 @@ use Rattle.lists.specs.Tabulate.{tabulate}
 use Rattle.lists.specs.Bytes.{Bytes, littleEndian, doubles, bytesOf}
 use Rattle.lists.specs.Tests.{all}
 use Rattle.algebra.specs.Prime.{q}
-use Rattle.scheme.specs.Sizes.{Sizes, leaves}
+use Rattle.scheme.specs.Sizes.{Sizes, leaves, mostPoints, mostWidth}
 use Rattle.scheme.specs.Question.{Question, headerSizes, headerPoints, challengesAt}
-use Rattle.fiat_shamir.specs.Offline.{headerRoot, offlineRoot, offlinePoints}
+use Rattle.fiat_shamir.specs.Offline.{offlineLength, headerRoot, offlineRoot, offlinePoints}
 
 -- ---- γ
 
@@ -27,6 +27,10 @@ drawnChallenges p = map (λ x. x % q) (doubles (headerSizes p .η) (digest (2 �
 -- then batching answers and evaluation answers as they stand in the reply, and the counter's four bytes
 unfoldable pub drawString : Bytes → Bytes → Bytes → Bytes
 drawString b answers counter = 3 ∷ (b ++ (answers ++ counter))
+
+-- the most bytes of that string but for its counter: the prefix, a question of 8 points, 12 answers
+abbrev pub mostString : ℕ
+mostString = suc (offlineLength mostPoints) + 4 * mostWidth * 12
 
 -- where the words begin that name leaves, eight bytes each
 abbrev pub ranksAt : ℕ

@@ -15,7 +15,7 @@ use Rattle.algebra.specs.Prime.{q}
 use Rattle.algebra.specs.Numbers.{evalN, interpN, Elements}
 use Rattle.lists.specs.Range.{upFrom-below, upFrom-distinct, length-upFrom}
 use Rattle.lists.specs.Tests.{Test, all, passed, every-true, all-true, each-true, same-true, within-low, within-high}
-use Rattle.scheme.specs.Sizes.{Sizes, SizesInOrder, leaves, columns, width, degree, points, leafPoint, sizesOk, elements}
+use Rattle.scheme.specs.Sizes.{Sizes, SizesInOrder, leaves, columns, rows, width, degree, points, leafPoint, sizesOk, elements}
 use Rattle.scheme.specs.Question.{Question, readQuestion, questionTests, questionVerdict}
 use Rattle.scheme.specs.Reply.{Reply, readReply, replyLength, recordWords, rowValues, maskValue}
 use Rattle.scheme.specs.Check.{bufferTest, leafAt, recordAt, challengeOf, batchingOf, pointOf, answerOf, replyElements, replyRoot, batchingAt, evaluationAt, replyTests, checkVerdict}
@@ -40,6 +40,9 @@ sizes-in-order s e =
       η-low = within-low 1 4 (s .η) (t .1 .1 .1 .1 .1 .1 .0);
       η-high = within-high 1 4 (s .η) (t .1 .1 .1 .1 .1 .1 .0);
       fits = leb-true (width s) (leaves s) (t .1 .1 .1 .1 .1 .1 .1 .0);
+      β-high = within-high 0 16 (s .β) (t .1 .1 .1 .1 .1 .1 .1 .1 .0);
+      β-fits = leb-true (s .β) (s .μ) (t .1 .1 .1 .1 .1 .1 .1 .1 .1 .0);
+      rows-high = leb-true (rows s) 64 (t .1 .1 .1 .1 .1 .1 .1 .1 .1 .1 .0);
     }
 
 module _ (s : Sizes) (g : SizesInOrder s) where

@@ -1,34 +1,40 @@
--- The starred small instances hold, by computation: the rows of case P and the half are known by their values.
+-- The small instances hold, by computation: the rows of case P and the half are known by their values.
 use mathlib.Core.Path.{_≡_, refl, sym, ap}
 use mathlib.Core.List.{List, [], _∷_, _++_, flatten}
 use Prim.Native.Nat.{ℕ, _+_, _*_}
 use native.Mathlib.Omega.{arith}
 use lib.ListN.{getD}
 use Rattle.lists.specs.Range.{upFrom}
+use Rattle.lists.specs.Number.{number}
+use Rattle.lists.specs.Bytes.{littleEndian}
+use Rattle.lists.specs.Rising.{rising}
 use Rattle.tree.specs.Sets.{children, below, mem, without, push, parents, siblings, missing}
 use Rattle.lists.specs.All.{All}
 use Rattle.algebra.specs.Inverse.{invN, invN-unique}
 use Rattle.algebra.specs.Numbers.{evalN, valuesAtN}
 use Rattle.algebra.specs.Batch.{columnN}
 use Rattle.algebra.specs.Columns.{powN}
+use Rattle.algebra.specs.Lowered.{lowered}
 use Rattle.algebra.specs.Cases.{interpN-is}
 use Rattle.lists.specs.Pieces.{pieces}
-use Rattle.lists.specs.Tests.{verdictOf, every, all}
+use Rattle.lists.specs.Tests.{verdictOf, every, all, same}
 use Rattle.scheme.specs.Sizes.{sizesOk}
+use Rattle.scheme.specs.Matrix.{blindingRows, loweredBy, columnOf}
 use Rattle.scheme.specs.Layers.{extended, combination, polynomialValues}
+use Rattle.scheme.specs.Question.{readQuestion, questionTests}
 use Rattle.scheme.specs.Commit.{lentOk, filledOk, commitTests, commitVerdict}
-use Rattle.scheme.specs.Cases.{rowsP, starred}
+use Rattle.scheme.specs.Cases.{rowsP, starred, further}
 
 half : invN 2 ≡ 2147483646
 half = sym (invN-unique 2 2147483646 (omega arith) refl)
 
 rows-p : rowsP ≡ (4294967288 ∷ 4 ∷ []) ∷ []
-unfolding upFrom extended evalN
+unfolding upFrom extended evalN columnOf lowered loweredBy blindingRows
 rows-p = ap (λ (p : List ℕ). p ∷ []) (interpN-is (2 ∷ 3 ∷ []) (5 ∷ 9 ∷ []) (4294967288 ∷ 4 ∷ []) (omega arith) (omega arith) (omega arith) (omega arith) refl refl refl)
 
 pub cases : All (λ (row : List ℕ × List ℕ). row .0 ≡ row .1) starred
 unfolding evalN valuesAtN columnN powN upFrom children below mem without push parents siblings missing flatten
-    pieces verdictOf every all sizesOk extended combination polynomialValues lentOk filledOk commitTests commitVerdict
+    pieces verdictOf every all sizesOk columnOf lowered loweredBy blindingRows extended combination polynomialValues lentOk filledOk commitTests commitVerdict
 cases = (
   rw half refl,
   (
@@ -42,3 +48,9 @@ cases = (
     ),
   ),
 )
+
+pub further-cases : All (λ (row : List ℕ × List ℕ). row .0 ≡ row .1) further
+unfolding evalN valuesAtN columnN powN upFrom children below mem without push parents siblings missing
+    verdictOf every all sizesOk columnOf lowered loweredBy blindingRows extended combination polynomialValues pieces lentOk filledOk commitTests commitVerdict
+    littleEndian number same rising readQuestion questionTests
+further-cases = (refl, (refl, (refl, (refl, (refl, (refl, (refl, tt)))))))

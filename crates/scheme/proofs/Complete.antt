@@ -18,7 +18,7 @@ use Rattle.tree.proofs.Complete.{complete}
 use Rattle.algebra.specs.Numbers.{evalN, interpN, valuesAtN}
 use Rattle.lists.specs.Pieces.{pieces}
 use Rattle.lists.specs.Tests.{Test, all, each, same, passed, pass, every-true, true-every, true-all, true-each, same-refl}
-use Rattle.scheme.specs.Sizes.{elements, Sizes, arity, levels, nodePrefix, leaves, points}
+use Rattle.scheme.specs.Sizes.{elements, Sizes, arity, levels, nodePrefix, leaves, coefficientCount, points}
 use Rattle.scheme.specs.Layers.{Lent, rowPolynomials, polynomialValues, evaluationAnswer, batchingAnswer}
 use Rattle.scheme.specs.Question.{Question, readQuestion, questionTests, questionVerdict}
 use Rattle.scheme.specs.Reply.{Reply, readReply, replyLength, recordWords, rowValues, maskValue}
@@ -190,7 +190,7 @@ module _ (question : Bytes) (l : Lent) (wf : questionVerdict question ≡ 0) (ri
       (map-cong (upFrom 0 (u .m)) (λ p m.
       ap (polynomialValues s (pointOf u p)) (answer-is p (in-run (u .m) p m))
       ∙ values-honest s l r (pointOf u p))
-      ∙ map-places (λ z. map (λ p. evalN p z) (pieces (s .μ * s .ν) (s .w) (l .coefficients))) (u .evaluationPoints) (u .m) (points-length question))
+      ∙ map-places (λ z. map (λ p. evalN p z) (pieces (coefficientCount s) (s .w) (l .coefficients))) (u .evaluationPoints) (u .m) (points-length question))
 
   question-passed : All (λ (t : Test). t .1 ≡ false) (questionTests question)
   question-passed = passed (questionTests question) (question-numbers question) wf

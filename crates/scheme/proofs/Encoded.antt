@@ -39,7 +39,7 @@ two-back n l = number-littleEndian 2 n l
 
 pub header-sizes-back : (s : Sizes) (m : ℕ) (rest : Bytes) → s .ν < 65536 → s .w < 65536 → headerSizes (headerBytes s m ++ rest) ≡ s
 unfolding headerBytes littleEndian
-header-sizes-back s m rest lν lw = λ i. record { h = s .h; μ = s .μ; ν = two-back (s .ν) lν i; w = two-back (s .w) lw i; ℓ = s .ℓ; η = s .η }
+header-sizes-back s m rest lν lw = λ i. record { h = s .h; μ = s .μ; ν = two-back (s .ν) lν i; w = two-back (s .w) lw i; ℓ = s .ℓ; η = s .η; β = s .β }
 
 -- ---- the whole question
 

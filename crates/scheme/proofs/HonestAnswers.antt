@@ -4,22 +4,24 @@ use mathlib.Core.List.{List, [], _∷_, _++_, map}
 use Prim.Native.Nat.{ℕ, _+_, _*_, _≤_, _<_}
 use native.Mathlib.Nat.{zero-lt-suc, zero-add, mul-zero}
 use native.Mathlib.Omega.{arith}
-use lib.ListN.{length, getD, take, drop, length-map, length-append, length-drop, List·getD-append}
-use lib.Seq.{length-take-le, ext-getD, getD-take, getD-drop, getD-append-add}
-use Rattle.lists.specs.Range.{upFrom, at-run, length-upFrom, all-run, run-parts}
+use lib.ListN.{length, getD, drop, length-map, length-append, length-drop, List·getD-append}
+use lib.Seq.{length-take-le, ext-getD, getD-append-add}
+use Rattle.lists.specs.Range.{upFrom, upFrom-of, at-run, length-upFrom, all-run, run-parts}
 use Rattle.lists.specs.Maps.{map-cong, getD-map-in}
 use Rattle.algebra.specs.Prime.{q}
-use Rattle.lists.specs.All.{all-append, all-take, all-drop, all-each}
+use Rattle.lists.specs.All.{all-append, all-each}
 use Rattle.algebra.specs.Numbers.{evalN, evalN-below, interpN, interpN-values, valuesAtN, Elements, Polys}
-use Rattle.algebra.specs.Columns.{powN, columns-value}
-use Rattle.algebra.specs.Values.{getD-below, length-values, values-at, column-map, concat-pieces, interp-polys}
+use Rattle.algebra.specs.Columns.{powN}
+use Rattle.algebra.specs.Values.{getD-below, piece-below, length-values, values-at, column-map, interp-polys}
 use Rattle.algebra.specs.Batch.{columnN, batchN, batchN-at, batchN-length, evalN-batchN, honestN}
-use Rattle.lists.specs.Pieces.{pieces, piece, length-pieces, pieces-at, pieces-sized, pieces-run}
-use Rattle.scheme.specs.Sizes.{Sizes, SizesInOrder, columns, rows, width, points}
+use Rattle.lists.specs.Pieces.{pieces, piece, length-pieces, pieces-at, pieces-run}
+use Rattle.scheme.specs.Sizes.{Sizes, SizesInOrder, columns, rows, coefficientCount, width, points}
+use Rattle.scheme.specs.Matrix.{polynomial}
 use Rattle.scheme.specs.Layers.{Lent, column, entry, extended, extendedRows, rowPolynomials, combination, evaluationAnswer, maskPolynomial, batchingAnswer, polynomialValues}
-use Rattle.scheme.proofs.Lent.{LentFacts}
+use Rattle.scheme.proofs.Lent.{LentFacts, counted}
+use Rattle.scheme.proofs.Columns.{column-poly, columns-are, columns-value-is}
 use Rattle.scheme.proofs.Accepted.{points-are-below, points-differ, points-count}
-use Rattle.lists.specs.Parts.{row-fits}
+use Rattle.lists.specs.Parts.{row-fits, piece-at}
 
 -- ---- a combination of rows
 
@@ -59,13 +61,6 @@ module _ (s : Sizes) (lent : Lent) (r : LentFacts s lent) where
   tail-length : (j : ℕ) → j < rows s → length (piece (s .ℓ) j t) ≡ s .ℓ
   tail-length j l = length-take-le (s .ℓ) (drop (s .ℓ * j) t) (omega (arith, length-drop (s .ℓ * j) t, row-fits (s .ℓ) j (rows s) l, r .t-length))
 
-  -- a column has an element for each row
-  column-poly : (a : ℕ) → a < columns s → (length (column s lent a) ≡ rows s) × Elements (column s lent a)
-  column-poly a l = (
-    length-take-le (s .μ) (drop (s .μ * a) c) (omega (arith, length-drop (s .μ * a) c, row-fits (s .μ) a (columns s) l, r .c-length)),
-    all-take (λ (x : ℕ). x < q) (s .μ) (drop (s .μ * a) c) (all-drop (λ (x : ℕ). x < q) (s .μ * a) c (r .c-below)),
-  )
-
   row-count : (j : ℕ) → length (map (entry s lent j) (upFrom 0 (columns s))) ≡ columns s
   row-count j = length-map (upFrom 0 (columns s)) _ ∙ length-upFrom 0 (columns s)
 
@@ -74,8 +69,8 @@ module _ (s : Sizes) (lent : Lent) (r : LentFacts s lent) where
   extended-poly j l = (
     length-append (map (entry s lent j) (upFrom 0 (columns s))) (piece (s .ℓ) j t) ∙ ap₂ _+_ (row-count j) (tail-length j l),
     all-append (λ (x : ℕ). x < q) (map (entry s lent j) (upFrom 0 (columns s))) (piece (s .ℓ) j t)
-        (all-run (λ (x : ℕ). x < q) (entry s lent j) (columns s) (λ a m. getD-below (column s lent a) (column-poly a m .1) j))
-        (all-take (λ (x : ℕ). x < q) (s .ℓ) (drop (s .ℓ * j) t) (all-drop (λ (x : ℕ). x < q) (s .ℓ * j) t (r .t-below))),
+        (all-run (λ (x : ℕ). x < q) (entry s lent j) (columns s) (λ a m. getD-below (column s lent a) (column-poly s lent r a m .1) j))
+        (piece-below (s .ℓ) j t (r .t-below)),
   )
 
   abbrev pub ext : List (List ℕ)
@@ -97,7 +92,7 @@ module _ (s : Sizes) (lent : Lent) (r : LentFacts s lent) where
   P-some = omega (arith, P-count, g .μ-low)
 
   -- at value and tail point i the row's polynomial has entry i of the extended row
-  column-values : (es : List (List ℕ)) → Polys (width s) es → (i : ℕ) → i < width s → columnN es i ≡ valuesAtN (map (interpN (points s)) es) (getD (points s) i 0)
+  pub column-values : (es : List (List ℕ)) → Polys (width s) es → (i : ℕ) → i < width s → columnN es i ≡ valuesAtN (map (interpN (points s)) es) (getD (points s) i 0)
   unfolding columnN valuesAtN
   column-values [] h i l = refl
   column-values (e ∷ es) h i l =
@@ -127,7 +122,7 @@ module _ (s : Sizes) (lent : Lent) (r : LentFacts s lent) where
   mask-poly : (k : ℕ) → k < s .η → (length (maskPolynomial s lent k) ≡ width s) × Elements (maskPolynomial s lent k)
   mask-poly k m = (
     length-take-le (width s) (drop (width s * k) (lent .masks)) (omega (arith, length-drop (width s * k) (lent .masks), row-fits (width s) k (s .η) m, r .m-length)),
-    all-take (λ (x : ℕ). x < q) (width s) (drop (width s * k) (lent .masks)) (all-drop (λ (x : ℕ). x < q) (width s * k) (lent .masks) (r .m-below)),
+    piece-below (width s) k (lent .masks) (r .m-below),
   )
 
   -- test 9 passes at every leaf
@@ -145,10 +140,10 @@ module _ (s : Sizes) (lent : Lent) (r : LentFacts s lent) where
       ∙ ap (entry s lent j) (zero-add a)
 
   -- the rows' entries at a column are the column
-  entries : (a : ℕ) → a < columns s → columnN ext a ≡ column s lent a
+  pub entries : (a : ℕ) → a < columns s → columnN ext a ≡ column s lent a
   entries a l =
       column-map (extended s lent) (upFrom 0 (rows s)) a
-      ∙ ext-getD 0 (map (λ j. getD (extended s lent j) a 0) (upFrom 0 (rows s))) (column s lent a) (count ∙ sym (column-poly a l .0))
+      ∙ ext-getD 0 (map (λ j. getD (extended s lent j) a 0) (upFrom 0 (rows s))) (column s lent a) (count ∙ sym (column-poly s lent r a l .0))
       (λ j m.
       at-run (λ j. getD (extended s lent j) a 0) 0 (rows s) j 0 (subst (λ (n : ℕ). j < n) count m)
       ∙ ap (λ (n : ℕ). getD (extended s lent n) a 0) (zero-add j)
@@ -172,24 +167,16 @@ module _ (s : Sizes) (lent : Lent) (r : LentFacts s lent) where
       ∙ ap (λ (ps : List (List ℕ)). columnN ps i) (pieces-run (s .ℓ) 0 (rows s) t ∙ ap (λ (k : ℕ). pieces (s .ℓ) (rows s) (drop k t)) (mul-zero (s .ℓ)))
 
   -- an answer without the rows: the values of the columns, and the combination of the tails
-  pub answer-parts : (z : ℕ) → evaluationAnswer s lent z ≡ valuesAtN (pieces (s .μ) (columns s) c) z ++ combination (s .ℓ) z (pieces (s .ℓ) (rows s) t)
+  pub answer-parts : (z : ℕ) → evaluationAnswer s lent z ≡ map (λ a. evalN (column s lent a) z) (upFrom 0 (columns s)) ++ combination (s .ℓ) z (pieces (s .ℓ) (rows s) t)
   unfolding combination
   answer-parts z =
       let f : ℕ → ℕ = λ i. evalN (columnN ext i) z in
-      let ps : List (List ℕ) = pieces (s .μ) (columns s) c in
       let ts : List (List ℕ) = pieces (s .ℓ) (rows s) t in
-      let many : length ps ≡ columns s = length-pieces (s .μ) (columns s) c in
-      let n₁ : length (map f (upFrom 0 (columns s))) ≡ columns s = length-map (upFrom 0 (columns s)) f ∙ length-upFrom 0 (columns s) in
       let n₂ : length (map f (upFrom (0 + columns s) (s .ℓ))) ≡ s .ℓ = length-map (upFrom (0 + columns s) (s .ℓ)) f ∙ length-upFrom (0 + columns s) (s .ℓ) in
       run-parts f 0 (columns s) (s .ℓ)
       ∙ ap₂ (λ (a b : List ℕ). a ++ b)
-      (ext-getD 0 (map f (upFrom 0 (columns s))) (valuesAtN ps z) (n₁ ∙ sym (length-values ps z ∙ many))
-      (λ i m.
-      let l : i < columns s = subst (λ (k : ℕ). i < k) n₁ m in
-      at-run f 0 (columns s) i 0 l
-      ∙ ap f (zero-add i)
-      ∙ ap (λ (x : List ℕ). evalN x z) (entries i l ∙ sym (pieces-at (s .μ) (columns s) i c l))
-      ∙ sym (values-at ps z i (subst (λ (k : ℕ). i < k) (sym many) l))))
+      (map-cong (upFrom 0 (columns s)) (λ a m.
+      ap (λ (x : List ℕ). evalN x z) (entries a (subst (λ (k : ℕ). a < k) (zero-add (columns s)) (upFrom-of 0 (columns s) a m .1)))))
       (ext-getD 0 (map f (upFrom (0 + columns s) (s .ℓ))) (combination (s .ℓ) z ts) (n₂ ∙ sym (combination-length (s .ℓ) z ts))
       (λ i m.
       let l : i < s .ℓ = subst (λ (k : ℕ). i < k) n₂ m in
@@ -210,29 +197,27 @@ module _ (s : Sizes) (lent : Lent) (r : LentFacts s lent) where
       ext-getD 0 (piece (s .ν) i A) (valuesAtN cs z) (count ∙ sym (length-values cs z ∙ many))
       (λ k m.
       let n : k < s .ν = subst (λ (x : ℕ). k < x) count m in
-      getD-take (s .ν) (drop (s .ν * i) A) k 0 n
-      ∙ getD-drop (s .ν * i) A k 0
+      piece-at (s .ν) i A k n
       ∙ combination-at (width s) z ext (s .ν * i + k) (omega arith)
       ∙ ap (λ (x : List ℕ). evalN x z) (entries (s .ν * i + k) (omega arith) ∙ sym (at-run (column s lent) (s .ν * i) (s .ν) k [] n))
       ∙ sym (values-at cs z k (subst (λ (x : ℕ). k < x) (sym many) n)))
 
-  value-honest : (z i : ℕ) → i < s .w → evalN (piece (s .ν) i (evaluationAnswer s lent z)) (powN z (s .μ)) ≡ evalN (piece (s .μ * s .ν) i c) z
+  value-honest : (z i : ℕ) → i < s .w → evalN (piece (s .ν) i (evaluationAnswer s lent z)) (powN z (s .μ)) ≡ evalN (polynomial s c (lent .blinds) i) z
   value-honest z i l =
-      let D : List ℕ = drop (s .μ * (s .ν * i)) c in
-      let e : s .μ * (s .ν * i) ≡ s .μ * s .ν * i = omega arith in
-      ap (λ (x : List ℕ). evalN x (powN z (s .μ))) (columns-honest z i l ∙ ap (λ (cs : List (List ℕ)). valuesAtN cs z) (pieces-run (s .μ) (s .ν * i) (s .ν) c))
-      ∙ columns-value (s .μ) (pieces (s .μ) (s .ν) D) z
-      (pieces-sized (s .μ) (s .ν) D (omega (arith, length-drop (s .μ * (s .ν * i)) c, row-fits (s .μ * s .ν) i (s .w) l, r .c-length)))
-      ∙ ap (λ (x : List ℕ). evalN x z) (concat-pieces (s .μ) (s .ν) D ∙ ap (λ (x : ℕ). take (s .μ * s .ν) (drop x c)) e)
+      let e : s .ν * i ≡ s .ν * i + 0 = omega arith in
+      ap (λ (x : List ℕ). evalN x (powN z (s .μ)))
+      (columns-honest z i l
+      ∙ ap (λ (cs : List (List ℕ)). valuesAtN cs z) (ap (λ (k : ℕ). map (column s lent) (upFrom k (s .ν))) e ∙ columns-are s lent i (s .ν) 0 (omega arith)))
+      ∙ columns-value-is s c (lent .blinds) (counted r) (r .b-below) z i l
 
   -- the values that an honest answer gives are the polynomials' values
-  pub values-honest : (z : ℕ) → polynomialValues s z (evaluationAnswer s lent z) ≡ map (λ p. evalN p z) (pieces (s .μ * s .ν) (s .w) c)
+  pub values-honest : (z : ℕ) → polynomialValues s z (evaluationAnswer s lent z) ≡ map (λ p. evalN p z) (pieces (coefficientCount s) (s .w) c)
   unfolding polynomialValues
   values-honest z =
       let A : List ℕ = evaluationAnswer s lent z in
-      let ps : List (List ℕ) = pieces (s .μ * s .ν) (s .w) c in
+      let ps : List (List ℕ) = pieces (coefficientCount s) (s .w) c in
       let n₁ : length (pieces (s .ν) (s .w) A) ≡ s .w = length-pieces (s .ν) (s .w) A in
-      let n₂ : length ps ≡ s .w = length-pieces (s .μ * s .ν) (s .w) c in
+      let n₂ : length ps ≡ s .w = length-pieces (coefficientCount s) (s .w) c in
       ext-getD 0 (map (λ vs. evalN vs (powN z (s .μ))) (pieces (s .ν) (s .w) A)) (map (λ p. evalN p z) ps)
       (length-map (pieces (s .ν) (s .w) A) _ ∙ n₁ ∙ sym (length-map ps (λ p. evalN p z) ∙ n₂))
       (λ i m.
@@ -240,5 +225,5 @@ module _ (s : Sizes) (lent : Lent) (r : LentFacts s lent) where
       getD-map-in (λ vs. evalN vs (powN z (s .μ))) (pieces (s .ν) (s .w) A) i [] 0 (subst (λ (k : ℕ). i < k) (sym n₁) l)
       ∙ ap (λ (x : List ℕ). evalN x (powN z (s .μ))) (pieces-at (s .ν) (s .w) i A l)
       ∙ value-honest z i l
-      ∙ ap (λ (x : List ℕ). evalN x z) (sym (pieces-at (s .μ * s .ν) (s .w) i c l))
+      ∙ ap (λ (x : List ℕ). evalN x z) (sym (pieces-at (coefficientCount s) (s .w) i c l))
       ∙ sym (getD-map-in (λ p. evalN p z) ps i [] 0 (subst (λ (k : ℕ). i < k) (sym n₂) l)))

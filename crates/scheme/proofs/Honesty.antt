@@ -120,7 +120,7 @@ module _ (s : Sizes) (l : Lent) (right : WellLent s l) where
     challenges-count = length-replicate (s .η) γ;
     points-count = refl;
     indices-count = length-upFrom j (s .ℓ);
-    challenges-right = below-elements (replicate (s .η) γ) (elements-copies (s .η) γ (omega (arith, r .sizes .μ-high)));
+    challenges-right = below-elements (replicate (s .η) γ) (elements-copies (s .η) γ (omega (arith, r .sizes .rows-high)));
     points-right = below-elements (0 ∷ []) (omega arith, tt);
     indices-rise = rising-run j (s .ℓ);
     indices-right = true-all (λ i. ltb i (leaves s)) (upFrom j (s .ℓ)) (all-imp (λ (i : ℕ) (m : i < leaves s). lt-ltb i (leaves s) m) (upFrom j (s .ℓ)) (upFrom-below j (s .ℓ) (leaves s) b));

@@ -8,7 +8,11 @@ pub mod Bound
 pub mod Replies
 -- demand 2: what is lent as facts, honest answers, the parts of a reply, read back and checked
 pub mod Lent
+-- the matrix: its columns and their values, its entries
+pub mod Columns
+pub mod Entries
 pub mod HonestAnswers
+pub mod Held
 pub mod Parts
 pub mod ReplyReadBack
 pub mod Committed

@@ -46,7 +46,7 @@ filled-lengths s table nodes e = let t = every-true _ e in (eqb-true _ _ (t .0),
 
 nonces-length : (s : Sizes) (l : Lent) → lentOk s l ≡ true → length (l .nonces) ≡ 32 * leaves s
 unfolding lentOk
-nonces-length s l e = eqb-true _ _ (every-true _ e .1 .1 .1 .0)
+nonces-length s l e = eqb-true _ _ (every-true _ e .1 .1 .1 .1 .0)
 
 pub tree-length : (s : Sizes) (table : List ℕ) (nodes : Bytes) → filledOk s table nodes ≡ true → length nodes ≡ 32 * treeSize (arity s) (levels s)
 tree-length s table nodes e = filled-lengths s table nodes e .1 ∙ ap (λ (k : ℕ). 32 * k) (omega (arith, tree-size 1 (s .h), pow-suc 2 (s .h)))

@@ -122,7 +122,7 @@ unfolding printed text headerVerdict questionPart replyPart digits verdictOf che
 empty-input = refl
 
 -- Case P, for all nonces, z = 6: the opener's reply to any well-formed question about it prints `verdict 0` and `1 1 5`
-pub case-p : (nonces question buffer : Bytes) (l : Lent) → l ≡ record { coefficients = 5 ∷ []; tails = 9 ∷ []; masks = 7 ∷ 2 ∷ []; nonces = nonces }
+pub case-p : (nonces question buffer : Bytes) (l : Lent) → l ≡ record { coefficients = 5 ∷ []; tails = 9 ∷ []; blinds = []; masks = 7 ∷ 2 ∷ []; nonces = nonces }
     → Names sizesP l question → readQuestion question .m ≡ 1 → readQuestion question .evaluationPoints ≡ 6 ∷ []
     → (r : Replied sizesP l question buffer) → length (question ++ r .reply) ≤ inputLimit
     → printed (question ++ r .reply) ≡ 0x76 ∷ 0x65 ∷ 0x72 ∷ 0x64 ∷ 0x69 ∷ 0x63 ∷ 0x74 ∷ 32 ∷ 48 ∷ 10 ∷ 49 ∷ 32 ∷ 49 ∷ 32 ∷ 53 ∷ 10 ∷ []

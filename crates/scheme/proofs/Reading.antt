@@ -11,18 +11,24 @@ use borrow.Author.Tests.{eqb-true}
 use Rattle.lists.specs.Choice.{pick, tested}
 use Rattle.lists.specs.All.{All, Distinct, all-append}
 use Rattle.lists.specs.Bytes.{Bytes}
+use Rattle.lists.specs.Pieces.{piece}
 use Rattle.lists.specs.Tests.{Test, verdict-within}
 use Rattle.algebra.specs.Numbers.{evalN, interpN, interpN-values, Elements}
 use Rattle.algebra.specs.Cases.{interpN-is}
 use Rattle.tree.specs.Sets.{missing}
 use Rattle.tree.proofs.Missing.{Above, Missing, sibling, missing-of, missing-in, missing-sibling, sibling-missing}
-use Rattle.scheme.specs.Sizes.{Sizes}
-use Rattle.scheme.specs.Layers.{Lent}
+use Rattle.scheme.specs.Sizes.{Sizes, columns}
+use Rattle.scheme.specs.Matrix.{polynomial}
+use Rattle.scheme.specs.Layers.{Lent, column, rowPolynomials, heldPolynomial}
 use Rattle.scheme.specs.Question.{questionTests, questionVerdict}
 use Rattle.scheme.specs.Sizing.{sizingC}
 use Rattle.scheme.specs.Commit.{commitTests, commitVerdict, committing}
 use Rattle.scheme.specs.Open.{openTests, openVerdict, opening, openingC}
 use Rattle.scheme.specs.Check.{replyTests, checkVerdict, checking, checkingC}
+use Rattle.scheme.specs.Honest.{WellLent}
+use Rattle.scheme.proofs.Lent.{counted, lent-facts}
+use Rattle.scheme.proofs.Entries.{column-unblinded}
+use Rattle.scheme.proofs.Held.{held-committed}
 
 -- ---- `interpN xs ys` is the one polynomial of degree below the number of points that takes the values ys at the points xs
 
@@ -32,6 +38,15 @@ interpolation-takes = interpN-values
 pub interpolation-only : (xs ys p : List ℕ) → Elements xs → Distinct xs → Elements ys → length ys ≡ length xs → Elements p → length p ≡ length xs
     → map (λ (x : ℕ). evalN p x) xs ≡ ys → p ≡ interpN xs ys
 interpolation-only xs ys p bx d by ly bp lp e = sym (interpN-is xs ys p bx d by bp lp ly e)
+
+-- ---- the rows of a commitment hold the committed polynomials: all their coefficients, whatever the blinds
+
+pub committed-held : (s : Sizes) (l : Lent) → WellLent s l → (i : ℕ) → i < s .w → heldPolynomial s (rowPolynomials s l) i ≡ polynomial s (l .coefficients) (l .blinds) i
+committed-held s l right i m = held-committed s l (lent-facts s l right) i m
+
+-- without blinding rows column a holds coefficients aμ, aμ + 1, .. of all that are lent
+pub without-blinding-rows : (s : Sizes) (l : Lent) → WellLent s l → s .β ≡ 0 → (a : ℕ) → a < columns s → column s l a ≡ piece (s .μ) a (l .coefficients)
+without-blinding-rows s l right e a m = column-unblinded s l (counted (lent-facts s l right)) e a m
 
 -- ---- the missing nodes of a set are those not above (or in) the set whose sibling is
 

@@ -46,7 +46,8 @@ header-sizes b =
     let w = ap fromBytes (part-of 2 9 headerLength b (omega arith)) in
     let ℓ = getD-take headerLength b 11 0 (omega arith) in
     let η = getD-take headerLength b 12 0 (omega arith) in
-    λ i. record { h = h i; μ = μ i; ν = ν i; w = w i; ℓ = ℓ i; η = η i }
+    let β = getD-take headerLength b 14 0 (omega arith) in
+    λ i. record { h = h i; μ = μ i; ν = ν i; w = w i; ℓ = ℓ i; η = η i; β = β i }
 
 question-sizes : (b : Bytes) → readQuestion b .sizes ≡ headerSizes b
 unfolding readQuestion

@@ -76,7 +76,7 @@ module _ (calls : List Call) (header root : Bytes) where
       (c₁ c₂ : Call) → Collected calls header root c₁ → Collected calls header root c₂
       → (x y : Bytes) → Mem x (hashedStrings (asked c₁) (given c₁)) → Mem y (hashedStrings (asked c₂) (given c₂)) → digest x ≡ digest y → x ≡ y
 
-  -- d + 1 leaves or more, and in repetition k μ + 1 different challenges with one batching answer each,
+  -- d + 1 leaves or more, and in repetition k μ + β + 1 different challenges with one batching answer each,
   -- such that every one of these leaves is opened under every one of these challenges with its answer
   pub record Covered (L : List ℕ) (k : ℕ) (challenges : List ℕ) (answers : List (List ℕ)) : Type 0 where
     pub leaves-differ : Distinct L

@@ -12,7 +12,7 @@ use Rattle.tree.specs.Tree.{tree}
 use Rattle.algebra.specs.Numbers.{valuesAtN}
 use Rattle.lists.specs.Pieces.{piece}
 use Rattle.lists.specs.Tests.{Test, verdictOf, every}
-use Rattle.scheme.specs.Sizes.{elements, Sizes, arity, levels, nodePrefix, leaves, rows, width, recordValues, leafPoint, sizesOk}
+use Rattle.scheme.specs.Sizes.{elements, Sizes, arity, levels, nodePrefix, leaves, rows, coefficientCount, blindCount, width, recordValues, leafPoint, sizesOk}
 use Rattle.scheme.specs.Layers.{Lent, rowPolynomials, maskPolynomial}
 use Rattle.tree.specs.Leaf.{leafString}
 
@@ -20,14 +20,14 @@ use Rattle.tree.specs.Leaf.{leafString}
 unfoldable pub lentOk : Sizes → Lent → Bool
 lentOk s l =
     every
-    (eqb (length (l .coefficients)) (s .w * (s .μ * s .ν)) ∷ eqb (length (l .tails)) (rows s * s .ℓ) ∷ eqb (length (l .masks)) (s .η * width s)
-    ∷ eqb (length (l .nonces)) (32 * leaves s) ∷ [])
+    (eqb (length (l .coefficients)) (s .w * coefficientCount s) ∷ eqb (length (l .tails)) (rows s * s .ℓ) ∷ eqb (length (l .blinds)) (s .w * blindCount s)
+    ∷ eqb (length (l .masks)) (s .η * width s) ∷ eqb (length (l .nonces)) (32 * leaves s) ∷ [])
 
 unfoldable pub filledOk : Sizes → List ℕ → Bytes → Bool
 filledOk s table nodes = every (eqb (length table) (leaves s * recordValues s) ∷ eqb (length nodes) (32 * (2 * leaves s - 1)) ∷ [])
 
 abbrev pub lentElements : Lent → List Bool
-lentElements l = elements (l .coefficients) ∷ elements (l .tails) ∷ elements (l .masks) ∷ []
+lentElements l = elements (l .coefficients) ∷ elements (l .tails) ∷ elements (l .blinds) ∷ elements (l .masks) ∷ []
 
 unfoldable pub commitTests : Sizes → Lent → List ℕ → Bytes → List Test
 commitTests s l table nodes =

@@ -8,7 +8,7 @@ use Rattle.lists.specs.Bytes.{Bytes, bytesOf}
 use Rattle.algebra.specs.Numbers.{evalN}
 use Rattle.lists.specs.Pieces.{pieces}
 use Rattle.lists.specs.Tests.{every}
-use Rattle.scheme.specs.Sizes.{Sizes, sizesOk}
+use Rattle.scheme.specs.Sizes.{Sizes, coefficientCount, sizesOk}
 use Rattle.scheme.specs.Layers.{Lent}
 use Rattle.scheme.specs.Question.{readQuestion, questionVerdict}
 use Rattle.scheme.specs.Reply.{replyLength}
@@ -19,7 +19,7 @@ use Rattle.scheme.specs.Check.{checking, checkingC}
 
 -- the values of the committed polynomials, point by point
 unfoldable pub trueValues : Sizes → Lent → List ℕ → List ℕ
-trueValues s l zs = flatten (map (λ z. map (λ p. evalN p z) (pieces (s .μ * s .ν) (s .w) (l .coefficients))) zs)
+trueValues s l zs = flatten (map (λ z. map (λ p. evalN p z) (pieces (coefficientCount s) (s .w) (l .coefficients))) zs)
 
 -- sizes in their ranges, and lent slices of the right lengths that hold elements
 pub record WellLent (s : Sizes) (l : Lent) : Type 0 where

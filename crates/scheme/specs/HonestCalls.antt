@@ -1,4 +1,4 @@
--- Honest calls: a badge that committed to s and l is asked for every run of ℓ leaves under each of μ + 1 challenges, and answers each time.
+-- Honest calls: a badge that committed to s and l is asked for every run of ℓ leaves under each of μ + β + 1 challenges, and answers each time.
 use mathlib.Core.Path.{_≡_}
 use mathlib.Core.List.{List, [], _∷_, _++_, map, flatten, List·Memᴰ as Mem}
 use Prim.Native.Nat.{ℕ, suc, _-_, _*_}
@@ -15,7 +15,7 @@ use Rattle.scheme.specs.Honest.{trueValues}
 
 -- the bytes of a header and of a question
 unfoldable pub headerBytes : Sizes → ℕ → Bytes
-headerBytes s m = mark ++ (s .h ∷ s .μ ∷ (littleEndian 2 (s .ν) ++ (littleEndian 2 (s .w) ++ (s .ℓ ∷ s .η ∷ m ∷ []))))
+headerBytes s m = mark ++ (s .h ∷ s .μ ∷ (littleEndian 2 (s .ν) ++ (littleEndian 2 (s .w) ++ (s .ℓ ∷ s .η ∷ m ∷ s .β ∷ []))))
 
 unfoldable pub questionBytes : Sizes → ℕ → Bytes → List ℕ → List ℕ → List ℕ → Bytes
 questionBytes s m root challenges points indices =
@@ -40,7 +40,7 @@ honestCall s l question = record {
   after = trueValues s l (readQuestion question .evaluationPoints);
 }
 
--- the μ + 1 challenges 0, 1, .., μ, and their answers in repetition 0
+-- the μ + β + 1 challenges 0, 1, .., μ + β, and their answers in repetition 0
 abbrev pub honestChallenges : Sizes → List ℕ
 honestChallenges s = upFrom 0 (suc (rows s))
 
@@ -54,7 +54,7 @@ honestRuns s l γ = map (λ j. honestCall s l (honestQuestion s l γ j)) (upFrom
 unfoldable pub honestCalls : Sizes → Lent → List Call
 honestCalls s l = flatten (map (honestRuns s l) (honestChallenges s))
 
--- These calls are as the contracts say and cover all N leaves under μ + 1 challenges. So demand 3's hypotheses can be met,
+-- These calls are as the contracts say and cover all N leaves under μ + β + 1 challenges. So demand 3's hypotheses can be met,
 -- up to collisions, which nobody can rule out; and the rows that it then finds are the committed ones.
 pub record HonestCollection (s : Sizes) (l : Lent) : Type 0 where
   pub answered : (c : Call) → Mem c (honestCalls s l) → Answered c

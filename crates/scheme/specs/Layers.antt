@@ -1,6 +1,6 @@
 -- The three layers: polynomials to rows (PCS), rows to polynomials (LVCS), degree (DECS). A row is a list of field elements.
 use mathlib.Core.List.{List, _∷_, _++_, map}
-use Prim.Native.Nat.{ℕ}
+use Prim.Native.Nat.{ℕ, _/_, _%_}
 use lib.ListN.{getD}
 use Rattle.lists.specs.Range.{upFrom}
 use Rattle.algebra.specs.Numbers.{evalN, interpN, valuesAtN}
@@ -9,22 +9,25 @@ use Rattle.algebra.specs.Columns.{powN}
 use Rattle.algebra.specs.Stacked.{stacked}
 use Rattle.lists.specs.Pieces.{pieces, piece}
 use Rattle.scheme.specs.Sizes.{Sizes, columns, rows, width, points}
+use Rattle.scheme.specs.Matrix.{columnOf}
 
--- what the committer is lent to read: coefficients polynomial by polynomial, tails row by row, masks repetition by repetition, nonces leaf by leaf
+-- what the committer is lent to read: coefficients polynomial by polynomial, tails row by row, blinds polynomial by polynomial, column by column and row by row,
+-- masks repetition by repetition, nonces leaf by leaf
 pub record Lent : Type 0 where
   pub coefficients : List ℕ
   pub tails : List ℕ
+  pub blinds : List ℕ
   pub masks : List ℕ
   pub nonces : List ℕ
 
-abbrev pub lentOf : List ℕ → List ℕ → List ℕ → List ℕ → Lent
-lentOf coefficients tails masks nonces = record { coefficients = coefficients; tails = tails; masks = masks; nonces = nonces }
+abbrev pub lentOf : List ℕ → List ℕ → List ℕ → List ℕ → List ℕ → Lent
+lentOf coefficients tails blinds masks nonces = record { coefficients = coefficients; tails = tails; blinds = blinds; masks = masks; nonces = nonces }
 
 -- ---- polynomials to rows (PCS)
 
--- column c = iν + t, from row 0 on: coefficients tμ, tμ + 1, .. of polynomial i. In all coefficients, polynomial by polynomial, they begin at iμν + tμ = cμ.
+-- column c = iν + t, from row 0 on: column t of polynomial i
 abbrev pub column : Sizes → Lent → ℕ → List ℕ
-column s l c = piece (s .μ) c (l .coefficients)
+column s l c = columnOf s (l .coefficients) (l .blinds) (c / s .ν) (c % s .ν)
 
 -- row j, column c
 abbrev pub entry : Sizes → Lent → ℕ → ℕ → ℕ
@@ -67,6 +70,7 @@ batchingAnswer s l k γ = combination (width s) γ (maskPolynomial s l k ∷ row
 
 -- ---- the polynomials that rows hold
 
--- polynomial i that the rows ps hold: the sum over its columns t and all rows j of X^(tμ + j) times P_j(N + iν + t)
+-- polynomial i that the rows ps hold: the sum over its columns t and all rows j of X^(tμ + j) times P_j(N + iν + t). With blinding rows j runs past μ: where
+-- exponents of two columns meet, what stands there adds up.
 unfoldable pub heldPolynomial : Sizes → List (List ℕ) → ℕ → List ℕ
 heldPolynomial s ps i = stacked (s .μ) (map (valuesAtN ps) (piece (s .ν) i (points s)))

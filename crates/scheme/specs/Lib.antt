@@ -1,4 +1,5 @@
 pub mod Sizes
+pub mod Matrix
 pub mod Layers
 pub mod Question
 pub mod Reply

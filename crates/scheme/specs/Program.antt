@@ -15,7 +15,7 @@ use Rattle.scheme.specs.Check.{checkVerdict, checkValues}
 abbrev pub inputLimit : ℕ
 inputLimit = 65536
 
--- the header tests: 6 if under 14 bytes, 5, 1
+-- the header tests: 6 if under 15 bytes, 5, 1
 unfoldable pub headerVerdict : Bytes → ℕ
 headerVerdict b = verdictOf (headerTests b)
 

@@ -7,18 +7,18 @@ use lib.ListN.{length, getD, take, drop}
 use Rattle.lists.specs.Bytes.{Bytes, fromBytes, littleEndian, halves, words}
 use Rattle.lists.specs.Tests.{Test, verdictOf, all, same}
 use Rattle.lists.specs.Rising.{rising}
-use Rattle.scheme.specs.Sizes.{Sizes, leaves, sizesOk, pointsOk, elements}
+use Rattle.scheme.specs.Sizes.{Sizes, leaves, sizesOk, mostPoints, pointsOk, elements}
 
 -- "SWQ", and the version in two bytes
 abbrev pub version : ℕ
-version = 1
+version = 2
 
 abbrev pub mark : Bytes
 mark = 0x53 ∷ 0x57 ∷ 0x51 ∷ littleEndian 2 version
 
--- mark, version, h, μ, ν, w, ℓ, η, m
+-- mark, version, h, μ, ν, w, ℓ, η, m, β
 abbrev pub headerLength : ℕ
-headerLength = 14
+headerLength = 15
 
 abbrev pub headerSizes : Bytes → Sizes
 headerSizes b = record {
@@ -28,6 +28,7 @@ headerSizes b = record {
   w = fromBytes (take 2 (drop 9 b));
   ℓ = getD b 11 0;
   η = getD b 12 0;
+  β = getD b 14 0;
 }
 
 abbrev pub headerPoints : Bytes → ℕ
@@ -54,6 +55,10 @@ indicesAt s m = pointsAt s + 4 * m
 
 abbrev pub questionLength : Sizes → ℕ → ℕ
 questionLength s m = indicesAt s m + 2 * s .ℓ
+
+-- and the most bytes that it has where the sizes are in order: 4 challenges, 8 points, 64 indices
+abbrev pub mostQuestion : ℕ
+mostQuestion = challengesAt + 4 * 4 + 4 * mostPoints + 2 * 64
 
 -- what the bytes hold, for sizes s and m points
 abbrev pub questionAt : Sizes → ℕ → Bytes → Question

@@ -8,7 +8,7 @@ use Rattle.lists.specs.Bytes.{Bytes}
 use Rattle.lists.specs.Range.{upFrom}
 use Rattle.lists.specs.Tests.{every, all, within}
 
--- depth h, rows μ, columns per polynomial ν, polynomials w, opened leaves ℓ, batching repetitions η
+-- depth h, rows of coefficients μ, columns per polynomial ν, polynomials w, opened leaves ℓ, batching repetitions η, blinding rows β
 pub record Sizes : Type 0 where
   pub h : ℕ
   pub μ : ℕ
@@ -16,9 +16,10 @@ pub record Sizes : Type 0 where
   pub w : ℕ
   pub ℓ : ℕ
   pub η : ℕ
+  pub β : ℕ
 
-abbrev pub sizesOf : ℕ → ℕ → ℕ → ℕ → ℕ → ℕ → Sizes
-sizesOf h μ ν w ℓ η = record { h = h; μ = μ; ν = ν; w = w; ℓ = ℓ; η = η }
+abbrev pub sizesOf : ℕ → ℕ → ℕ → ℕ → ℕ → ℕ → ℕ → Sizes
+sizesOf h μ ν w ℓ η β = record { h = h; μ = μ; ν = ν; w = w; ℓ = ℓ; η = η; β = β }
 
 -- the children of a node of the tree, the levels below its root, and what a node's string begins with: a function of the sizes each, so that one place says it
 abbrev pub arity : Sizes → ℕ
@@ -38,9 +39,17 @@ leaves s = 2 ^ s .h
 abbrev pub columns : Sizes → ℕ
 columns s = s .w * s .ν
 
--- the rows of the matrix
+-- the rows of the matrix, μ + β
 abbrev pub rows : Sizes → ℕ
-rows s = s .μ
+rows s = s .μ + s .β
+
+-- the coefficients of a polynomial, μν + β
+abbrev pub coefficientCount : Sizes → ℕ
+coefficientCount s = s .μ * s .ν + s .β
+
+-- the blinds of a polynomial: β in each of its columns but the last
+abbrev pub blindCount : Sizes → ℕ
+blindCount s = (s .ν - 1) * s .β
 
 -- d + 1: the value points and the tail points, and the coefficients of a row's polynomial
 abbrev pub width : Sizes → ℕ
@@ -62,12 +71,12 @@ leafPoint i = i
 abbrev pub points : Sizes → List ℕ
 points s = upFrom (leaves s) (width s)
 
--- each size in its range, and wν + ℓ at most N
+-- each size in its range, wν + ℓ at most N, β at most μ, and μ + β at most 64
 unfoldable pub sizesOk : Sizes → Bool
 sizesOk s =
     every
     (within 1 12 (s .h) ∷ within 1 64 (s .μ) ∷ within 1 256 (s .ν) ∷ within 1 256 (s .w) ∷ leb (columns s) 256 ∷ within 1 64 (s .ℓ)
-    ∷ within 1 4 (s .η) ∷ leb (width s) (leaves s) ∷ [])
+    ∷ within 1 4 (s .η) ∷ leb (width s) (leaves s) ∷ within 0 16 (s .β) ∷ leb (s .β) (s .μ) ∷ leb (rows s) 64 ∷ [])
 
 -- the same as facts
 pub record SizesInOrder (s : Sizes) : Type 0 where
@@ -83,6 +92,9 @@ pub record SizesInOrder (s : Sizes) : Type 0 where
   pub η-low : 1 ≤ s .η
   pub η-high : s .η ≤ 4
   pub fits : width s ≤ leaves s
+  pub β-high : s .β ≤ 16
+  pub β-fits : s .β ≤ s .μ
+  pub rows-high : rows s ≤ 64
 
 -- the largest numbers that sizes in order give: leaves, rows, the width, values of a record; and points of a question
 abbrev pub mostLeaves : ℕ
