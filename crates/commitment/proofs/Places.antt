@@ -2,21 +2,30 @@
 use mathlib.Core.Path.{_≡_, ap₂}
 use mathlib.Core.List.{List}
 use Prim.Native.Nat.{ℕ, _+_, _*_, _≤_}
-use native.Mathlib.Nat.{mul-le-mul, mul-le-mul-left, le-trans}
+use native.Mathlib.Nat.{mul-le-mul, mul-le-mul-left, mul-le-mul-right, le-trans}
 use native.Mathlib.Omega.{arith}
 use lib.ListN.{length}
 use Rattle.tree.specs.Sets.{missing}
 use Rattle.tree.specs.Clauses.{IndexSet}
 use Rattle.tree.proofs.Counts.{missing-bound}
-use Rattle.scheme.specs.Sizes.{Sizes, SizesInOrder, width, recordValues}
+use Rattle.scheme.specs.Sizes.{Sizes, SizesInOrder, blindCount, width, recordValues}
 use Rattle.scheme.specs.Reply.{recordLength, answersAt, recordsAt, nodesAt}
 
 module _ (s : Sizes) (g : SizesInOrder s) where
   pub width-high : width s ≤ 320
   width-high = omega (arith, g .columns-high, g .ℓ-high)
 
+  ν-high : s .ν ≤ 256
+  ν-high = let h : 1 * s .ν ≤ s .w * s .ν = mul-le-mul-right (s .ν) (g .w-low) in omega (arith, h, g .columns-high)
+
+  pub rows-of-coefficients-high : s .μ * s .ν ≤ 16384
+  rows-of-coefficients-high = mul-le-mul {n₂ = 64} {m₂ = 256} (g .μ-high) ν-high
+
+  pub blinds-high : blindCount s ≤ 4080
+  blinds-high = mul-le-mul {n₂ = 255} {m₂ = 16} (omega (arith, ν-high)) (g .β-high)
+
   pub values-high : recordValues s ≤ 68
-  values-high = omega (arith, g .μ-high, g .η-high)
+  values-high = omega (arith, g .rows-high, g .η-high)
 
   pub record-high : recordLength s ≤ 304
   record-high = omega (arith, values-high)

@@ -4,14 +4,14 @@ ghost use mathlib.Core.List.{[], _∷_};
 ghost use Prim.Native.Nat.{_+_, _*_, _^_, _≤_};
 ghost use lib.Dec.{leb};
 ghost use Rattle.lists.specs.Tests.{every, within};
-ghost use Rattle.scheme.specs.Sizes.{SizesInOrder, sizesOk, columns, rows, width, recordValues, mostPoints};
+ghost use Rattle.scheme.specs.Sizes.{SizesInOrder, sizesOk, columns, rows, coefficientCount, blindCount, width, recordValues, mostPoints};
 ghost use Rattle.scheme.specs.Question.{headerLength, challengesAt, pointsAt, indicesAt, questionLength};
 ghost use Rattle.scheme.specs.Reply.{recordLength, answersAt, recordsAt, nodesAt};
 ghost use Rattle.commitment.specs.Shape.{sizesIn};
 use codec::both;
 use codec::in_range;
 
-// The sizes of a commitment, `Sizes` of the definitions: depth, rows, columns per polynomial, polynomials, opened leaves, batching repetitions.
+// The sizes of a commitment, `Sizes` of the definitions: depth, rows of coefficients, columns per polynomial, polynomials, opened leaves, batching repetitions, blinding rows.
 pub struct Shape {
     pub h: u32,
     pub mu: u32,
@@ -19,6 +19,7 @@ pub struct Shape {
     pub w: u32,
     pub l: u32,
     pub eta: u32,
+    pub beta: u32,
 }
 
 // ---- the sizes
@@ -31,13 +32,24 @@ pub fn leaf_count(h: u32) -> usize
     1usize << h
 }
 
+// Are the blinding rows in their range, no more than the rows of coefficients, and with these at most 64? No sizes are added up, since they can be any.
+fn blinding_ok(s: Shape) -> bool
+    ensures { λ r. ⌜ r ≡ every (within 0 16 (s .beta) ∷ leb (s .beta) (s .mu) ∷ leb (s .mu + s .beta) 64 ∷ []) ⌝ }
+{
+    if in_range(0, s.beta, 16) {
+        both(s.beta <= s.mu, s.mu <= 64 - s.beta)
+    } else {
+        false
+    }
+}
+
 // Are all sizes but the depth in their ranges, and do the columns and the opened leaves fit?
 fn widths_ok(s: Shape, leaves: u64) -> bool
-    ensures { λ r. ⌜ r ≡ every (within 1 64 (s .mu) ∷ within 1 256 (s .nu) ∷ within 1 256 (s .w) ∷ leb (s .w * s .nu) 256 ∷ within 1 64 (s .l) ∷ within 1 4 (s .eta) ∷ leb (s .w * s .nu + s .l) leaves ∷ []) ⌝ }
+    ensures { λ r. ⌜ r ≡ every (within 1 64 (s .mu) ∷ within 1 256 (s .nu) ∷ within 1 256 (s .w) ∷ leb (s .w * s .nu) 256 ∷ within 1 64 (s .l) ∷ within 1 4 (s .eta) ∷ leb (s .w * s .nu + s .l) leaves ∷ within 0 16 (s .beta) ∷ leb (s .beta) (s .mu) ∷ leb (s .mu + s .beta) 64 ∷ []) ⌝ }
 {
     let columns = (s.w as u64) * (s.nu as u64);
     let few = columns <= 256;
-    let fit = columns + (s.l as u64) <= leaves;
+    let fit = both(columns + (s.l as u64) <= leaves, blinding_ok(s));
     let eta = both(in_range(1, s.eta, 4), fit);
     let l = both(in_range(1, s.l, 64), eta);
     let c = both(few, l);
@@ -46,7 +58,7 @@ fn widths_ok(s: Shape, leaves: u64) -> bool
     both(in_range(1, s.mu, 64), nu)
 }
 
-// Is each size in its range, and wν + ℓ at most N?
+// Is each size in its range, wν + ℓ at most N, β at most μ, and μ + β at most 64?
 pub fn sizes_ok(s: Shape) -> bool
     ensures { λ r. ⌜ r ≡ sizesOk (sizesIn s) ⌝ }
 {
@@ -65,11 +77,26 @@ pub fn column_count(s: Shape) -> usize
     s.w as usize * s.nu as usize
 }
 
-// The rows of the matrix.
+// The rows of the matrix: those of coefficients and the blinding rows.
 pub fn row_count(s: Shape) -> usize
     ensures { λ r. ⌜ r ≡ rows (sizesIn s) ⌝ }
 {
-    s.mu as usize
+    s.mu as usize + s.beta as usize
+}
+
+// The coefficients of a polynomial, and the blinds of one.
+pub fn coefficient_count(s: Shape) -> usize
+    requires { ⌜ SizesInOrder (sizesIn s) ⌝ }
+    ensures { λ r. ⌜ r ≡ coefficientCount (sizesIn s) ⌝ }
+{
+    s.mu as usize * s.nu as usize + s.beta as usize
+}
+
+pub fn blind_count(s: Shape) -> usize
+    requires { ⌜ SizesInOrder (sizesIn s) ⌝ }
+    ensures { λ r. ⌜ r ≡ blindCount (sizesIn s) ⌝ }
+{
+    (s.nu as usize - 1) * s.beta as usize
 }
 
 // The words of a row with its tails, and of an answer, batching or evaluation.
@@ -86,7 +113,7 @@ pub fn row_width(s: Shape) -> usize
 pub fn root_at() -> usize
     ensures { λ r. ⌜ r ≡ headerLength ⌝ }
 {
-    14
+    15
 }
 
 // Where the challenges begin, the evaluation points and the indices, and how long a question is.

@@ -26,17 +26,21 @@ const Q: u64 = 4294967291; // the field's modulus
 
 const CHALLENGE_PREFIX: u8 = 2;
 
-const CHALLENGE_STRING: usize = 47; // the prefix, header, root
+const CHALLENGE_STRING: usize = 48; // the prefix, header, root
 
 const LEAF_PREFIX: u8 = 3;
+
+const LONGEST_QUESTION: usize = 223; // of a conversation
+
+pub const LONGEST_STRING: usize = 15440; // of a leaf draw but for the counter: prefix, question, 12 answers of 320 words
 
 // Room for a draw, 32 bytes and 8 for each of 64 leaves; and for the longest question of a conversation.
 pub fn blank_draw() -> [u8; 544] {
     [0u8; 544]
 }
 
-pub fn blank_question() -> [u8; 222] {
-    [0u8; 222]
+pub fn blank_question() -> [u8; LONGEST_QUESTION] {
+    [0u8; LONGEST_QUESTION]
 }
 
 // A string after a prefix of one byte, to the front of `out`.

@@ -11,18 +11,20 @@ use Rattle.lists.specs.Pieces.{piece}
 use Rattle.lists.specs.Parts.{row-fits}
 use Rattle.scheme.specs.Sizes.{Sizes, rows, columns, width}
 use Rattle.scheme.specs.Layers.{Lent, lentOf, entry, extended, extendedRows}
-use Rattle.lent.specs.Rows.{CanExtend, strided}
+use Rattle.scheme.proofs.Lent.{Counted}
+use Rattle.lent.specs.Rows.{CanLayOut, CanExtend, strided}
 
--- the rows depend on coefficients and tails alone
-pub rows-lent : (s : Sizes) (coefficients tails masks nonces : List ℕ)
-    → extendedRows s (lentOf coefficients tails [] []) ≡ extendedRows s (lentOf coefficients tails masks nonces)
+-- the lengths, as the laws of the matrix ask for them
+pub counted : {s : Sizes} {coefficients blinds : List ℕ} → CanLayOut s coefficients blinds → Counted s coefficients blinds
+counted can = record { sizes = can .sizes; c-length = can .coefficients-length; b-length = can .blinds-length }
+
+-- the rows depend on coefficients, tails and blinds alone
+pub rows-lent : (s : Sizes) (coefficients tails blinds masks nonces : List ℕ)
+    → extendedRows s (lentOf coefficients tails blinds [] []) ≡ extendedRows s (lentOf coefficients tails blinds masks nonces)
 unfolding extended
-rows-lent s coefficients tails masks nonces = refl
+rows-lent s coefficients tails blinds masks nonces = refl
 
-module _ (s : Sizes) (l : Lent) (can : CanExtend s (l .coefficients) (l .tails)) where
-  abbrev c : List ℕ
-  c = l .coefficients
-
+module _ (s : Sizes) (l : Lent) (can : CanExtend s (l .coefficients) (l .tails) (l .blinds)) where
   abbrev t : List ℕ
   t = l .tails
 
@@ -32,20 +34,13 @@ module _ (s : Sizes) (l : Lent) (can : CanExtend s (l .coefficients) (l .tails))
   entries-count : (j : ℕ) → length (map (entry s l j) (upFrom 0 (columns s))) ≡ columns s
   entries-count j = length-map (upFrom 0 (columns s)) _ ∙ length-upFrom 0 (columns s)
 
-  -- the entries of row j are every μ-th coefficient, from coefficient j on
-  entry-is : (j a : ℕ) → j < rows s → strided c j (s .μ) a ≡ entry s l j a
-  unfolding strided
-  entry-is j a h =
-      let e : j + s .μ * a ≡ s .μ * a + j = omega arith in
-      ap (λ (k : ℕ). getD c k 0) e ∙ sym (getD-take (s .μ) (drop (s .μ * a) c) j 0 h ∙ getD-drop (s .μ * a) c j 0)
-
-  pub extended-entry : (j a : ℕ) → j < rows s → a < columns s → getD (extended s l j) a 0 ≡ strided c j (s .μ) a
+  -- first come the row's entries
+  pub extended-entry : (j a : ℕ) → a < columns s → getD (extended s l j) a 0 ≡ entry s l j a
   unfolding extended
-  extended-entry j a h u =
+  extended-entry j a u =
       List·getD-append (map (entry s l j) (upFrom 0 (columns s))) (piece (s .ℓ) j t) 0 a (omega (arith, entries-count j))
       ∙ at-run (entry s l j) 0 (columns s) a 0 u
       ∙ ap (entry s l j) (zero-add a)
-      ∙ sym (entry-is j a h)
 
   -- and after them come ℓ tails
   pub extended-tail : (j i : ℕ) → j < rows s → i < s .ℓ → getD (extended s l j) (columns s + i) 0 ≡ strided t (j * s .ℓ) 1 i
@@ -65,10 +60,5 @@ module _ (s : Sizes) (l : Lent) (can : CanExtend s (l .coefficients) (l .tails))
       ∙ ap₂ _+_ (entries-count j) (length-take-le (s .ℓ) (drop (s .ℓ * j) t) (omega (arith, length-drop (s .ℓ * j) t, tail-room j h)))
 
   -- they stand where the words are
-  pub entries-there : (j n : ℕ) → j < rows s → n ≡ columns s → j + s .μ * n < length c + s .μ
-  entries-there j n h e =
-      let m : s .μ * n ≡ s .μ * columns s = ap (λ (k : ℕ). s .μ * k) e in
-      omega (arith, m, can .coefficients-length)
-
   pub tails-there : (j : ℕ) → j < rows s → j * s .ℓ + 1 * s .ℓ < length t + 1
   tails-there j h = omega (arith, tail-room j h)

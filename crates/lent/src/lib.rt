@@ -9,26 +9,32 @@ ghost use Rattle.commitment.specs.Shape.{sizesIn};
 use codec::both;
 use codec::elements_ok;
 use commitment::Shape;
-use commitment::column_count;
+use commitment::blind_count;
+use commitment::coefficient_count;
 use commitment::leaf_count;
 use commitment::record_values;
 use commitment::row_count;
 use commitment::row_width;
 
 // Is each slice that is lent to be read of its length?
-pub fn lent_ok(s: Shape, coefficients: &[u32], tails: &[u32], masks: &[u32], nonces: &[u8]) -> bool
+pub fn lent_ok(
+    s: Shape,
+    coefficients: &[u32],
+    tails: &[u32],
+    blinds: &[u32],
+    masks: &[u32],
+    nonces: &[u8],
+) -> bool
     requires { ⌜ SizesInOrder (sizesIn s) ⌝ }
-    ensures { λ r. ⌜ r ≡ lentOk (sizesIn s) (lentOf (now (coefficients .entry)) (now (tails .entry)) (now (masks .entry)) (now (nonces .entry))) ⌝ }
+    ensures { λ r. ⌜ r ≡ lentOk (sizesIn s) (lentOf (now (coefficients .entry)) (now (tails .entry)) (now (blinds .entry)) (now (masks .entry)) (now (nonces .entry))) ⌝ }
 {
-    let mu = s.mu as usize;
-    let columns = column_count(s);
-    let width = row_width(s);
-    let n = leaf_count(s.h);
-    let c = coefficients.len() == mu * columns;
+    let w = s.w as usize;
+    let c = coefficients.len() == w * coefficient_count(s);
     let t = tails.len() == row_count(s) * s.l as usize;
-    let m = masks.len() == s.eta as usize * width;
-    let o = nonces.len() == 32 * n;
-    both(c, both(t, both(m, o)))
+    let b = blinds.len() == w * blind_count(s);
+    let m = masks.len() == s.eta as usize * row_width(s);
+    let o = nonces.len() == 32 * leaf_count(s.h);
+    both(c, both(t, both(b, both(m, o))))
 }
 
 // Are the table and the tree of their lengths?
@@ -44,11 +50,12 @@ pub fn filled_ok(s: Shape, table: &[u32], tree: &[u8]) -> bool
 }
 
 // Is each word that is lent to be read below q?
-pub fn lent_elements(coefficients: &[u32], tails: &[u32], masks: &[u32]) -> bool
-    ensures { λ r. ⌜ r ≡ every (lentElements (lentOf (now (coefficients .entry)) (now (tails .entry)) (now (masks .entry)) [])) ⌝ }
+pub fn lent_elements(coefficients: &[u32], tails: &[u32], blinds: &[u32], masks: &[u32]) -> bool
+    ensures { λ r. ⌜ r ≡ every (lentElements (lentOf (now (coefficients .entry)) (now (tails .entry)) (now (blinds .entry)) (now (masks .entry)) [])) ⌝ }
 {
     let c = elements_ok(coefficients);
     let t = elements_ok(tails);
+    let b = elements_ok(blinds);
     let m = elements_ok(masks);
-    both(c, both(t, m))
+    both(c, both(t, both(b, m)))
 }

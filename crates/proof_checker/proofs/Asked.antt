@@ -7,7 +7,7 @@ use lib.ListN.{length}
 use Rattle.lists.specs.Bytes.{Bytes}
 use Rattle.tree.specs.Clauses.{IndexSet}
 use Rattle.scheme.specs.Sizes.{Sizes}
-use Rattle.scheme.specs.Question.{Question, readQuestion, questionLength, headerSizes, questionVerdict}
+use Rattle.scheme.specs.Question.{Question, readQuestion, questionLength, headerSizes, questionVerdict, mostQuestion}
 use Rattle.fiat_shamir.specs.Draw.{drawnBytes, drawnIndices}
 use Rattle.fiat_shamir.specs.CheckProof.{proofDraw, proofIndices}
 use Rattle.fiat_shamir.proofs.Drawn.{Leaves, drawn-leaves, drawn-back, drawn-right}
@@ -22,7 +22,7 @@ module _ (b : Bytes) (s : Shape) (m : ℕ) (o : Offline b (sizesIn s) m) where
   pub facts : Facts b (sizesIn s) m
   facts = offline-facts b (sizesIn s) m o
 
-  pub question-high : questionLength (sizesIn s) m ≤ 222
+  pub question-high : questionLength (sizesIn s) m ≤ mostQuestion
   question-high = omega (arith, facts .few-points, facts .in-order .η-high, facts .in-order .ℓ-high)
 
   -- drawn leaves are a set of ℓ leaves

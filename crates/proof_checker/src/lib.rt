@@ -6,7 +6,7 @@ ghost use Rattle.tree.specs.Clauses.{IndexSet};
 ghost use Rattle.scheme.specs.Sizes.{SizesInOrder, mostPoints};
 ghost use Rattle.scheme.specs.Reply.{recordsAt, nodesAt};
 ghost use Rattle.scheme.specs.Check.{checking};
-ghost use Rattle.fiat_shamir.specs.Draw.{drawnBytes};
+ghost use Rattle.fiat_shamir.specs.Draw.{mostString, drawnBytes};
 ghost use Rattle.fiat_shamir.specs.Prove.{counterLength};
 ghost use Rattle.fiat_shamir.specs.CheckProof.{proofDraw, checkingProof};
 ghost use Rattle.commitment.specs.Shape.{sizesIn};
@@ -24,6 +24,7 @@ use commitment::record_length;
 use commitment::record_values;
 use commitment::records_at;
 use commitment::row_width;
+use drawing::LONGEST_STRING;
 use drawing::blank_draw;
 use drawing::blank_question;
 use drawing::draw_question;
@@ -46,8 +47,8 @@ const FEW: usize = 1024; // a string of at most so many bytes takes a small room
 // ---- the leaf draw
 
 // Room for the longest string: prefix, question, 12 answers of 320 words, counter; and for a short one.
-fn blank_string() -> [u8; 15443] {
-    [0u8; 15443]
+fn blank_string() -> [u8; LONGEST_STRING + COUNTER] {
+    [0u8; LONGEST_STRING + COUNTER]
 }
 
 fn blank_short_string() -> [u8; FEW] {
@@ -69,7 +70,7 @@ fn draw_string(question: &[u8], answers: usize, proof: &[u8], string: &mut [u8],
 
 // The same with a room of its own.
 fn draw_proof(question: &[u8], answers: usize, proof: &[u8], out: &mut [u8])
-    requires { ⌜ (length (now question) + 1 + answers + counterLength ≤ 15443) × (counterLength + answers ≤ length (now proof)) ⌝ }
+    requires { ⌜ (length (now question) + 1 + answers + counterLength ≤ mostString + counterLength) × (counterLength + answers ≤ length (now proof)) ⌝ }
     ensures { λ _. ⌜ now (out .exit) ≡ drawnFrom (now (question .entry)) answers (now (proof .entry)) (length (now (out .entry))) ⌝ }
 {
     let n = question.len() + 1 + answers + COUNTER;

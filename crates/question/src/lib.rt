@@ -27,8 +27,8 @@ use commitment::question_length;
 use commitment::root_at;
 use commitment::sizes_ok;
 
-// "SWQ" and the version, 1, in two bytes.
-const MARK: [u8; 5] = [0x53, 0x57, 0x51, 1, 0];
+// "SWQ" and the version, 2, in two bytes.
+const MARK: [u8; 5] = [0x53, 0x57, 0x51, 2, 0];
 
 // The sizes of a well-formed question and m, its number of points; or the number of a refusal.
 pub enum Questioned {
@@ -56,6 +56,7 @@ fn header_shape(b: &[u8]) -> Shape
     let w = half(b, 9) as u32;
     let l = wide(b[11]);
     let eta = wide(b[12]);
+    let beta = wide(b[14]);
     Shape {
         h: h,
         mu: mu,
@@ -63,6 +64,7 @@ fn header_shape(b: &[u8]) -> Shape
         w: w,
         l: l,
         eta: eta,
+        beta: beta,
     }
 }
 

@@ -11,7 +11,7 @@ use Rattle.lists.specs.Bytes.{Bytes, words}
 use Rattle.lists.specs.Pieces.{pieces, length-pieces}
 use Rattle.lists.specs.Tests.{all, every, each, each-ext, each-swap, all-is-each}
 use Rattle.algebra.specs.Numbers.{evalN, interpN}
-use Rattle.scheme.specs.Sizes.{Sizes, elements, leaves, width, recordValues, points, leafPoint}
+use Rattle.scheme.specs.Sizes.{Sizes, elements, leaves, width, recordValues, points, leafPoint, rows}
 use Rattle.scheme.specs.Question.{Question}
 use Rattle.scheme.specs.Reply.{Reply, readReply, answersAt, recordsAt, recordLength, recordWords}
 use Rattle.scheme.specs.Check.{leafAt, recordAt, pointOf, replyElements, batchingAt, evaluationAt}
@@ -36,9 +36,9 @@ module _ (u : Question) (reply : Bytes) where
   leaf-values a l = ap (words (recordValues s)) (record-at u reply a l)
 
   -- the row values are the first of them
-  row-values : (a : ℕ) → a < s .ℓ → take (s .μ) (recordWords s (recordAt r a)) ≡ rowValuesAt u reply a
+  row-values : (a : ℕ) → a < s .ℓ → take (rows s) (recordWords s (recordAt r a)) ≡ rowValuesAt u reply a
   unfolding recordWordsAt
-  row-values a l = words-front (s .μ) (s .η) (recordAt r a) ∙ ap (words (s .μ)) (record-at u reply a l)
+  row-values a l = words-front (rows s) (s .η) (recordAt r a) ∙ ap (words (rows s)) (record-at u reply a l)
 
   -- ---- 3
 
@@ -77,15 +77,15 @@ module _ (u : Question) (reply : Bytes) where
   -- ---- 9
 
   pub batching-is : length (u .challenges) ≡ u .sizes .η → length (u .indices) ≡ u .sizes .ℓ
-      → each (length (u .challenges)) (batchedRow (width (u .sizes)) (u .sizes .μ) (u .challenges) (batchingWords u reply) (u .indices) (leafValuesAt u reply))
+      → each (length (u .challenges)) (batchedRow (width (u .sizes)) (rows (u .sizes)) (u .challenges) (batchingWords u reply) (u .indices) (leafValuesAt u reply))
       ≡ each (u .sizes .η) (λ k. each (u .sizes .ℓ) (batchingAt u (readReply u reply) k))
   unfolding batchedRow batchedAt batchingAt batchOf
   batching-is c i =
-      ap (λ (n : ℕ). each n (batchedRow (width s) (s .μ) (u .challenges) (batchingWords u reply) (u .indices) (leafValuesAt u reply))) c
-      ∙ each-ext (s .η) (batchedRow (width s) (s .μ) (u .challenges) (batchingWords u reply) (u .indices) (leafValuesAt u reply)) (λ k. each (s .ℓ) (batchingAt u r k))
-      (λ k l. ap (λ (n : ℕ). each n (batchedAt (width s) (s .μ) (u .challenges) (batchingWords u reply) (u .indices) (leafValuesAt u reply) k)) i
-      ∙ each-ext (s .ℓ) (batchedAt (width s) (s .μ) (u .challenges) (batchingWords u reply) (u .indices) (leafValuesAt u reply) k) (batchingAt u r k)
-      (λ a m. ap₂ (λ (p x : List ℕ). eqb (evalN p (leafPoint (leafAt u a))) (batchOf (s .μ) (u .challenges) k x)) (sym (batching-words u reply k l)) (sym (leaf-values a m))))
+      ap (λ (n : ℕ). each n (batchedRow (width s) (rows s) (u .challenges) (batchingWords u reply) (u .indices) (leafValuesAt u reply))) c
+      ∙ each-ext (s .η) (batchedRow (width s) (rows s) (u .challenges) (batchingWords u reply) (u .indices) (leafValuesAt u reply)) (λ k. each (s .ℓ) (batchingAt u r k))
+      (λ k l. ap (λ (n : ℕ). each n (batchedAt (width s) (rows s) (u .challenges) (batchingWords u reply) (u .indices) (leafValuesAt u reply) k)) i
+      ∙ each-ext (s .ℓ) (batchedAt (width s) (rows s) (u .challenges) (batchingWords u reply) (u .indices) (leafValuesAt u reply) k) (batchingAt u r k)
+      (λ a m. ap₂ (λ (p x : List ℕ). eqb (evalN p (leafPoint (leafAt u a))) (batchOf (rows s) (u .challenges) k x)) (sym (batching-words u reply k l)) (sym (leaf-values a m))))
 
   -- ---- 10
 

@@ -162,9 +162,9 @@ module _ (s : Sizes) (root challenges points indices reply : List ℕ) (p : Pose
       batching-tested {t} {wide} {k} g r h =
           h
           ∙ ap (λ (j : ℕ). each (length challenges) (batchedRow wide j challenges batching indices (recordWordsAt at size (j + length challenges) reply))) r
-          ∙ ap₂ (λ (w : ℕ) (x : List ℕ). each (length challenges) (batchedRow w (s .μ) challenges x indices (recordWordsAt at size (s .μ + length challenges) reply))) g (d .batching-read)
-          ∙ ap₂ (λ (i j : ℕ). each (length challenges) (batchedRow (width s) (s .μ) challenges (batchingWords u reply) indices (recordWordsAt i j (s .μ + length challenges) reply))) e f
-          ∙ ap (λ (n : ℕ). each (length challenges) (batchedRow (width s) (s .μ) challenges (batchingWords u reply) indices (recordWordsAt (recordsAt s (length points)) (recordLength s) (s .μ + n) reply))) (p .repetitions)
+          ∙ ap₂ (λ (w : ℕ) (x : List ℕ). each (length challenges) (batchedRow w (rows s) challenges x indices (recordWordsAt at size (rows s + length challenges) reply))) g (d .batching-read)
+          ∙ ap₂ (λ (i j : ℕ). each (length challenges) (batchedRow (width s) (rows s) challenges (batchingWords u reply) indices (recordWordsAt i j (rows s + length challenges) reply))) e f
+          ∙ ap (λ (n : ℕ). each (length challenges) (batchedRow (width s) (rows s) challenges (batchingWords u reply) indices (recordWordsAt (recordsAt s (length points)) (recordLength s) (rows s + n) reply))) (p .repetitions)
           ∙ batching-is u reply (p .repetitions) (p .opened)
 
       pub evaluation-tested : {t : Bool} {first wide k : ℕ} → first ≡ leaves s → wide ≡ width s → k ≡ rows s
@@ -172,9 +172,9 @@ module _ (s : Sizes) (root challenges points indices reply : List ℕ) (p : Pose
       evaluation-tested {t} {first} {wide} {k} g h r i =
           i
           ∙ ap (λ (j : ℕ). each (length indices) (evaluatedLeaf first wide points answers indices (recordWordsAt at size j reply))) r
-          ∙ ap₂ (λ (j k : ℕ). each (length indices) (evaluatedLeaf j k points answers indices (recordWordsAt at size (s .μ) reply))) g h
-          ∙ ap (λ (x : List ℕ). each (length indices) (evaluatedLeaf (leaves s) (width s) points x indices (recordWordsAt at size (s .μ) reply))) (d .answers-read)
-          ∙ ap₂ (λ (j k : ℕ). each (length indices) (evaluatedLeaf (leaves s) (width s) points (answerWords u reply) indices (recordWordsAt j k (s .μ) reply))) e f
+          ∙ ap₂ (λ (j k : ℕ). each (length indices) (evaluatedLeaf j k points answers indices (recordWordsAt at size (rows s) reply))) g h
+          ∙ ap (λ (x : List ℕ). each (length indices) (evaluatedLeaf (leaves s) (width s) points x indices (recordWordsAt at size (rows s) reply))) (d .answers-read)
+          ∙ ap₂ (λ (j k : ℕ). each (length indices) (evaluatedLeaf (leaves s) (width s) points (answerWords u reply) indices (recordWordsAt j k (rows s) reply))) e f
           ∙ evaluation-is u reply refl (p .opened)
 
       pub elements-asks : {n : ℕ} → n ≡ recordValues s → (at + size * length indices ≤ length reply) × (4 * n ≤ size)
@@ -187,7 +187,7 @@ module _ (s : Sizes) (root challenges points indices reply : List ℕ) (p : Pose
         omega (arith, g, p .in-order .ℓ-low),
         indices-small index-set,
         le-of-eq (ap₂ _*_ g (p .repetitions) ∙ sym length-batching),
-        omega (arith, r, p .in-order .μ-high),
+        omega (arith, r, p .in-order .rows-high),
         omega (arith, p .repetitions, p .in-order .η-high),
         omega (arith, f, r, p .repetitions),
         records-fit (d .whole) e f,
@@ -203,7 +203,7 @@ module _ (s : Sizes) (root challenges points indices reply : List ℕ) (p : Pose
         omega (arith, p .opened, p .in-order .ℓ-high),
         omega (arith, h, p .in-order .ℓ-low),
         omega (arith, h, width-high s (p .in-order)),
-        omega (arith, r, p .in-order .μ-high),
+        omega (arith, r, p .in-order .rows-high),
         p .few-points,
         le-of-eq (ap (λ (k : ℕ). k * length points) h ∙ sym length-answers),
         omega (arith, f, r),

@@ -1,4 +1,5 @@
 -- `drawing::challenge_digest` meets its contract.
+use Rattle.scheme.specs.Question.{challengesAt}
 use mathlib.Core.List.{_∷_}
 use Prim.Native.Nat.{suc, ℕ}
 use Rattle.drawing.proofs.Parts.{prefixed-whole}
@@ -33,10 +34,10 @@ digest-requires c κs = search needs
 returns : tie.Need-returns
 returns c =
     let b = c .before .before .before .before .before .before .before .before .args .question .now in
-    let size : length (take (c .before .before .before .before .before .before .challenges-at .result) b) ≡ 46 = length-take-le (c .before .before .before .before .before .before .challenges-at .result) b (search needs) ∙
+    let size : length (take (c .before .before .before .before .before .before .challenges-at .result) b) ≡ challengesAt = length-take-le (c .before .before .before .before .before .before .challenges-at .result) b (search needs) ∙
     c .before .before .before .before .before .before .challenges-at .ensures in
     c .digest .ensures
-    ∙ ap digest (c .before .before .before .put-prefixed .ensures ∙ prefixed-whole 2 (take (c .before .before .before .before .before .before .challenges-at .result) b) (replicate 47 0) (ap suc (sym size)) ∙ ap
+    ∙ ap digest (c .before .before .before .put-prefixed .ensures ∙ prefixed-whole 2 (take (c .before .before .before .before .before .before .challenges-at .result) b) (replicate (suc challengesAt) 0) (ap suc (sym size)) ∙ ap
     (λ (n : ℕ). 2 ∷ take n b) (c .before .before .before .before .before .before .challenges-at .ensures))
 
 pub challenge-digest-spec : {M : Type 1} → statement M

@@ -1,4 +1,5 @@
 -- `proof_checker::check_drawn` meets its contract.
+use Rattle.scheme.specs.Question.{mostQuestion}
 use Rattle.scheme.specs.Check.{checking}
 use Rattle.lists.specs.Bytes.{Bytes}
 use Rattle.checker.proofs.Asking.{checked}
@@ -25,7 +26,7 @@ array-borrow-prefix-asked : tie.Need-array-borrow-prefix-asked
 array-borrow-prefix-asked c =
     let start = c .before .before .before .before .before .before in
     let s = start .args in
-    let n : length (c .blank-question .result) ≡ 222 = search needs in
+    let n : length (c .blank-question .result) ≡ mostQuestion = search needs in
     omega (arith, n, c .before .question-length .ensures, question-high (s .question .now) (s .s) (s .m) (start .pre .0))
 
 slice-aggregate-draw-question : tie.Need-slice-aggregate-draw-question
@@ -34,7 +35,7 @@ slice-aggregate-draw-question c =
     let blank-question = c .before .blank-question in
     let question-length = c .before .before .question-length in
     let s = start .args in
-    let n : length (blank-question .result) ≡ 222 = search needs in
+    let n : length (blank-question .result) ≡ mostQuestion = search needs in
     let room : question-length .result ≤ length (blank-question .result) = omega (arith, n, question-length .ensures, question-high (s .question .now) (s .s) (s .m) (start .pre .0)) in
     sym (length-take-le (question-length .result) (blank-question .result) room)
 
@@ -44,7 +45,7 @@ draw-question-requires c κs =
     let blank-question = c .before .blank-question in
     let question-length = c .before .before .question-length in
     let s = start .args in
-    let n : length (blank-question .result) ≡ 222 = search needs in
+    let n : length (blank-question .result) ≡ mostQuestion = search needs in
     let room : question-length .result ≤ length (blank-question .result) = omega (arith, n, question-length .ensures, question-high (s .question .now) (s .s) (s .m) (start .pre .0)) in (
       start .pre .0,
       start .pre .2,
@@ -58,7 +59,7 @@ array-share-prefix-asked c =
     let question-length = c .before .before .before .before .question-length in
     let draw-question = c .before .draw-question in
     let s = start .args in
-    let n : length (blank-question .result) ≡ 222 = search needs in
+    let n : length (blank-question .result) ≡ mostQuestion = search needs in
     let room : question-length .result ≤ length (blank-question .result) = omega (arith, n, question-length .ensures, question-high (s .question .now) (s .s) (s .m) (start .pre .0)) in
     lent-fits (question-length .result) (draw-question .last .1 .1 .1 .1 .0) (blank-question .result) room (draw-question .kept .1 .1 .1 .1 .0)
 
@@ -69,7 +70,7 @@ slice-aggregate-check-reply c =
     let question-length = c .before .before .before .before .before .question-length in
     let draw-question = c .before .before .draw-question in
     let s = start .args in
-    let n : length (blank-question .result) ≡ 222 = search needs in
+    let n : length (blank-question .result) ≡ mostQuestion = search needs in
     let room : question-length .result ≤ length (blank-question .result) = omega (arith, n, question-length .ensures, question-high (s .question .now) (s .s) (s .m) (start .pre .0)) in
     lent-length (question-length .result) (draw-question .last .1 .1 .1 .1 .0) (blank-question .result) room (draw-question .kept .1 .1 .1 .1 .0)
 
@@ -80,7 +81,7 @@ check-reply-requires c κs =
     let question-length = c .before .before .before .before .before .before .question-length in
     let draw-question = c .before .before .before .draw-question in
     let s = start .args in
-    let n : length (blank-question .result) ≡ 222 = search needs in
+    let n : length (blank-question .result) ≡ mostQuestion = search needs in
     let room : question-length .result ≤ length (blank-question .result) = omega (arith, n, question-length .ensures, question-high (s .question .now) (s .s) (s .m) (start .pre .0)) in
     asked-drawn (s .question .now) (s .s) (s .m) (start .pre .0) (s .indices .now) (start .pre .1) (start .pre .2) _
     (lent-front (question-length .result) (draw-question .last .1 .1 .1 .1 .0) (blank-question .result) room (draw-question .kept .1 .1 .1 .1 .0)
@@ -97,7 +98,7 @@ returns c =
     let draw-question = c .before .before .before .before .before .before .draw-question in
     let check-reply = c .before .before .check-reply in
     let s = start .args in
-    let n : length (blank-question .result) ≡ 222 = search needs in
+    let n : length (blank-question .result) ≡ mostQuestion = search needs in
     let room : question-length .result ≤ length (blank-question .result) = omega (arith, n, question-length .ensures, question-high (s .question .now) (s .s) (s .m) (start .pre .0)) in
     let as-drawn = lent-front (question-length .result) (draw-question .last .1 .1 .1 .1 .0) (blank-question .result) room (draw-question .kept .1 .1 .1 .1 .0)
     ∙ draw-question .ensures in

@@ -39,6 +39,12 @@ shared-slice-read-wide-4 c = search needs
 wide-requires-4 : tie.Need-wide-requires-4
 wide-requires-4 c κs = search needs
 
+shared-slice-read-wide-5 : tie.Need-shared-slice-read-wide-5
+shared-slice-read-wide-5 c = search needs
+
+wide-requires-5 : tie.Need-wide-requires-5
+wide-requires-5 c κs = search needs
+
 returns : tie.Need-returns
 returns c = cc
 
@@ -58,4 +64,6 @@ header-shape-spec =
     wide-requires-3
     shared-slice-read-wide-4
     wide-requires-4
+    shared-slice-read-wide-5
+    wide-requires-5
     returns)
