@@ -77,5 +77,5 @@ leaf-fits s table nonces nodes k n i h hk hn l =
       nonce = omega (arith, h .nonces-length, m);
       node = omega (arith, h .room, m);
       index-small = omega (arith, m, leaves-high s g);
-      few-values = omega (arith, hk, g .μ-high, g .η-high);
+      few-values = omega (arith, hk, g .rows-high, g .η-high);
     }

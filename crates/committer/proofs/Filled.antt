@@ -22,9 +22,9 @@ use Rattle.lent.proofs.Measures.{leaves-low}
 use Rattle.evaluations.specs.Clauses.{Evaluable}
 use Rattle.committer.specs.Clauses.{Hashable, Committable}
 
-module _ (s : Sizes) (coefficients tails masks nonces table nodes : List ℕ) (c : Committable s (lentOf coefficients tails masks nonces) table nodes) where
+module _ (s : Sizes) (coefficients tails blinds masks nonces table nodes : List ℕ) (c : Committable s (lentOf coefficients tails blinds masks nonces) table nodes) where
   abbrev l : Lent
-  l = lentOf coefficients tails masks nonces
+  l = lentOf coefficients tails blinds masks nonces
 
   abbrev r : LentFacts s l
   r = lent-facts s l (c .right)
@@ -36,15 +36,15 @@ module _ (s : Sizes) (coefficients tails masks nonces table nodes : List ℕ) (c
   unfolding filledOk
   lengths = let t = every-true _ (c .filled) in (eqb-true _ _ (t .0), eqb-true _ _ (t .1 .0))
 
-  pub evaluable : Evaluable s coefficients tails masks table
+  pub evaluable : Evaluable s coefficients tails blinds masks table
   evaluable = record {
-    extend = record { sizes = g; coefficients-length = r .c-length; tails-length = r .t-length };
+    extend = record { laid = record { sizes = g; coefficients-length = r .c-length; blinds-length = r .b-length; blinds-below = r .b-below }; tails-length = r .t-length };
     masks-length = r .m-length;
     table-length = lengths .0;
   }
 
   -- the table does not depend on the nonces
-  pub table-is : (t : List ℕ) → t ≡ tableOf s (lentOf coefficients tails masks []) → t ≡ tableOf s l
+  pub table-is : (t : List ℕ) → t ≡ tableOf s (lentOf coefficients tails blinds masks []) → t ≡ tableOf s l
   unfolding tableOf leafValues extended
   table-is t e = e
 

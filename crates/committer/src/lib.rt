@@ -73,16 +73,17 @@ fn fill(
     s: Shape,
     coefficients: &[u32],
     tails: &[u32],
+    blinds: &[u32],
     masks: &[u32],
     nonces: &[u8],
     table: &mut [u32],
     tree: &mut [u8],
 )
-    requires { ⌜ Committable (sizesIn s) (lentOf (now coefficients) (now tails) (now masks) (now nonces)) (now table) (now tree) ⌝ }
-    ensures { λ _. ⌜ now (table .exit) ≡ tableOf (sizesIn s) (lentOf (now (coefficients .entry)) (now (tails .entry)) (now (masks .entry)) (now (nonces .entry))) ⌝ }
-    ensures { λ _. ⌜ now (tree .exit) ≡ treeOf (sizesIn s) (lentOf (now (coefficients .entry)) (now (tails .entry)) (now (masks .entry)) (now (nonces .entry))) ⌝ }
+    requires { ⌜ Committable (sizesIn s) (lentOf (now coefficients) (now tails) (now blinds) (now masks) (now nonces)) (now table) (now tree) ⌝ }
+    ensures { λ _. ⌜ now (table .exit) ≡ tableOf (sizesIn s) (lentOf (now (coefficients .entry)) (now (tails .entry)) (now (blinds .entry)) (now (masks .entry)) (now (nonces .entry))) ⌝ }
+    ensures { λ _. ⌜ now (tree .exit) ≡ treeOf (sizesIn s) (lentOf (now (coefficients .entry)) (now (tails .entry)) (now (blinds .entry)) (now (masks .entry)) (now (nonces .entry))) ⌝ }
 {
-    fill_table(s, coefficients, tails, masks, table);
+    fill_table(s, coefficients, tails, blinds, masks, table);
     hash_leaves(s, table, nonces, tree);
     fill_tree(s.h as usize, leaf_count(s.h), tree);
 }
@@ -92,23 +93,24 @@ fn verdict(
     s: Shape,
     coefficients: &[u32],
     tails: &[u32],
+    blinds: &[u32],
     masks: &[u32],
     nonces: &[u8],
     table: &[u32],
     tree: &[u8],
 ) -> u32
-    ensures { λ r. ⌜ r ≡ commitVerdict (sizesIn s) (lentOf (now (coefficients .entry)) (now (tails .entry)) (now (masks .entry)) (now (nonces .entry))) (now (table .entry)) (now (tree .entry)) ⌝ }
+    ensures { λ r. ⌜ r ≡ commitVerdict (sizesIn s) (lentOf (now (coefficients .entry)) (now (tails .entry)) (now (blinds .entry)) (now (masks .entry)) (now (nonces .entry))) (now (table .entry)) (now (tree .entry)) ⌝ }
 {
     if !sizes_ok(s) {
         return 1;
     }
-    if !lent_ok(s, coefficients, tails, masks, nonces) {
+    if !lent_ok(s, coefficients, tails, blinds, masks, nonces) {
         return 2;
     }
     if !filled_ok(s, table, tree) {
         return 2;
     }
-    if !lent_elements(coefficients, tails, masks) {
+    if !lent_elements(coefficients, tails, blinds, masks) {
         return 3;
     }
     0
@@ -122,14 +124,16 @@ pub fn commit(
     w: u32,
     l: u32,
     eta: u32,
+    beta: u32,
     coefficients: &[u32],
     tails: &[u32],
+    blinds: &[u32],
     masks: &[u32],
     nonces: &[u8],
     table: &mut [u32],
     tree: &mut [u8],
 ) -> u32
-    ensures { λ r. ⌜ (r, now (table .exit), now (tree .exit)) ≡ committing (sizesOf h mu nu w l eta) (lentOf (now (coefficients .entry)) (now (tails .entry)) (now (masks .entry)) (now (nonces .entry))) (now (table .entry)) (now (tree .entry)) ⌝ }
+    ensures { λ r. ⌜ (r, now (table .exit), now (tree .exit)) ≡ committing (sizesOf h mu nu w l eta beta) (lentOf (now (coefficients .entry)) (now (tails .entry)) (now (blinds .entry)) (now (masks .entry)) (now (nonces .entry))) (now (table .entry)) (now (tree .entry)) ⌝ }
 {
     let s = Shape {
         h: h,
@@ -138,11 +142,12 @@ pub fn commit(
         w: w,
         l: l,
         eta: eta,
+        beta: beta,
     };
-    let v = verdict(s, coefficients, tails, masks, nonces, table, tree);
+    let v = verdict(s, coefficients, tails, blinds, masks, nonces, table, tree);
     if v != 0 {
         return v;
     }
-    fill(s, coefficients, tails, masks, nonces, table, tree);
+    fill(s, coefficients, tails, blinds, masks, nonces, table, tree);
     0
 }

@@ -51,7 +51,7 @@ interp-entry n width row fit len t l =
     inside = omega (arith, length-upFrom n width)
 
 -- the lanes of rows are the values of their polynomials
-pub rows-through : (s : Sizes) (l : Lent) → CanExtend s (l .coefficients) (l .tails) → SizesInOrder s → (lo lanes w n : ℕ) (values : List ℕ) → lo + lanes ≤ rows s → w ≡ width s → n ≡ leaves s
+pub rows-through : (s : Sizes) (l : Lent) → CanExtend s (l .coefficients) (l .tails) (l .blinds) → SizesInOrder s → (lo lanes w n : ℕ) (values : List ℕ) → lo + lanes ≤ rows s → w ≡ width s → n ≡ leaves s
     → RowLanes s l lo lanes values → Through (λ (j : ℕ). rowPolynomial s l (lo + j)) values w n lanes
 unfolding RowLanes Lane Through interpN
 rows-through s l can g lo lanes w n values u hw hn h j b = (omega (arith, short, hw), λ t k. value t k)
@@ -146,23 +146,25 @@ module _ (s : Sizes) (g : SizesInOrder s) (n w k : ℕ) (hn : n ≡ leaves s) (h
   pub row-columns : (l : Lent) (m : ℕ) (table : List ℕ) → Columns (rowPolynomial s l) m n 0 k table → Columns (rowPolynomial s l) m (leaves s) 0 (recordValues s) table
   row-columns l m table h = subst (λ (b : ℕ). Columns (rowPolynomial s l) m (leaves s) 0 b table) hk (subst (λ (a : ℕ). Columns (rowPolynomial s l) m a 0 k table) hn h)
 
-  pub mask-columns : (c : ℕ) (masks values table : List ℕ) → c ≡ w → length masks ≡ s .η * width s → MaskLanes n masks c (s .η) c values → Extrapolated values w (s .η) n (rows s) k table
-      → Columns (λ (j : ℕ). piece (width s) j masks) (s .η) (leaves s) (rows s) (recordValues s) table
+  pub mask-columns : (c at : ℕ) (masks values table : List ℕ) → c ≡ w → at ≡ rows s → length masks ≡ s .η * width s → MaskLanes n masks c (s .η) c values
+      → Extrapolated values w (s .η) n at k table → Columns (λ (j : ℕ). piece (width s) j masks) (s .η) (leaves s) (rows s) (recordValues s) table
   unfolding Extrapolated
-  mask-columns c masks values table e len lanes h =
+  mask-columns c at masks values table e f len lanes h =
       subst (λ (b : ℕ). Columns (λ (j : ℕ). piece (width s) j masks) (s .η) (leaves s) (rows s) b table) hk
-      (subst (λ (a : ℕ). Columns (λ (j : ℕ). piece (width s) j masks) (s .η) a (rows s) k table) hn
-      (subst (λ (d : ℕ). Columns (λ (j : ℕ). piece d j masks) (s .η) n (rows s) k table) hw
-      (h (λ (j : ℕ). piece w j masks) (masks-through masks (s .η) w n values (len ∙ ap (λ (d : ℕ). s .η * d) (sym hw)) (subst (λ (d : ℕ). MaskLanes n masks d (s .η) d values) e lanes)))))
+      (subst (λ (b : ℕ). Columns (λ (j : ℕ). piece (width s) j masks) (s .η) (leaves s) b k table) f
+      (subst (λ (a : ℕ). Columns (λ (j : ℕ). piece (width s) j masks) (s .η) a at k table) hn
+      (subst (λ (d : ℕ). Columns (λ (j : ℕ). piece d j masks) (s .η) n at k table) hw
+      (h (λ (j : ℕ). piece w j masks)
+      (masks-through masks (s .η) w n values (len ∙ ap (λ (d : ℕ). s .η * d) (sym hw)) (subst (λ (d : ℕ). MaskLanes n masks d (s .η) d values) e lanes))))))
 
-  pub kept-columns : (t t′ : List ℕ) → KeptColumns k (rows s) (s .η) t t′ → KeptColumns (recordValues s) (rows s) (s .η) t t′
-  kept-columns t t′ h = subst (λ (b : ℕ). KeptColumns b (rows s) (s .η) t t′) hk h
+  pub kept-columns : (at : ℕ) (t t′ : List ℕ) → at ≡ rows s → KeptColumns k at (s .η) t t′ → KeptColumns (recordValues s) (rows s) (s .η) t t′
+  kept-columns at t t′ f h = subst (λ (b : ℕ). KeptColumns b (rows s) (s .η) t t′) hk (subst (λ (b : ℕ). KeptColumns k b (s .η) t t′) f h)
 
 -- rows do not depend on the masks
-pub columns-lent : (s : Sizes) (coefficients tails masks table : List ℕ) → Columns (rowPolynomial s (lentOf coefficients tails [] [])) (rows s) (leaves s) 0 (recordValues s) table
-    → Columns (rowPolynomial s (lentOf coefficients tails masks [])) (rows s) (leaves s) 0 (recordValues s) table
+pub columns-lent : (s : Sizes) (coefficients tails blinds masks table : List ℕ) → Columns (rowPolynomial s (lentOf coefficients tails blinds [] [])) (rows s) (leaves s) 0 (recordValues s) table
+    → Columns (rowPolynomial s (lentOf coefficients tails blinds masks [])) (rows s) (leaves s) 0 (recordValues s) table
 unfolding extended
-columns-lent s coefficients tails masks table h = h
+columns-lent s coefficients tails blinds masks table h = h
 
 -- ---- the whole table, column by column
 

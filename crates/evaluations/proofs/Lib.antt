@@ -2,6 +2,7 @@
 
 -- rows and masks gathered as lanes
 pub mod Gathering
+pub mod Entries
 pub mod Masks
 -- the columns that extrapolating leaves
 pub mod Columns

@@ -14,7 +14,7 @@ pub record Room (width : ℕ) (values lines : List ℕ) : Type 0 where
   pub small : Small lines
 
 -- sizes in their ranges, as many words as they ask, and a table of its length
-pub record Evaluable (s : Sizes) (coefficients tails masks table : List ℕ) : Type 0 where
-  pub extend : CanExtend s coefficients tails
+pub record Evaluable (s : Sizes) (coefficients tails blinds masks table : List ℕ) : Type 0 where
+  pub extend : CanExtend s coefficients tails blinds
   pub masks-length : length masks ≡ s .η * width s
   pub table-length : length table ≡ leaves s * recordValues s

@@ -5,27 +5,31 @@ ghost use Prim.Native.Nat.{ℕ, _+_, _*_, _<_, _≤_};
 ghost use lib.ListN.{length};
 ghost use Rattle.lists.specs.Pieces.{pieces, piece};
 ghost use Rattle.algebra.specs.Prime.{q};
-ghost use Rattle.algebra.specs.Numbers.{valuesAtN};
+ghost use Rattle.algebra.specs.Numbers.{Elements, valuesAtN};
 ghost use Rattle.stepping.specs.Lanes.{Small, KeptLanes};
 ghost use Rattle.extrapolation.specs.Written.{KeptColumns};
 ghost use Rattle.extrapolation.specs.Extrapolated.{Columns};
-ghost use Rattle.scheme.specs.Sizes.{SizesInOrder, leaves, rows, width, recordValues, mostWidth};
+ghost use Rattle.scheme.specs.Sizes.{SizesInOrder, leaves, rows, columns, width, recordValues, mostWidth};
 ghost use Rattle.scheme.specs.Layers.{lentOf, extended};
 ghost use Rattle.scheme.specs.Commit.{tableOf};
 ghost use Rattle.commitment.specs.Shape.{sizesIn};
-ghost use Rattle.lent.specs.Rows.{CanExtend, strided};
-ghost use Rattle.evaluations.specs.Values.{Gathered, Lane, RowLanes, MaskLanes, rowPolynomial};
+ghost use Rattle.lent.specs.Rows.{CanLayOut, CanExtend, strided};
+ghost use Rattle.evaluations.specs.Values.{stridedDifference, Gathered, EntriesGathered, Lane, RowLanes, MaskLanes, rowPolynomial};
 ghost use Rattle.evaluations.specs.Clauses.{Room, Evaluable};
 use commitment::Shape;
+use commitment::blind_count;
+use commitment::coefficient_count;
 use commitment::column_count;
 use commitment::leaf_count;
 use commitment::record_values;
+use commitment::row_count;
 use commitment::row_width;
 use extrapolation::extrapolate;
 use extrapolation::least;
 use field::Element;
 use field::point;
 use field::powers;
+use field::subtract;
 use sums::dots;
 
 // The widest row, and up to which width rows take small arrays.
@@ -55,21 +59,137 @@ fn gather_lane(
     }
 }
 
-// A row with its tails, as lane j. A row's entries stand one column apart, its tails one after the other.
-fn gather_row(
+// Such elements, each lowered by a blind: these stand `apart` from the one at `start` on.
+fn gather_lowered(
+    elements: &[u32],
+    first: usize,
+    step: usize,
+    blinds: &[u32],
+    start: usize,
+    apart: usize,
+    count: usize,
+    to: usize,
+    j: usize,
+    values: &mut [u32],
+)
+    requires { ⌜ (j < 4) × (first + step * count < length (now elements) + step) × (start + apart * count < length (now blinds) + apart) × Elements (now blinds) × (4 * (to + count) ≤ length (now values)) ⌝ }
+    ensures { λ _. ⌜ KeptLanes (now (values .entry)) j (now (values .exit)) × Gathered (stridedDifference (now (elements .entry)) first step (now (blinds .entry)) start apart) count to j (now (values .entry)) (now (values .exit)) ⌝ }
+{
+    let mut i = 0;
+    while i < count {
+        let a = Element(elements[first + step * i]);
+        let b = Element(blinds[start + apart * i]);
+        values[4 * (to + i) + j] = subtract(a, b).0;
+        i += 1;
+    }
+}
+
+// ---- the columns of polynomial i
+
+// A row of coefficients, μ apart: in the first β rows all but column 0 are lowered by the blinds of the column before.
+fn gather_coefficients(
     s: Shape,
     coefficients: &[u32],
-    tails: &[u32],
+    blinds: &[u32],
+    i: usize,
     row: usize,
     j: usize,
     values: &mut [u32],
 )
-    requires { ⌜ CanExtend (sizesIn s) (now coefficients) (now tails) × (row < rows (sizesIn s)) × (j < 4) × (4 * width (sizesIn s) ≤ length (now values)) ⌝ }
-    ensures { λ _. ⌜ KeptLanes (now (values .entry)) j (now (values .exit)) × Lane (extended (sizesIn s) (lentOf (now (coefficients .entry)) (now (tails .entry)) [] []) row) (width (sizesIn s)) j (now (values .exit)) ⌝ }
+    requires { ⌜ CanLayOut (sizesIn s) (now coefficients) (now blinds) × (i < s .w) × (row < s .mu) × (j < 4) × (4 * columns (sizesIn s) ≤ length (now values)) ⌝ }
+    ensures { λ _. ⌜ EntriesGathered (sizesIn s) (lentOf (now (coefficients .entry)) [] (now (blinds .entry)) [] []) i row j (now (values .entry)) (now (values .exit)) ⌝ }
+{
+    let mu = s.mu as usize;
+    let nu = s.nu as usize;
+    let beta = s.beta as usize;
+    let first = coefficient_count(s) * i + row;
+    let to = nu * i;
+    if row < beta {
+        let start = blind_count(s) * i + row;
+        gather_lane(coefficients, first, mu, 1, to, j, values);
+        gather_lowered(
+            coefficients,
+            first + mu,
+            mu,
+            blinds,
+            start,
+            beta,
+            nu - 1,
+            to + 1,
+            j,
+            values,
+        );
+    } else {
+        gather_lane(coefficients, first, mu, nu, to, j, values);
+    }
+}
+
+// Blinding row b: the blinds, β apart, and in the last column top coefficient b.
+fn gather_blinds(
+    s: Shape,
+    coefficients: &[u32],
+    blinds: &[u32],
+    i: usize,
+    b: usize,
+    j: usize,
+    values: &mut [u32],
+)
+    requires { ⌜ CanLayOut (sizesIn s) (now coefficients) (now blinds) × (i < s .w) × (b < s .beta) × (j < 4) × (4 * columns (sizesIn s) ≤ length (now values)) ⌝ }
+    ensures { λ _. ⌜ EntriesGathered (sizesIn s) (lentOf (now (coefficients .entry)) [] (now (blinds .entry)) [] []) i (s .mu + b) j (now (values .entry)) (now (values .exit)) ⌝ }
+{
+    let nu = s.nu as usize;
+    let beta = s.beta as usize;
+    let last = nu - 1;
+    let to = nu * i;
+    let top = coefficient_count(s) * i + s.mu as usize * nu;
+    gather_lane(blinds, blind_count(s) * i + b, beta, last, to, j, values);
+    gather_lane(coefficients, top + b, 1, 1, to + last, j, values);
+}
+
+// Any row: those from μ on are blinding rows.
+fn gather_polynomial(
+    s: Shape,
+    coefficients: &[u32],
+    blinds: &[u32],
+    i: usize,
+    row: usize,
+    j: usize,
+    values: &mut [u32],
+)
+    requires { ⌜ CanLayOut (sizesIn s) (now coefficients) (now blinds) × (i < s .w) × (row < rows (sizesIn s)) × (j < 4) × (4 * columns (sizesIn s) ≤ length (now values)) ⌝ }
+    ensures { λ _. ⌜ EntriesGathered (sizesIn s) (lentOf (now (coefficients .entry)) [] (now (blinds .entry)) [] []) i row j (now (values .entry)) (now (values .exit)) ⌝ }
+{
+    let mu = s.mu as usize;
+    if row < mu {
+        gather_coefficients(s, coefficients, blinds, i, row, j, values);
+    } else {
+        gather_blinds(s, coefficients, blinds, i, row - mu, j, values);
+    }
+}
+
+// ---- whole rows
+
+// A row with its tails, as lane j: polynomial by polynomial, then the tails, which stand one after the other.
+fn gather_row(
+    s: Shape,
+    coefficients: &[u32],
+    tails: &[u32],
+    blinds: &[u32],
+    row: usize,
+    j: usize,
+    values: &mut [u32],
+)
+    requires { ⌜ CanExtend (sizesIn s) (now coefficients) (now tails) (now blinds) × (row < rows (sizesIn s)) × (j < 4) × (4 * width (sizesIn s) ≤ length (now values)) ⌝ }
+    ensures { λ _. ⌜ KeptLanes (now (values .entry)) j (now (values .exit)) × Lane (extended (sizesIn s) (lentOf (now (coefficients .entry)) (now (tails .entry)) (now (blinds .entry)) [] []) row) (width (sizesIn s)) j (now (values .exit)) ⌝ }
 {
     let columns = column_count(s);
     let l = s.l as usize;
-    gather_lane(coefficients, row, s.mu as usize, columns, 0, j, values);
+    let w = s.w as usize;
+    let mut i = 0;
+    while i < w {
+        gather_polynomial(s, coefficients, blinds, i, row, j, values);
+        i += 1;
+    }
     gather_lane(tails, row * l, 1, l, columns, j, values);
 }
 
@@ -78,16 +198,17 @@ fn gather_rows(
     s: Shape,
     coefficients: &[u32],
     tails: &[u32],
+    blinds: &[u32],
     lo: usize,
     lanes: usize,
     values: &mut [u32],
 )
-    requires { ⌜ CanExtend (sizesIn s) (now coefficients) (now tails) × (lo + lanes ≤ rows (sizesIn s)) × (lanes ≤ 4) × (4 * width (sizesIn s) ≤ length (now values)) ⌝ }
-    ensures { λ _. ⌜ RowLanes (sizesIn s) (lentOf (now (coefficients .entry)) (now (tails .entry)) [] []) lo lanes (now (values .exit)) ⌝ }
+    requires { ⌜ CanExtend (sizesIn s) (now coefficients) (now tails) (now blinds) × (lo + lanes ≤ rows (sizesIn s)) × (lanes ≤ 4) × (4 * width (sizesIn s) ≤ length (now values)) ⌝ }
+    ensures { λ _. ⌜ RowLanes (sizesIn s) (lentOf (now (coefficients .entry)) (now (tails .entry)) (now (blinds .entry)) [] []) lo lanes (now (values .exit)) ⌝ }
 {
     let mut j = 0;
     while j < lanes {
-        gather_row(s, coefficients, tails, lo + j, j, values);
+        gather_row(s, coefficients, tails, blinds, lo + j, j, values);
         j += 1;
     }
 }
@@ -123,21 +244,22 @@ fn fill_rows(
     s: Shape,
     coefficients: &[u32],
     tails: &[u32],
+    blinds: &[u32],
     values: &mut [u32],
     lines: &mut [u64],
     table: &mut [u32],
 )
-    requires { ⌜ CanExtend (sizesIn s) (now coefficients) (now tails) × Room (width (sizesIn s)) (now values) (now lines) × (length (now table) ≡ leaves (sizesIn s) * recordValues (sizesIn s)) ⌝ }
-    ensures { λ _. ⌜ Small (now (lines .exit)) × Columns (rowPolynomial (sizesIn s) (lentOf (now (coefficients .entry)) (now (tails .entry)) [] [])) (rows (sizesIn s)) (leaves (sizesIn s)) 0 (recordValues (sizesIn s)) (now (table .exit)) ⌝ }
+    requires { ⌜ CanExtend (sizesIn s) (now coefficients) (now tails) (now blinds) × Room (width (sizesIn s)) (now values) (now lines) × (length (now table) ≡ leaves (sizesIn s) * recordValues (sizesIn s)) ⌝ }
+    ensures { λ _. ⌜ Small (now (lines .exit)) × Columns (rowPolynomial (sizesIn s) (lentOf (now (coefficients .entry)) (now (tails .entry)) (now (blinds .entry)) [] [])) (rows (sizesIn s)) (leaves (sizesIn s)) 0 (recordValues (sizesIn s)) (now (table .exit)) ⌝ }
 {
     let n = leaf_count(s.h);
     let width = row_width(s);
     let stride = record_values(s);
-    let mu = s.mu as usize;
+    let rows = row_count(s);
     let mut lo = 0;
-    while lo < mu {
-        let lanes = least(4, mu - lo);
-        gather_rows(s, coefficients, tails, lo, lanes, values);
+    while lo < rows {
+        let lanes = least(4, rows - lo);
+        gather_rows(s, coefficients, tails, blinds, lo, lanes, values);
         extrapolate(values, width, lanes, n, lines, lo, stride, table);
         lo += lanes;
     }
@@ -158,10 +280,10 @@ fn fill_masks(
     let n = leaf_count(s.h);
     let width = row_width(s);
     let stride = record_values(s);
-    let mu = s.mu as usize;
+    let rows = row_count(s);
     let eta = s.eta as usize;
     gather_masks(Element(n as u32), masks, eta, &mut weights[..width], values);
-    extrapolate(values, width, eta, n, lines, mu, stride, table);
+    extrapolate(values, width, eta, n, lines, rows, stride, table);
 }
 
 // The columns of the rows, then those of the masks.
@@ -169,16 +291,17 @@ fn fill_columns(
     s: Shape,
     coefficients: &[u32],
     tails: &[u32],
+    blinds: &[u32],
     masks: &[u32],
     weights: &mut [u32],
     values: &mut [u32],
     lines: &mut [u64],
     table: &mut [u32],
 )
-    requires { ⌜ Evaluable (sizesIn s) (now coefficients) (now tails) (now masks) (now table) × (width (sizesIn s) ≤ length (now weights)) × Room (width (sizesIn s)) (now values) (now lines) ⌝ }
-    ensures { λ _. ⌜ now (table .exit) ≡ tableOf (sizesIn s) (lentOf (now (coefficients .entry)) (now (tails .entry)) (now (masks .entry)) []) ⌝ }
+    requires { ⌜ Evaluable (sizesIn s) (now coefficients) (now tails) (now blinds) (now masks) (now table) × (width (sizesIn s) ≤ length (now weights)) × Room (width (sizesIn s)) (now values) (now lines) ⌝ }
+    ensures { λ _. ⌜ now (table .exit) ≡ tableOf (sizesIn s) (lentOf (now (coefficients .entry)) (now (tails .entry)) (now (blinds .entry)) (now (masks .entry)) []) ⌝ }
 {
-    fill_rows(s, coefficients, tails, values, lines, table);
+    fill_rows(s, coefficients, tails, blinds, values, lines, table);
     fill_masks(s, masks, weights, values, lines, table);
 }
 
@@ -212,9 +335,16 @@ fn blank_few_lines() -> [u64; 4 * FEW]
 }
 
 // The table: all leaves' values. Narrow rows take small arrays, since arrays are cleared.
-pub fn fill_table(s: Shape, coefficients: &[u32], tails: &[u32], masks: &[u32], table: &mut [u32])
-    requires { ⌜ Evaluable (sizesIn s) (now coefficients) (now tails) (now masks) (now table) ⌝ }
-    ensures { λ _. ⌜ now (table .exit) ≡ tableOf (sizesIn s) (lentOf (now (coefficients .entry)) (now (tails .entry)) (now (masks .entry)) []) ⌝ }
+pub fn fill_table(
+    s: Shape,
+    coefficients: &[u32],
+    tails: &[u32],
+    blinds: &[u32],
+    masks: &[u32],
+    table: &mut [u32],
+)
+    requires { ⌜ Evaluable (sizesIn s) (now coefficients) (now tails) (now blinds) (now masks) (now table) ⌝ }
+    ensures { λ _. ⌜ now (table .exit) ≡ tableOf (sizesIn s) (lentOf (now (coefficients .entry)) (now (tails .entry)) (now (blinds .entry)) (now (masks .entry)) []) ⌝ }
 {
     if row_width(s) <= FEW {
         let mut weights = blank_few_weights();
@@ -224,6 +354,7 @@ pub fn fill_table(s: Shape, coefficients: &[u32], tails: &[u32], masks: &[u32], 
             s,
             coefficients,
             tails,
+            blinds,
             masks,
             &mut weights,
             &mut values,
@@ -238,6 +369,7 @@ pub fn fill_table(s: Shape, coefficients: &[u32], tails: &[u32], masks: &[u32], 
             s,
             coefficients,
             tails,
+            blinds,
             masks,
             &mut weights,
             &mut values,

@@ -1,9 +1,8 @@
 -- `evaluations::fill_masks` meets its contract.
-use mathlib.Core.Path.{sym}
 use mathlib.Core.List.{List}
+use mathlib.Core.Path.{sym}
 use Prim.Native.Nat.{ℕ}
 use lib.ListN.{length, take}
-use Rattle.scheme.specs.Sizes.{rows}
 use Rattle.commitment.specs.Shape.{sizesIn}
 use Rattle.evaluations.proofs.Columns.{leaves-most, front-count, masks-asked, extrapolation-asked, mask-columns, kept-columns}
 use borrow.Author.Needs.{needs}
@@ -20,8 +19,8 @@ row-width-requires c κs = search needs
 record-values-requires : tie.Need-record-values-requires
 record-values-requires c κs = search needs
 
-cast-mu : tie.Need-cast-mu
-cast-mu c = search needs
+row-count-requires : tie.Need-row-count-requires
+row-count-requires c κs = search needs
 
 cast-eta : tie.Need-cast-eta
 cast-eta c = search needs
@@ -39,33 +38,36 @@ slice-relend-prefix-gather-masks c = search needs
 
 slice-aggregate-gather-masks : tie.Need-slice-aggregate-gather-masks
 slice-aggregate-gather-masks c =
+    let leaf = c .before .before .before .before .before .leaf-count in
+    let wide = c .before .before .before .before .row-width in
+    let stride = c .before .before .before .record-values in
     let a = c .before .before .before .before .before .before .before .before .before .before .before .args in
-    sym (front-count (sizesIn (a .s)) (c .before .before .before .before .before .before .before .before .before .before .before .pre .0) (c .before .before .before .before .before .leaf-count .result)
-    (c .before .before .before .before .row-width .result) (c .before .before .before .record-values .result) (c .before .before .before .before .before .leaf-count .ensures)
-    (c .before .before .before .before .row-width .ensures) (c .before .before .before .record-values .ensures) (a .weights .now) (c .before .before .before .before .before .before .before .before .before .before .before .pre .2))
+    let pre = c .before .before .before .before .before .before .before .before .before .before .before .pre in
+    sym (front-count (sizesIn (a .s)) (pre .0) (leaf .result) (wide .result) (stride .result) (leaf .ensures) (wide .ensures) (stride .ensures) (a .weights .now) (pre .2))
 
 gather-masks-requires : tie.Need-gather-masks-requires
 gather-masks-requires c κs =
-    let a = c .before .before .before .before .before .before .before .before .before .before .before .before .args in let pre = c .before .before .before .before .before .before .before .before .before .before .before .before .pre in
-    let count = front-count (sizesIn (a .s)) (pre .0) (c .before .before .before .before .before .before .leaf-count .result) (c .before .before .before .before .before .row-width .result)
-    (c .before .before .before .before .record-values .result) (c .before .before .before .before .before .before .leaf-count .ensures) (c .before .before .before .before .before .row-width .ensures)
-    (c .before .before .before .before .record-values .ensures) (a .weights .now) (pre .2) in
-    masks-asked (sizesIn (a .s)) (pre .0) (c .before .before .before .before .before .before .leaf-count .result) (c .before .before .before .before .before .row-width .result)
-    (c .before .before .before .before .record-values .result) (c .before .before .before .before .before .before .leaf-count .ensures) (c .before .before .before .before .before .row-width .ensures)
-    (c .before .before .before .before .record-values .ensures) (length (take (c .before .before .before .before .before .row-width .result) (a .weights .now))) (a .masks .now) (a .values .now) count (pre .1) (pre .3 .points)
+    let leaf = c .before .before .before .before .before .before .leaf-count in
+    let wide = c .before .before .before .before .before .row-width in
+    let stride = c .before .before .before .before .record-values in
+    let a = c .before .before .before .before .before .before .before .before .before .before .before .before .args in
+    let pre = c .before .before .before .before .before .before .before .before .before .before .before .before .pre in
+    let count = front-count (sizesIn (a .s)) (pre .0) (leaf .result) (wide .result) (stride .result) (leaf .ensures) (wide .ensures) (stride .ensures) (a .weights .now) (pre .2) in
+    masks-asked (sizesIn (a .s)) (pre .0) (leaf .result) (wide .result) (stride .result) (leaf .ensures) (wide .ensures) (stride .ensures)
+    (length (take (wide .result) (a .weights .now))) (a .masks .now) (a .values .now) count (pre .1) (pre .3 .points)
 
 extrapolate-requires : tie.Need-extrapolate-requires
 extrapolate-requires c κs =
-    let a = c .before .before .before .before .before .before .before .before .before .before .before .before .before .before .before .before .before .before .before .before .args in let pre =
-    c .before .before .before .before .before .before .before .before .before .before .before .before .before .before .before .before .before .before .before .before .pre in
-    extrapolation-asked (sizesIn (a .s)) (pre .0) (c .before .before .before .before .before .before .before .before .before .before .before .before .before .before .leaf-count .result)
-    (c .before .before .before .before .before .before .before .before .before .before .before .before .before .row-width .result)
-    (c .before .before .before .before .before .before .before .before .before .before .before .before .record-values .result)
-    (c .before .before .before .before .before .before .before .before .before .before .before .before .before .before .leaf-count .ensures)
-    (c .before .before .before .before .before .before .before .before .before .before .before .before .before .row-width .ensures)
-    (c .before .before .before .before .before .before .before .before .before .before .before .before .record-values .ensures) (rows (sizesIn (a .s))) (a .s .eta)
-    (c .before .before .before .before .before .before .before .gather-masks .last .1 .1 .1 .1 .0) (a .lines .now) (a .table .now) (pre .0 .η-high) (omega arith)
-    (omega (arith, pre .3 .points, c .before .before .before .before .before .before .before .gather-masks .kept .1 .1 .1 .1 .0)) (pre .3 .orders) (pre .3 .small) (pre .4)
+    let leaf = c .before .before .before .before .before .before .before .before .before .before .before .before .before .before .leaf-count in
+    let wide = c .before .before .before .before .before .before .before .before .before .before .before .before .before .row-width in
+    let stride = c .before .before .before .before .before .before .before .before .before .before .before .before .record-values in
+    let height = c .before .before .before .before .before .before .before .before .before .before .before .row-count in
+    let lanes = c .before .before .before .before .before .before .before .gather-masks in
+    let a = c .before .before .before .before .before .before .before .before .before .before .before .before .before .before .before .before .before .before .before .before .args in
+    let pre = c .before .before .before .before .before .before .before .before .before .before .before .before .before .before .before .before .before .before .before .before .pre in
+    extrapolation-asked (sizesIn (a .s)) (pre .0) (leaf .result) (wide .result) (stride .result) (leaf .ensures) (wide .ensures) (stride .ensures) (height .result) (a .s .eta)
+    (lanes .last .1 .1 .1 .1 .0) (a .lines .now) (a .table .now) (pre .0 .η-high) (omega (arith, height .ensures))
+    (omega (arith, pre .3 .points, lanes .kept .1 .1 .1 .1 .0)) (pre .3 .orders) (pre .3 .small) (pre .4)
 
 same-length : tie.Need-same-length
 same-length c = search needs
@@ -81,32 +83,21 @@ same-length-4 c = search needs
 
 returns : tie.Need-returns
 returns c =
-    let a = c .before .before .before .before .before .before .before .before .before .before .before .before .before .before .before .before .before .before .before .before .before .before .before .before .before .before .before .args
-    in let pre = c .before .before .before .before .before .before .before .before .before .before .before .before .before .before .before .before .before .before .before .before .before .before .before .before .before .before .before .pre
-    in
-    let count = front-count (sizesIn (a .s)) (pre .0) (c .before .before .before .before .before .before .before .before .before .before .before .before .before .before .before .before .before .before .before .before .before .leaf-count .result)
-    (c .before .before .before .before .before .before .before .before .before .before .before .before .before .before .before .before .before .before .before .before .row-width .result)
-    (c .before .before .before .before .before .before .before .before .before .before .before .before .before .before .before .before .before .before .before .record-values .result)
-    (c .before .before .before .before .before .before .before .before .before .before .before .before .before .before .before .before .before .before .before .before .before .leaf-count .ensures)
-    (c .before .before .before .before .before .before .before .before .before .before .before .before .before .before .before .before .before .before .before .before .row-width .ensures)
-    (c .before .before .before .before .before .before .before .before .before .before .before .before .before .before .before .before .before .before .before .record-values .ensures) (a .weights .now) (pre .2) in
-    let t : List ℕ = c .before .before .before .before .before .before .extrapolate .last .1 .1 .1 .1 .1 .1 .1 .0 in (
-      kept-columns (sizesIn (a .s)) (pre .0) (c .before .before .before .before .before .before .before .before .before .before .before .before .before .before .before .before .before .before .before .before .before .leaf-count .result)
-          (c .before .before .before .before .before .before .before .before .before .before .before .before .before .before .before .before .before .before .before .before .row-width .result)
-          (c .before .before .before .before .before .before .before .before .before .before .before .before .before .before .before .before .before .before .before .record-values .result)
-          (c .before .before .before .before .before .before .before .before .before .before .before .before .before .before .before .before .before .before .before .before .before .leaf-count .ensures)
-          (c .before .before .before .before .before .before .before .before .before .before .before .before .before .before .before .before .before .before .before .before .row-width .ensures)
-          (c .before .before .before .before .before .before .before .before .before .before .before .before .before .before .before .before .before .before .before .record-values .ensures) (a .table .now) t
-          (c .before .before .before .before .before .before .extrapolate .ensures .1),
-      mask-columns (sizesIn (a .s)) (pre .0) (c .before .before .before .before .before .before .before .before .before .before .before .before .before .before .before .before .before .before .before .before .before .leaf-count .result)
-          (c .before .before .before .before .before .before .before .before .before .before .before .before .before .before .before .before .before .before .before .before .row-width .result)
-          (c .before .before .before .before .before .before .before .before .before .before .before .before .before .before .before .before .before .before .before .record-values .result)
-          (c .before .before .before .before .before .before .before .before .before .before .before .before .before .before .before .before .before .before .before .before .before .leaf-count .ensures)
-          (c .before .before .before .before .before .before .before .before .before .before .before .before .before .before .before .before .before .before .before .before .row-width .ensures)
-          (c .before .before .before .before .before .before .before .before .before .before .before .before .before .before .before .before .before .before .before .record-values .ensures)
-          (length (take (c .before .before .before .before .before .before .before .before .before .before .before .before .before .before .before .before .before .before .before .before .row-width .result) (a .weights .now)))
-          (a .masks .now) (c .before .before .before .before .before .before .before .before .before .before .before .before .before .before .gather-masks .last .1 .1 .1 .1 .0) t count (pre .1)
-          (c .before .before .before .before .before .before .before .before .before .before .before .before .before .before .gather-masks .ensures) (c .before .before .before .before .before .before .extrapolate .ensures .2),
+    let leaf = c .before .before .before .before .before .before .before .before .before .before .before .before .before .before .before .before .before .before .before .before .before .leaf-count in
+    let wide = c .before .before .before .before .before .before .before .before .before .before .before .before .before .before .before .before .before .before .before .before .row-width in
+    let stride = c .before .before .before .before .before .before .before .before .before .before .before .before .before .before .before .before .before .before .before .record-values in
+    let height = c .before .before .before .before .before .before .before .before .before .before .before .before .before .before .before .before .before .before .row-count in
+    let out = c .before .before .before .before .before .before .extrapolate in
+    let lanes = c .before .before .before .before .before .before .before .before .before .before .before .before .before .before .gather-masks in
+    let a = c .before .before .before .before .before .before .before .before .before .before .before .before .before .before .before .before .before .before .before .before .before .before .before .before .before .before .before .args in
+    let pre = c .before .before .before .before .before .before .before .before .before .before .before .before .before .before .before .before .before .before .before .before .before .before .before .before .before .before .before .pre in
+    let count = front-count (sizesIn (a .s)) (pre .0) (leaf .result) (wide .result) (stride .result) (leaf .ensures) (wide .ensures) (stride .ensures) (a .weights .now) (pre .2) in
+    let t : List ℕ = out .last .1 .1 .1 .1 .1 .1 .1 .0 in (
+      kept-columns (sizesIn (a .s)) (pre .0) (leaf .result) (wide .result) (stride .result) (leaf .ensures) (wide .ensures) (stride .ensures) (height .result) (a .table .now) t (height .ensures)
+          (out .ensures .1),
+      mask-columns (sizesIn (a .s)) (pre .0) (leaf .result) (wide .result) (stride .result) (leaf .ensures) (wide .ensures) (stride .ensures)
+          (length (take (wide .result) (a .weights .now))) (height .result) (a .masks .now) (lanes .last .1 .1 .1 .1 .0) t count (height .ensures) (pre .1)
+          (lanes .ensures) (out .ensures .2),
     )
 
 pub fill-masks-spec : {M : Type 1} → statement M
@@ -116,7 +107,7 @@ fill-masks-spec =
     leaf-count-requires
     row-width-requires
     record-values-requires
-    cast-mu
+    row-count-requires
     cast-eta
     cast-t13
     slice-relend-prefix-gather-masks

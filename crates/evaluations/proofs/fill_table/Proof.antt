@@ -10,7 +10,7 @@ use Rattle.evaluations.proofs.fill_table.Statement.{statement}
 use Rattle.evaluations.proofs.fill_table.Tie as tie
 
 row-width-requires : tie.Need-row-width-requires
-row-width-requires c κs = c .before .before .before .before .pre .extend .sizes
+row-width-requires c κs = c .before .before .before .before .before .pre .extend .laid .sizes
 
 blank-few-weights-requires : tie.Need-blank-few-weights-requires
 blank-few-weights-requires c κs = search needs
@@ -32,12 +32,12 @@ slice-aggregate-fill-columns-3 c = search needs
 
 fill-columns-requires : tie.Need-fill-columns-requires
 fill-columns-requires c κs =
-    let a = c .before .before .before .before .before .before .before .before .before .before .before .before .before .args in
+    let a = c .before .before .before .before .before .before .before .before .before .before .before .before .before .before .args in
     let w : width (sizesIn (a .s)) ≤ 40 = omega (arith, c .before .before .before .before .before .before .before .before .row-width .ensures, c .before .before .before .before .before .before .before .if1 .taken) in
     let l : length (c .before .before .before .before .before .before .blank-few-weights .result) ≡ 40 = search needs in
     let m : length (c .before .before .before .before .before .blank-few-values .result) ≡ 160 = search needs in
     let n : length (c .before .before .before .before .blank-few-lines .result) ≡ 160 = search needs in (
-      c .before .before .before .before .before .before .before .before .before .before .before .before .before .pre,
+      c .before .before .before .before .before .before .before .before .before .before .before .before .before .before .pre,
       omega (arith, w, l),
       record
           { points = omega (arith, w, m); orders = omega (arith, w, n); small = c .before .before .before .before .blank-few-lines .ensures },
@@ -63,13 +63,13 @@ slice-aggregate-fill-columns-6 c = search needs
 
 fill-columns-requires-2 : tie.Need-fill-columns-requires-2
 fill-columns-requires-2 c κs =
-    let a = c .before .before .before .before .before .before .before .before .before .before .before .before .before .args in
-    let g = c .before .before .before .before .before .before .before .before .before .before .before .before .before .pre .extend .sizes in
+    let a = c .before .before .before .before .before .before .before .before .before .before .before .before .before .before .args in
+    let g = c .before .before .before .before .before .before .before .before .before .before .before .before .before .before .pre .extend .laid .sizes in
     let w : width (sizesIn (a .s)) ≤ 320 = omega (arith, g .columns-high, g .ℓ-high) in
     let l : length (c .before .before .before .before .before .before .blank-weights .result) ≡ 320 = search needs in
     let m : length (c .before .before .before .before .before .blank-values .result) ≡ 1280 = search needs in
     let n : length (c .before .before .before .before .blank-lines .result) ≡ 1280 = search needs in (
-      c .before .before .before .before .before .before .before .before .before .before .before .before .before .pre,
+      c .before .before .before .before .before .before .before .before .before .before .before .before .before .before .pre,
       omega (arith, w, l),
       record
           { points = omega (arith, w, m); orders = omega (arith, w, n); small = c .before .before .before .before .blank-lines .ensures },
