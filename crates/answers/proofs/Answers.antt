@@ -1,8 +1,10 @@
 -- Answers of n words each, written one after the other.
+use Rattle.commitment.proofs.Places.{batching-high}
+use Rattle.scheme.specs.Sizes.{Sizes, SizesInOrder, width}
 use mathlib.Core.Path.{_≡_, sym, ap, ap₂, _∙_, subst}
 use mathlib.Core.List.{List, map, flatten}
 use Prim.Native.Nat.{ℕ, _+_, _-_, _*_, _≤_, _<_}
-use native.Mathlib.Nat.{mul-comm}
+use native.Mathlib.Nat.{mul-comm, le-trans}
 use lib.ListN.{length, getD, take, drop}
 use Rattle.lists.specs.Bytes.{Bytes, bytesOf, length-bytesOf, bytesOf-flatten}
 use Rattle.lists.specs.Parts.{row-fits, span-length}
@@ -37,6 +39,9 @@ module _ (f : ℕ → List ℕ) (xs : List ℕ) (n at : ℕ) (o : Bytes) where
       answers-turn k now new l e g = upTo-turn (λ x. bytesOf (f x)) xs (4 * n) at o sizes rooms k now new (subst (λ (c : ℕ). k < c) (sym counted) l) e g
 
 -- ---- the mask of repetition k
+
+pub mask-few : (s : Sizes) → SizesInOrder s → (n k : ℕ) → n ≡ width s → k < s .η → n * k + n ≤ 1280
+mask-few s g n k e l = le-trans (row-fits n k (s .η) l) (subst (λ (j : ℕ). j * s .η ≤ 1280) (sym e) (batching-high s g))
 
 module _ (n k η : ℕ) (masks : List ℕ) (whole : length masks ≡ η * n) (l : k < η) where
   pub mask-room : n * k + n ≤ length masks

@@ -4,7 +4,7 @@ use mathlib.Core.List.{List, [], _∷_, map}
 use Prim.Native.Nat.{ℕ, suc, _+_, _-_, _*_, _%_, _≤_, _<_}
 use native.Mathlib.Nat.{mul-zero, mul-suc, zero-mul, le-of-eq}
 use native.Mathlib.Omega.{arith}
-use lib.ListN.{length, getD, take, drop, length-map, length-drop, drop-of-length-le}
+use lib.ListN.{length, getD, take, drop, length-map, length-drop, drop-of-length-le, set}
 use lib.Seq.{ext-getD, drop-cons, length-take-le}
 use Rattle.lists.specs.All.{Distinct}
 use Rattle.lists.specs.Range.{upFrom, length-upFrom, upFrom-below, upFrom-distinct}
@@ -17,7 +17,7 @@ use Rattle.algebra.specs.Columns.{powN}
 use Rattle.algebra.specs.Table.{tableSize}
 use Rattle.algebra.specs.Pairs.{pointsEnd}
 use Rattle.algebra.specs.Sums.{sumsOf, sums-powersN}
-use Rattle.algebra.specs.Dot.{accumulateN, accumulateN-at, length-accumulateN}
+use Rattle.algebra.specs.Dot.{accumulateN, accumulateN-at, length-accumulateN, dotN, dotsOf}
 use Rattle.algebra.specs.Numbers.{evalN, valuesAtN, interpN, interpN-values, Elements, Polys}
 use Rattle.algebra.specs.Values.{interp-polys}
 use Rattle.algebra.specs.Batch.{columnN, honestN}
@@ -158,3 +158,19 @@ interpolation-asks first n z rs out s u p l o e =
       subst Elements (sym e) (combination-below n z rs),
       o ∙ sym m,
     )
+
+-- ---- one column
+
+module _ (weights columns out : List ℕ) (e : length out ≡ 1) where
+  pub one-column : length weights * length out ≤ length columns → length weights ≤ length columns
+  one-column h = let p : length weights * 1 ≤ length columns = subst (λ (k : ℕ). length weights * k ≤ length columns) e h in omega arith
+
+  pub one-sum : (v : ℕ) → v ≡ dotN weights (take (length weights) columns) → set out 0 v ≡ dotsOf weights (length out) columns
+  unfolding dotsOf pieces
+  one-sum v h =
+      one-set out e v ∙ ap (λ (x : ℕ). x ∷ []) h ∙ ap (λ (k : ℕ). map (dotN weights) (pieces (length weights) k columns)) (sym e)
+    where
+      one-set : (xs : List ℕ) → length xs ≡ 1 → (v : ℕ) → set xs 0 v ≡ v ∷ []
+      one-set [] f v = absurd (omega arith)
+      one-set (x ∷ []) f v = refl
+      one-set (x ∷ y ∷ xs) f v = absurd (omega arith)

@@ -18,8 +18,8 @@ pub record Lined (n μ : ℕ) (x : List ℕ) : Type 0 where
   pub narrow : n ≤ 64
 
 -- the rows can be combined: as many words as the sizes ask, and each a field element
-pub record CanCombine (s : Sizes) (coefficients tails : List ℕ) : Type 0 where
-  pub extend : CanExtend s coefficients tails
+pub record CanCombine (s : Sizes) (coefficients tails blinds : List ℕ) : Type 0 where
+  pub extend : CanExtend s coefficients tails blinds
   pub coefficients-below : Elements coefficients
   pub tails-below : Elements tails
 

@@ -8,21 +8,27 @@ ghost use Rattle.lists.specs.Range.{upFrom};
 ghost use Rattle.lists.specs.Bytes.{words, bytesOf};
 ghost use Rattle.lists.specs.Tabulate.{tabulate};
 ghost use Rattle.algebra.specs.Columns.{powN};
+ghost use Rattle.algebra.specs.Dot.{longest, dotsOf};
 ghost use Rattle.algebra.specs.Pairs.{pointsEnd};
 ghost use Rattle.scheme.specs.Layers.{lentOf, extendedRows, combination};
-ghost use Rattle.scheme.specs.Sizes.{width};
+ghost use Rattle.scheme.specs.Sizes.{rows, columns, width};
 ghost use Rattle.commitment.specs.Shape.{sizesIn};
 ghost use Rattle.lists.specs.Spliced.{spliced};
+ghost use Rattle.lent.specs.Rows.{CanLayOut};
+ghost use Rattle.column_sums.specs.Sums.{Powers, columnSums};
 ghost use Rattle.answers.specs.Answers.{Lined, CanCombine, batchingOver, batchingAt, answerAt};
 use codec::put_words;
 use codec::word;
+use column_sums::sum_columns;
 use commitment::Shape;
 use commitment::column_count;
+use commitment::row_count;
 use field::Element;
 use field::fold;
 use field::powers;
 use interpolation::interpolate_from;
 use row_sums::sum_rows;
+use sums::dot;
 use sums::dots;
 
 // Rows of at most so many entries are summed by Horner's rule, which needs no room for sums.
@@ -64,17 +70,56 @@ fn combine_tails(weights: &[u32], rows: &[u32], z: Element, out: &mut [u32])
     sum_rows(weights, rows, out);
 }
 
-// The sums over the rows j of z^j times each entry, column by column, and then times each tail. A column's entries stand one after the other, and so do a row's tails.
-fn combine_lent(s: Shape, coefficients: &[u32], tails: &[u32], z: Element, out: &mut [u32])
-    requires { ⌜ CanCombine (sizesIn s) (now coefficients) (now tails) × (length (now out) ≡ width (sizesIn s)) ⌝ }
-    ensures { λ _. ⌜ now (out .exit) ≡ combination (width (sizesIn s)) (z .0) (extendedRows (sizesIn s) (lentOf (now (coefficients .entry)) (now (tails .entry)) [] [])) ⌝ }
+// The dot products of the weights with columns that stand one after the other. A single one is done at once.
+fn plain_columns(weights: &[u32], columns: &[u32], out: &mut [u32])
+    requires { ⌜ (length (now weights) * length (now out) ≤ length (now columns)) × (length (now weights) ≤ longest) ⌝ }
+    ensures { λ _. ⌜ now (out .exit) ≡ dotsOf (now (weights .entry)) (length (now (out .entry))) (now (columns .entry)) ⌝ }
 {
-    let mu = s.mu as usize;
+    if out.len() == 1 {
+        let end = weights.len();
+        let sum = dot(weights, &columns[..end]);
+        out[0] = sum.0;
+        return;
+    }
+    dots(weights, columns, out);
+}
+
+// The sums over the rows of each column. Without blinding rows the columns stand one after the other in the coefficients.
+fn combine_columns(s: Shape, weights: &[u32], coefficients: &[u32], blinds: &[u32], out: &mut [u32])
+    requires { ⌜ CanLayOut (sizesIn s) (now coefficients) (now blinds) × Powers (rows (sizesIn s)) (now weights) × (length (now out) ≡ columns (sizesIn s)) ⌝ }
+    ensures { λ _. ⌜ now (out .exit) ≡ columnSums (sizesIn s) (now (coefficients .entry)) (now (blinds .entry)) (now (weights .entry)) ⌝ }
+{
+    if s.beta == 0 {
+        plain_columns(weights, coefficients, out);
+        return;
+    }
+    sum_columns(s, weights, coefficients, blinds, out);
+}
+
+// The sums over the rows j of z^j times each entry, column by column, and then times each tail. A row's tails stand one after the other.
+fn combine_lent(
+    s: Shape,
+    coefficients: &[u32],
+    tails: &[u32],
+    blinds: &[u32],
+    z: Element,
+    out: &mut [u32],
+)
+    requires { ⌜ CanCombine (sizesIn s) (now coefficients) (now tails) (now blinds) × (length (now out) ≡ width (sizesIn s)) ⌝ }
+    ensures { λ _. ⌜ now (out .exit) ≡ combination (width (sizesIn s)) (z .0) (extendedRows (sizesIn s) (lentOf (now (coefficients .entry)) (now (tails .entry)) (now (blinds .entry)) [] [])) ⌝ }
+{
+    let rows = row_count(s);
     let columns = column_count(s);
     let mut weights = blank_weights();
-    powers(z, &mut weights[..mu]);
-    dots(&weights[..mu], coefficients, &mut out[..columns]);
-    combine_tails(&weights[..mu], tails, z, &mut out[columns..]);
+    powers(z, &mut weights[..rows]);
+    combine_columns(
+        s,
+        &weights[..rows],
+        coefficients,
+        blinds,
+        &mut out[..columns],
+    );
+    combine_tails(&weights[..rows], tails, z, &mut out[columns..]);
 }
 
 // The batching answer: the mask plus gamma times the polynomial through the rows' sum. One interpolation, since it is linear. `sum` is room for that sum.
@@ -83,15 +128,16 @@ fn batching_answer(
     first: Element,
     coefficients: &[u32],
     tails: &[u32],
+    blinds: &[u32],
     mask: &[u32],
     gamma: Element,
     sum: &mut [u32],
     out: &mut [u32],
 )
-    requires { ⌜ CanCombine (sizesIn s) (now coefficients) (now tails) × (length (now out) ≡ width (sizesIn s)) × (first .0 + length (now out) ≤ pointsEnd) × (length (now mask) ≡ length (now out)) × (length (now sum) ≡ length (now out)) ⌝ }
-    ensures { λ _. ⌜ now (out .exit) ≡ batchingOver (first .0) (length (now (out .entry))) (extendedRows (sizesIn s) (lentOf (now (coefficients .entry)) (now (tails .entry)) [] [])) (now (mask .entry)) (gamma .0) ⌝ }
+    requires { ⌜ CanCombine (sizesIn s) (now coefficients) (now tails) (now blinds) × (length (now out) ≡ width (sizesIn s)) × (first .0 + length (now out) ≤ pointsEnd) × (length (now mask) ≡ length (now out)) × (length (now sum) ≡ length (now out)) ⌝ }
+    ensures { λ _. ⌜ now (out .exit) ≡ batchingOver (first .0) (length (now (out .entry))) (extendedRows (sizesIn s) (lentOf (now (coefficients .entry)) (now (tails .entry)) (now (blinds .entry)) [] [])) (now (mask .entry)) (gamma .0) ⌝ }
 {
-    combine_lent(s, coefficients, tails, gamma, sum);
+    combine_lent(s, coefficients, tails, blinds, gamma, sum);
     interpolate_from(first, sum, out);
     fold(out, gamma, mask);
 }
@@ -118,6 +164,7 @@ fn put_batching_in(
     first: Element,
     coefficients: &[u32],
     tails: &[u32],
+    blinds: &[u32],
     mask: &[u32],
     gamma: Element,
     sum: &mut [u32],
@@ -125,10 +172,20 @@ fn put_batching_in(
     out: &mut [u8],
     at: usize,
 )
-    requires { ⌜ CanCombine (sizesIn s) (now coefficients) (now tails) × (length (now mask) ≡ width (sizesIn s)) × (first .0 + length (now mask) ≤ pointsEnd) × (at + 4 * length (now mask) ≤ length (now out)) × (length (now sum) ≡ length (now mask)) × (length (now answer) ≡ length (now mask)) ⌝ }
-    ensures { λ _. ⌜ now (out .exit) ≡ spliced at (4 * length (now (mask .entry))) (bytesOf (batchingOver (first .0) (length (now (mask .entry))) (extendedRows (sizesIn s) (lentOf (now (coefficients .entry)) (now (tails .entry)) [] [])) (now (mask .entry)) (gamma .0))) (now (out .entry)) ⌝ }
+    requires { ⌜ CanCombine (sizesIn s) (now coefficients) (now tails) (now blinds) × (length (now mask) ≡ width (sizesIn s)) × (first .0 + length (now mask) ≤ pointsEnd) × (at + 4 * length (now mask) ≤ length (now out)) × (length (now sum) ≡ length (now mask)) × (length (now answer) ≡ length (now mask)) ⌝ }
+    ensures { λ _. ⌜ now (out .exit) ≡ spliced at (4 * length (now (mask .entry))) (bytesOf (batchingOver (first .0) (length (now (mask .entry))) (extendedRows (sizesIn s) (lentOf (now (coefficients .entry)) (now (tails .entry)) (now (blinds .entry)) [] [])) (now (mask .entry)) (gamma .0))) (now (out .entry)) ⌝ }
 {
-    batching_answer(s, first, coefficients, tails, mask, gamma, sum, answer);
+    batching_answer(
+        s,
+        first,
+        coefficients,
+        tails,
+        blinds,
+        mask,
+        gamma,
+        sum,
+        answer,
+    );
     put_words(out, at, &answer[..]);
 }
 
@@ -138,13 +195,14 @@ fn put_batching(
     first: Element,
     coefficients: &[u32],
     tails: &[u32],
+    blinds: &[u32],
     mask: &[u32],
     gamma: Element,
     out: &mut [u8],
     at: usize,
 )
-    requires { ⌜ CanCombine (sizesIn s) (now coefficients) (now tails) × (length (now mask) ≡ width (sizesIn s)) × (first .0 + length (now mask) ≤ pointsEnd) × (at + 4 * length (now mask) ≤ length (now out)) ⌝ }
-    ensures { λ _. ⌜ now (out .exit) ≡ spliced at (4 * length (now (mask .entry))) (bytesOf (batchingOver (first .0) (length (now (mask .entry))) (extendedRows (sizesIn s) (lentOf (now (coefficients .entry)) (now (tails .entry)) [] [])) (now (mask .entry)) (gamma .0))) (now (out .entry)) ⌝ }
+    requires { ⌜ CanCombine (sizesIn s) (now coefficients) (now tails) (now blinds) × (length (now mask) ≡ width (sizesIn s)) × (first .0 + length (now mask) ≤ pointsEnd) × (at + 4 * length (now mask) ≤ length (now out)) ⌝ }
+    ensures { λ _. ⌜ now (out .exit) ≡ spliced at (4 * length (now (mask .entry))) (bytesOf (batchingOver (first .0) (length (now (mask .entry))) (extendedRows (sizesIn s) (lentOf (now (coefficients .entry)) (now (tails .entry)) (now (blinds .entry)) [] [])) (now (mask .entry)) (gamma .0))) (now (out .entry)) ⌝ }
 {
     let n = mask.len();
     if n <= FEW {
@@ -155,6 +213,7 @@ fn put_batching(
             first,
             coefficients,
             tails,
+            blinds,
             mask,
             gamma,
             &mut sum[..n],
@@ -171,6 +230,7 @@ fn put_batching(
         first,
         coefficients,
         tails,
+        blinds,
         mask,
         gamma,
         &mut sum[..n],
@@ -185,15 +245,16 @@ fn put_answer_in(
     s: Shape,
     coefficients: &[u32],
     tails: &[u32],
+    blinds: &[u32],
     z: Element,
     answer: &mut [u32],
     out: &mut [u8],
     at: usize,
 )
-    requires { ⌜ CanCombine (sizesIn s) (now coefficients) (now tails) × (length (now answer) ≡ width (sizesIn s)) × (at + 4 * length (now answer) ≤ length (now out)) ⌝ }
-    ensures { λ _. ⌜ now (out .exit) ≡ spliced at (4 * length (now (answer .entry))) (bytesOf (combination (length (now (answer .entry))) (z .0) (extendedRows (sizesIn s) (lentOf (now (coefficients .entry)) (now (tails .entry)) [] [])))) (now (out .entry)) ⌝ }
+    requires { ⌜ CanCombine (sizesIn s) (now coefficients) (now tails) (now blinds) × (length (now answer) ≡ width (sizesIn s)) × (at + 4 * length (now answer) ≤ length (now out)) ⌝ }
+    ensures { λ _. ⌜ now (out .exit) ≡ spliced at (4 * length (now (answer .entry))) (bytesOf (combination (length (now (answer .entry))) (z .0) (extendedRows (sizesIn s) (lentOf (now (coefficients .entry)) (now (tails .entry)) (now (blinds .entry)) [] [])))) (now (out .entry)) ⌝ }
 {
-    combine_lent(s, coefficients, tails, z, answer);
+    combine_lent(s, coefficients, tails, blinds, z, answer);
     put_words(out, at, &answer[..]);
 }
 
@@ -202,21 +263,22 @@ fn put_answer(
     s: Shape,
     coefficients: &[u32],
     tails: &[u32],
+    blinds: &[u32],
     n: usize,
     z: Element,
     out: &mut [u8],
     at: usize,
 )
-    requires { ⌜ CanCombine (sizesIn s) (now coefficients) (now tails) × (n ≡ width (sizesIn s)) × (at + 4 * n ≤ length (now out)) ⌝ }
-    ensures { λ _. ⌜ now (out .exit) ≡ spliced at (4 * n) (bytesOf (combination n (z .0) (extendedRows (sizesIn s) (lentOf (now (coefficients .entry)) (now (tails .entry)) [] [])))) (now (out .entry)) ⌝ }
+    requires { ⌜ CanCombine (sizesIn s) (now coefficients) (now tails) (now blinds) × (n ≡ width (sizesIn s)) × (at + 4 * n ≤ length (now out)) ⌝ }
+    ensures { λ _. ⌜ now (out .exit) ≡ spliced at (4 * n) (bytesOf (combination n (z .0) (extendedRows (sizesIn s) (lentOf (now (coefficients .entry)) (now (tails .entry)) (now (blinds .entry)) [] [])))) (now (out .entry)) ⌝ }
 {
     if n <= FEW {
         let mut answer = blank_few();
-        put_answer_in(s, coefficients, tails, z, &mut answer[..n], out, at);
+        put_answer_in(s, coefficients, tails, blinds, z, &mut answer[..n], out, at);
         return;
     }
     let mut answer = blank();
-    put_answer_in(s, coefficients, tails, z, &mut answer[..n], out, at);
+    put_answer_in(s, coefficients, tails, blinds, z, &mut answer[..n], out, at);
 }
 
 // ---- the answers one after the other
@@ -229,13 +291,14 @@ pub fn put_batchings(
     first: Element,
     coefficients: &[u32],
     tails: &[u32],
+    blinds: &[u32],
     n: usize,
     masks: &[u32],
     out: &mut [u8],
     at: usize,
 )
-    requires { ⌜ CanCombine (sizesIn s) (now coefficients) (now tails) × (n ≡ width (sizesIn s)) × (first .0 + n ≤ pointsEnd) × (length (now masks) ≡ s .eta * n) × (challenges + 4 * s .eta ≤ length (now question)) × (at + 4 * n * s .eta ≤ length (now out)) ⌝ }
-    ensures { λ _. ⌜ now (out .exit) ≡ spliced at (4 * n * s .eta) (bytesOf (flatten (map (batchingAt (first .0) n (extendedRows (sizesIn s) (lentOf (now (coefficients .entry)) (now (tails .entry)) [] [])) (now (masks .entry)) (words (s .eta) (drop challenges (now (question .entry))))) (upFrom 0 (s .eta))))) (now (out .entry)) ⌝ }
+    requires { ⌜ CanCombine (sizesIn s) (now coefficients) (now tails) (now blinds) × (n ≡ width (sizesIn s)) × (first .0 + n ≤ pointsEnd) × (length (now masks) ≡ s .eta * n) × (challenges + 4 * s .eta ≤ length (now question)) × (at + 4 * n * s .eta ≤ length (now out)) ⌝ }
+    ensures { λ _. ⌜ now (out .exit) ≡ spliced at (4 * n * s .eta) (bytesOf (flatten (map (batchingAt (first .0) n (extendedRows (sizesIn s) (lentOf (now (coefficients .entry)) (now (tails .entry)) (now (blinds .entry)) [] [])) (now (masks .entry)) (words (s .eta) (drop challenges (now (question .entry))))) (upFrom 0 (s .eta))))) (now (out .entry)) ⌝ }
 {
     let eta = s.eta as usize;
     let size = 4 * n;
@@ -248,6 +311,7 @@ pub fn put_batchings(
             first,
             coefficients,
             tails,
+            blinds,
             &masks[from..to],
             gamma,
             out,
@@ -264,16 +328,17 @@ pub fn put_answers(
     m: usize,
     coefficients: &[u32],
     tails: &[u32],
+    blinds: &[u32],
     n: usize,
     out: &mut [u8],
     at: usize,
 )
-    requires { ⌜ CanCombine (sizesIn s) (now coefficients) (now tails) × (n ≡ width (sizesIn s)) × (points + 4 * m ≤ length (now question)) × (at + 4 * n * m ≤ length (now out)) ⌝ }
-    ensures { λ _. ⌜ now (out .exit) ≡ spliced at (4 * n * m) (bytesOf (flatten (map (answerAt n (extendedRows (sizesIn s) (lentOf (now (coefficients .entry)) (now (tails .entry)) [] []))) (words m (drop points (now (question .entry))))))) (now (out .entry)) ⌝ }
+    requires { ⌜ CanCombine (sizesIn s) (now coefficients) (now tails) (now blinds) × (n ≡ width (sizesIn s)) × (points + 4 * m ≤ length (now question)) × (at + 4 * n * m ≤ length (now out)) ⌝ }
+    ensures { λ _. ⌜ now (out .exit) ≡ spliced at (4 * n * m) (bytesOf (flatten (map (answerAt n (extendedRows (sizesIn s) (lentOf (now (coefficients .entry)) (now (tails .entry)) (now (blinds .entry)) [] []))) (words m (drop points (now (question .entry))))))) (now (out .entry)) ⌝ }
 {
     let size = 4 * n;
     for p in 0..m {
         let z = Element(word(question, points + 4 * p));
-        put_answer(s, coefficients, tails, n, z, out, at + size * p);
+        put_answer(s, coefficients, tails, blinds, n, z, out, at + size * p);
     }
 }

@@ -35,14 +35,14 @@ module _ (question : Bytes) (t : Sizes) (m : ℕ) (l : Lent) (table : List ℕ) 
   -- ---- the answers
 
   abbrev ext : List (List ℕ)
-  ext = extendedRows t (lentOf (l .coefficients) (l .tails) [] [])
+  ext = extendedRows t (lentOf (l .coefficients) (l .tails) (l .blinds) [] [])
 
-  pub can-sum : CanSum question t m (l .coefficients) (l .tails) (l .masks) reply
+  pub can-sum : CanSum question t m (l .coefficients) (l .tails) (l .blinds) (l .masks) reply
   can-sum = record {
     points = ready .points;
     long = ready .long;
     combine = record {
-      extend = record { sizes = g; coefficients-length = r .c-length; tails-length = r .t-length };
+      extend = record { laid = record { sizes = g; coefficients-length = r .c-length; blinds-length = r .b-length; blinds-below = r .b-below }; tails-length = r .t-length };
       coefficients-below = r .c-below;
       tails-below = r .t-below;
     };
@@ -51,7 +51,7 @@ module _ (question : Bytes) (t : Sizes) (m : ℕ) (l : Lent) (table : List ℕ) 
   }
 
   answers-are : sums u ext (l .masks) ≡ bytesOf (flatten (openedBatching u l)) ++ bytesOf (flatten (openedAnswers u l))
-  answers-are = ap (λ (es : List (List ℕ)). sums u es (l .masks)) (rows-lent t (l .coefficients) (l .tails) (l .masks) (l .nonces)) ∙ sums-opened u l
+  answers-are = ap (λ (es : List (List ℕ)). sums u es (l .masks)) (rows-lent t (l .coefficients) (l .tails) (l .blinds) (l .masks) (l .nonces)) ∙ sums-opened u l
 
   -- ---- the indices
 

@@ -36,15 +36,15 @@ two-parts a b x y o o₁ o₂ e l h₁ h₂ =
     ∙ spliced-more 0 a x o e (omega arith) b y
     ∙ ap (λ (k : ℕ). (x ++ y) ++ drop k o) (zero-add (a + b))
 
-module _ (t : Sizes) (m : ℕ) (question : Bytes) (coefficients tails masks : List ℕ) (o : Bytes) (can : CanSum question t m coefficients tails masks o) where
+module _ (t : Sizes) (m : ℕ) (question : Bytes) (coefficients tails blinds masks : List ℕ) (o : Bytes) (can : CanSum question t m coefficients tails blinds masks o) where
   abbrev es : List (List ℕ)
-  es = extendedRows t (lentOf coefficients tails [] [])
+  es = extendedRows t (lentOf coefficients tails blinds [] [])
 
   g : SizesInOrder t
-  g = can .combine .extend .sizes
+  g = can .combine .extend .laid .sizes
 
   pub batchings-ask : (n first from : ℕ) → n ≡ width t → first ≡ leaves t → from ≡ challengesAt
-      → CanCombine t coefficients tails × (n ≡ width t) × (first + n ≤ pointsEnd) × (length masks ≡ t .η * n) × (from + 4 * t .η ≤ length question) × (0 + 4 * n * t .η ≤ length o)
+      → CanCombine t coefficients tails blinds × (n ≡ width t) × (first + n ≤ pointsEnd) × (length masks ≡ t .η * n) × (from + 4 * t .η ≤ length question) × (0 + 4 * n * t .η ≤ length o)
   batchings-ask n first from e f h = (
     can .combine,
     e,
@@ -55,7 +55,7 @@ module _ (t : Sizes) (m : ℕ) (question : Bytes) (coefficients tails masks : Li
   )
 
   pub answers-ask : (n from at : ℕ) (o₁ : Bytes) → n ≡ width t → from ≡ pointsAt t → at ≡ answersAt t → length o₁ ≡ length o
-      → CanCombine t coefficients tails × (n ≡ width t) × (from + 4 * m ≤ length question) × (at + 4 * n * m ≤ length o₁)
+      → CanCombine t coefficients tails blinds × (n ≡ width t) × (from + 4 * m ≤ length question) × (at + 4 * n * m ≤ length o₁)
   answers-ask n from at o₁ e f h k = (
     can .combine,
     e,

@@ -39,10 +39,10 @@ pub record CanList (s : Sizes) (m : ℕ) (table : List ℕ) (nonces : Bytes) (in
   pub small : length reply ≤ 65536
 
 -- the answers can be written: the rows can be combined, the question and the masks have as many words as the sizes ask, and the reply has room
-pub record CanSum (question : Bytes) (s : Sizes) (m : ℕ) (coefficients tails masks : List ℕ) (reply : Bytes) : Type 0 where
+pub record CanSum (question : Bytes) (s : Sizes) (m : ℕ) (coefficients tails blinds masks : List ℕ) (reply : Bytes) : Type 0 where
   pub points : m ≤ mostPoints
   pub long : length question ≡ questionLength s m
-  pub combine : CanCombine s coefficients tails
+  pub combine : CanCombine s coefficients tails blinds
   pub masks-length : length masks ≡ s .η * width s
   pub room : recordsAt s m ≤ length reply
 

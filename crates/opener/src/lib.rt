@@ -90,6 +90,7 @@ fn lengths_ok(
     indices: &[usize],
     coefficients: &[u32],
     tails: &[u32],
+    blinds: &[u32],
     masks: &[u32],
     table: &[u32],
     nonces: &[u8],
@@ -97,21 +98,27 @@ fn lengths_ok(
     reply: &[u8],
 ) -> bool
     requires { ⌜ SizesInOrder (sizesIn s) × (m ≤ mostPoints) × IndexSet (s .h) (now indices) ⌝ }
-    ensures { λ r. ⌜ r ≡ every (lentOk (sizesIn s) (lentOf (now (coefficients .entry)) (now (tails .entry)) (now (masks .entry)) (now (nonces .entry))) ∷ filledOk (sizesIn s) (now (table .entry)) (now (tree .entry)) ∷ eqb (length (now (reply .entry))) (nodesAt (sizesIn s) m + 32 * length (missing 2 (s .h) (now (indices .entry)))) ∷ []) ⌝ }
+    ensures { λ r. ⌜ r ≡ every (lentOk (sizesIn s) (lentOf (now (coefficients .entry)) (now (tails .entry)) (now (blinds .entry)) (now (masks .entry)) (now (nonces .entry))) ∷ filledOk (sizesIn s) (now (table .entry)) (now (tree .entry)) ∷ eqb (length (now (reply .entry))) (nodesAt (sizesIn s) m + 32 * length (missing 2 (s .h) (now (indices .entry)))) ∷ []) ⌝ }
 {
-    let lent = lent_ok(s, coefficients, tails, masks, nonces);
+    let lent = lent_ok(s, coefficients, tails, blinds, masks, nonces);
     let filled = filled_ok(s, table, tree);
     let room = reply.len() == length_for(s, m as usize, indices);
     both(lent, both(filled, room))
 }
 
 // Is each lent word below q?
-pub fn words_ok(coefficients: &[u32], tails: &[u32], masks: &[u32], table: &[u32]) -> bool
-    ensures { λ r. ⌜ r ≡ every (elements (now (table .entry)) ∷ lentElements (lentOf (now (coefficients .entry)) (now (tails .entry)) (now (masks .entry)) [])) ⌝ }
+pub fn words_ok(
+    coefficients: &[u32],
+    tails: &[u32],
+    blinds: &[u32],
+    masks: &[u32],
+    table: &[u32],
+) -> bool
+    ensures { λ r. ⌜ r ≡ every (elements (now (table .entry)) ∷ lentElements (lentOf (now (coefficients .entry)) (now (tails .entry)) (now (blinds .entry)) (now (masks .entry)) [])) ⌝ }
 {
     both(
         elements_ok(table),
-        lent_elements(coefficients, tails, masks),
+        lent_elements(coefficients, tails, blinds, masks),
     )
 }
 
@@ -134,6 +141,7 @@ fn lent_verdict(
     indices: &[usize],
     coefficients: &[u32],
     tails: &[u32],
+    blinds: &[u32],
     masks: &[u32],
     table: &[u32],
     nonces: &[u8],
@@ -141,7 +149,7 @@ fn lent_verdict(
     reply: &[u8],
 ) -> u32
     requires { ⌜ (questioned (now question) ≡ WellFormed s m) × (now indices ≡ readQuestion (now question) .indices) ⌝ }
-    ensures { λ r. ⌜ r ≡ openVerdict (now (question .entry)) (lentOf (now (coefficients .entry)) (now (tails .entry)) (now (masks .entry)) (now (nonces .entry))) (now (table .entry)) (now (tree .entry)) (now (reply .entry)) ⌝ }
+    ensures { λ r. ⌜ r ≡ openVerdict (now (question .entry)) (lentOf (now (coefficients .entry)) (now (tails .entry)) (now (blinds .entry)) (now (masks .entry)) (now (nonces .entry))) (now (table .entry)) (now (tree .entry)) (now (reply .entry)) ⌝ }
 {
     if !lengths_ok(
         s,
@@ -149,6 +157,7 @@ fn lent_verdict(
         indices,
         coefficients,
         tails,
+        blinds,
         masks,
         table,
         nonces,
@@ -157,7 +166,7 @@ fn lent_verdict(
     ) {
         return 2;
     }
-    if !words_ok(coefficients, tails, masks, table) {
+    if !words_ok(coefficients, tails, blinds, masks, table) {
         return 3;
     }
     if !root_ok(question, tree) {
@@ -175,11 +184,12 @@ pub fn put_sums(
     question: &[u8],
     coefficients: &[u32],
     tails: &[u32],
+    blinds: &[u32],
     masks: &[u32],
     reply: &mut [u8],
 )
-    requires { ⌜ CanSum (now question) (sizesIn s) m (now coefficients) (now tails) (now masks) (now reply) ⌝ }
-    ensures { λ _. ⌜ now (reply .exit) ≡ sums (questionAt (sizesIn s) m (now (question .entry))) (extendedRows (sizesIn s) (lentOf (now (coefficients .entry)) (now (tails .entry)) [] [])) (now (masks .entry)) ++ drop (recordsAt (sizesIn s) m) (now (reply .entry)) ⌝ }
+    requires { ⌜ CanSum (now question) (sizesIn s) m (now coefficients) (now tails) (now blinds) (now masks) (now reply) ⌝ }
+    ensures { λ _. ⌜ now (reply .exit) ≡ sums (questionAt (sizesIn s) m (now (question .entry))) (extendedRows (sizesIn s) (lentOf (now (coefficients .entry)) (now (tails .entry)) (now (blinds .entry)) [] [])) (now (masks .entry)) ++ drop (recordsAt (sizesIn s) m) (now (reply .entry)) ⌝ }
 {
     let n = row_width(s);
     let first = Element(leaf_count(s.h) as u32);
@@ -190,6 +200,7 @@ pub fn put_sums(
         first,
         coefficients,
         tails,
+        blinds,
         n,
         masks,
         reply,
@@ -202,6 +213,7 @@ pub fn put_sums(
         m as usize,
         coefficients,
         tails,
+        blinds,
         n,
         reply,
         answers_at(s),
@@ -243,17 +255,18 @@ fn write_reply(
     indices: &[usize],
     coefficients: &[u32],
     tails: &[u32],
+    blinds: &[u32],
     masks: &[u32],
     table: &[u32],
     nonces: &[u8],
     tree: &[u8],
     reply: &mut [u8],
 ) -> usize
-    requires { ⌜ Ready (now question) (sizesIn s) m (lentOf (now coefficients) (now tails) (now masks) (now nonces)) (now table) (now tree) (now reply) × (now indices ≡ questionAt (sizesIn s) m (now question) .indices) ⌝ }
+    requires { ⌜ Ready (now question) (sizesIn s) m (lentOf (now coefficients) (now tails) (now blinds) (now masks) (now nonces)) (now table) (now tree) (now reply) × (now indices ≡ questionAt (sizesIn s) m (now question) .indices) ⌝ }
     ensures { λ r. ⌜ r ≡ replyLength (questionAt (sizesIn s) m (now (question .entry))) ⌝ }
-    ensures { λ r. ⌜ now (reply .exit) ≡ replyOf (questionAt (sizesIn s) m (now (question .entry))) (lentOf (now (coefficients .entry)) (now (tails .entry)) (now (masks .entry)) (now (nonces .entry))) (now (table .entry)) (now (tree .entry)) ++ drop r (now (reply .entry)) ⌝ }
+    ensures { λ r. ⌜ now (reply .exit) ≡ replyOf (questionAt (sizesIn s) m (now (question .entry))) (lentOf (now (coefficients .entry)) (now (tails .entry)) (now (blinds .entry)) (now (masks .entry)) (now (nonces .entry))) (now (table .entry)) (now (tree .entry)) ++ drop r (now (reply .entry)) ⌝ }
 {
-    put_sums(s, m, question, coefficients, tails, masks, reply);
+    put_sums(s, m, question, coefficients, tails, blinds, masks, reply);
     put_leaves(s, m, indices, table, nonces, tree, reply)
 }
 
@@ -268,13 +281,14 @@ pub fn open(
     question: &[u8],
     coefficients: &[u32],
     tails: &[u32],
+    blinds: &[u32],
     masks: &[u32],
     table: &[u32],
     nonces: &[u8],
     tree: &[u8],
     reply: &mut [u8],
 ) -> Opened
-    ensures { λ r. ⌜ (numberOf r, lengthOf r, now (reply .exit)) ≡ opening (now (question .entry)) (lentOf (now (coefficients .entry)) (now (tails .entry)) (now (masks .entry)) (now (nonces .entry))) (now (table .entry)) (now (tree .entry)) (now (reply .entry)) ⌝ }
+    ensures { λ r. ⌜ (numberOf r, lengthOf r, now (reply .exit)) ≡ opening (now (question .entry)) (lentOf (now (coefficients .entry)) (now (tails .entry)) (now (blinds .entry)) (now (masks .entry)) (now (nonces .entry))) (now (table .entry)) (now (tree .entry)) (now (reply .entry)) ⌝ }
 {
     match ask(question) {
         Questioned::WellFormed(s, m) => {
@@ -288,6 +302,7 @@ pub fn open(
                 &indices[..l],
                 coefficients,
                 tails,
+                blinds,
                 masks,
                 table,
                 nonces,
@@ -302,6 +317,7 @@ pub fn open(
                     &indices[..l],
                     coefficients,
                     tails,
+                    blinds,
                     masks,
                     table,
                     nonces,

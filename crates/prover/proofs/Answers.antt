@@ -10,10 +10,10 @@ use Rattle.lists.specs.Bytes.{Bytes}
 use Rattle.lists.specs.Parts.{put-tail, mid-tail}
 use Rattle.scheme.specs.Sizes.{Sizes, SizesInOrder}
 use Rattle.scheme.specs.Layers.{Lent, lentOf, extendedRows}
-use Rattle.scheme.specs.Question.{questionAt, questionLength, headerSizes, headerPoints}
+use Rattle.scheme.specs.Question.{questionAt, questionLength, headerSizes, headerPoints, mostQuestion}
 use Rattle.scheme.specs.Reply.{recordsAt}
 use Rattle.scheme.proofs.Lent.{LentFacts, lent-facts}
-use Rattle.fiat_shamir.specs.Draw.{drawn, drawnBytes}
+use Rattle.fiat_shamir.specs.Draw.{drawn, drawnBytes, mostString}
 use Rattle.fiat_shamir.specs.Prove.{provedAnswers}
 use Rattle.fiat_shamir.proofs.Drawn.{challenges-back, points-back}
 use Rattle.commitment.proofs.Places.{records-high}
@@ -36,20 +36,20 @@ module _ (b : Bytes) (s : Sizes) (m : ℕ) (l : Lent) (can : CanPut b s m l) whe
   pub sized : SizesInOrder s
   sized = facts .in-order
 
-  pub string-fits : suc (length b) + recordsAt s m ≤ 15439
+  pub string-fits : suc (length b) + recordsAt s m ≤ mostString
   string-fits = omega (arith, facts .long, facts .few-points, records-high s (facts .in-order) m (facts .few-points))
 
   -- the question's length
-  pub asked-long : questionLength s m ≤ 222
+  pub asked-long : questionLength s m ≤ mostQuestion
   asked-long = omega (arith, facts .in-order .η-high, facts .in-order .ℓ-high, facts .few-points)
 
   pub sum-ask : (question o : Bytes) → length question ≡ questionLength s m → recordsAt s m ≤ length o
-      → CanSum question s m (l .coefficients) (l .tails) (l .masks) o
+      → CanSum question s m (l .coefficients) (l .tails) (l .blinds) (l .masks) o
   sum-ask question o f h = record {
     points = facts .few-points;
     long = f;
     combine = record {
-      extend = record { sizes = facts .in-order; coefficients-length = r .c-length; tails-length = r .t-length };
+      extend = record { laid = record { sizes = facts .in-order; coefficients-length = r .c-length; blinds-length = r .b-length; blinds-below = r .b-below }; tails-length = r .t-length };
       coefficients-below = r .c-below;
       tails-below = r .t-below;
     };
@@ -58,7 +58,7 @@ module _ (b : Bytes) (s : Sizes) (m : ℕ) (l : Lent) (can : CanPut b s m l) whe
   }
 
   abbrev ext : List (List ℕ)
-  ext = extendedRows s (lentOf (l .coefficients) (l .tails) [] [])
+  ext = extendedRows s (lentOf (l .coefficients) (l .tails) (l .blinds) [] [])
 
   -- the sums take nothing but sizes, challenges and points from the question
   sums-drawn : (is : List ℕ) → sums (questionAt (headerSizes b) (headerPoints b) (drawnBytes b is)) ext (l .masks) ≡ sums (drawn b []) ext (l .masks)
@@ -75,7 +75,7 @@ module _ (b : Bytes) (s : Sizes) (m : ℕ) (l : Lent) (can : CanPut b s m l) whe
       ∙ ap (λ (x : Bytes). sums (questionAt (headerSizes b) (headerPoints b) x) ext (l .masks)) e in
       h ∙ ap (λ (t : Bytes). t ++ drop (recordsAt s m) o)
       (same ∙ sums-drawn is
-      ∙ ap (λ (es : List (List ℕ)). sums (drawn b []) es (l .masks)) (rows-lent s (l .coefficients) (l .tails) (l .masks) (l .nonces) ∙ ap (λ (t : Sizes). extendedRows t l) (sym (can .offline .sizes)))
+      ∙ ap (λ (es : List (List ℕ)). sums (drawn b []) es (l .masks)) (rows-lent s (l .coefficients) (l .tails) (l .blinds) (l .masks) (l .nonces) ∙ ap (λ (t : Sizes). extendedRows t l) (sym (can .offline .sizes)))
       ∙ sums-opened (drawn b []) l)
 
   -- ---- the string: prefix and question, and the answers through the part that begins after them

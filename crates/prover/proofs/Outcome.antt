@@ -26,7 +26,7 @@ use Rattle.scheme.specs.Reply.{recordsAt}
 use Rattle.scheme.specs.Open.{replyOf, openedAnswers, openedBatching}
 use Rattle.scheme.specs.Commit.{lentElements, leafRecord}
 use Rattle.fiat_shamir.specs.Offline.{mostBits, offlineTests, offlineVerdict}
-use Rattle.fiat_shamir.specs.Draw.{drawn as drawnQ, drawString, leafDraw, ranksAt, drawnIndices, qualifies}
+use Rattle.fiat_shamir.specs.Draw.{drawn as drawnQ, drawString, leafDraw, ranksAt, drawnIndices, qualifies, mostString}
 use Rattle.fiat_shamir.specs.Prove.{provedAnswers, counterBytes, counterDraw, counterOk, proofLength, proofOf, proveVerdict, proving, proveTests}
 use Rattle.fiat_shamir.proofs.Proving.{prove-asked, proving-refused, proving-done, answers-sized, unqualified}
 use Rattle.counter_search.specs.Tried.{tried}
@@ -65,7 +65,7 @@ module _ (b : Bytes) (s : Sizes) (m κ : ℕ) (l : Lent) (table : List ℕ) (nod
         ∙ ap (take (n - at)) (drop-at (3 ∷ b) (provedAnswers b l ++ drop n room) at size)
         ∙ take-at (provedAnswers b l) (drop n room) (n - at) rest
 
-  pub string-room : suc (length b) + recordsAt s m ≤ 15439
+  pub string-room : suc (length b) + recordsAt s m ≤ mostString
   string-room = string-fits b s m l (record { offline = ready .offline; lent = ready .lent })
 
   -- what the proof's parts ask

@@ -9,7 +9,7 @@ ghost use Rattle.scheme.specs.Layers.{lentOf};
 ghost use Rattle.scheme.specs.Commit.{lentOk, filledOk};
 ghost use Rattle.scheme.specs.Sizes.{SizesInOrder, mostPoints};
 ghost use Rattle.scheme.specs.Reply.{recordsAt, replyBound};
-ghost use Rattle.fiat_shamir.specs.Draw.{drawnIndices};
+ghost use Rattle.fiat_shamir.specs.Draw.{mostString, drawnIndices};
 ghost use Rattle.fiat_shamir.specs.Prove.{counterLength, provedAnswers, proving};
 ghost use Rattle.commitment.specs.Shape.{sizesIn};
 ghost use Rattle.offline_question.specs.Offline.{Offline};
@@ -25,6 +25,7 @@ use commitment::nodes_at;
 use commitment::question_length;
 use commitment::records_at;
 use counter_search::find_counter;
+use drawing::LONGEST_STRING;
 use drawing::blank_draw;
 use drawing::blank_question;
 use drawing::draw_question;
@@ -62,6 +63,7 @@ fn lengths_ok(
     m: u32,
     coefficients: &[u32],
     tails: &[u32],
+    blinds: &[u32],
     masks: &[u32],
     table: &[u32],
     nonces: &[u8],
@@ -69,9 +71,9 @@ fn lengths_ok(
     proof: &[u8],
 ) -> bool
     requires { ⌜ SizesInOrder (sizesIn s) × (m ≤ mostPoints) ⌝ }
-    ensures { λ r. ⌜ r ≡ every (lentOk (sizesIn s) (lentOf (now (coefficients .entry)) (now (tails .entry)) (now (masks .entry)) (now (nonces .entry))) ∷ filledOk (sizesIn s) (now (table .entry)) (now (tree .entry)) ∷ eqb (length (now (proof .entry))) (counterLength + replyBound (sizesIn s) m) ∷ []) ⌝ }
+    ensures { λ r. ⌜ r ≡ every (lentOk (sizesIn s) (lentOf (now (coefficients .entry)) (now (tails .entry)) (now (blinds .entry)) (now (masks .entry)) (now (nonces .entry))) ∷ filledOk (sizesIn s) (now (table .entry)) (now (tree .entry)) ∷ eqb (length (now (proof .entry))) (counterLength + replyBound (sizesIn s) m) ∷ []) ⌝ }
 {
-    let lent = lent_ok(s, coefficients, tails, masks, nonces);
+    let lent = lent_ok(s, coefficients, tails, blinds, masks, nonces);
     let filled = filled_ok(s, table, tree);
     let room = proof.len() == proof_bound(s, m as usize);
     both(lent, both(filled, room))
@@ -84,6 +86,7 @@ fn lent_verdict(
     question: &[u8],
     coefficients: &[u32],
     tails: &[u32],
+    blinds: &[u32],
     masks: &[u32],
     table: &[u32],
     nonces: &[u8],
@@ -91,12 +94,23 @@ fn lent_verdict(
     proof: &[u8],
 ) -> u32
     requires { ⌜ Offline (now question) (sizesIn s) m ⌝ }
-    ensures { λ r. ⌜ r ≡ verdictOf (lentTests (now (question .entry)) (sizesIn s) m (lentOf (now (coefficients .entry)) (now (tails .entry)) (now (masks .entry)) (now (nonces .entry))) (now (table .entry)) (now (tree .entry)) (now (proof .entry))) ⌝ }
+    ensures { λ r. ⌜ r ≡ verdictOf (lentTests (now (question .entry)) (sizesIn s) m (lentOf (now (coefficients .entry)) (now (tails .entry)) (now (blinds .entry)) (now (masks .entry)) (now (nonces .entry))) (now (table .entry)) (now (tree .entry)) (now (proof .entry))) ⌝ }
 {
-    if !lengths_ok(s, m, coefficients, tails, masks, table, nonces, tree, proof) {
+    if !lengths_ok(
+        s,
+        m,
+        coefficients,
+        tails,
+        blinds,
+        masks,
+        table,
+        nonces,
+        tree,
+        proof,
+    ) {
         return 2;
     }
-    if !words_ok(coefficients, tails, masks, table) {
+    if !words_ok(coefficients, tails, blinds, masks, table) {
         return 3;
     }
     if !root_ok(question, tree) {
@@ -107,9 +121,9 @@ fn lent_verdict(
 
 // ---- the string of the leaf draw
 
-// Room for the string but for the counter: prefix, question, 12 answers of 320 words.
-fn blank_string() -> [u8; 15439] {
-    [0u8; 15439]
+// Room for the string but for the counter.
+fn blank_string() -> [u8; LONGEST_STRING] {
+    [0u8; LONGEST_STRING]
 }
 
 // The batching answers and the evaluation answers to the question so drawn; they do not depend on its indices.
@@ -119,19 +133,20 @@ fn put_answers(
     question: &[u8],
     coefficients: &[u32],
     tails: &[u32],
+    blinds: &[u32],
     masks: &[u32],
     nonces: &[u8],
     out: &mut [u8],
 )
-    requires { ⌜ CanPut (now question) (sizesIn s) m (lentOf (now coefficients) (now tails) (now masks) (now nonces)) × (recordsAt (sizesIn s) m ≤ length (now out)) ⌝ }
-    ensures { λ _. ⌜ now (out .exit) ≡ provedAnswers (now (question .entry)) (lentOf (now (coefficients .entry)) (now (tails .entry)) (now (masks .entry)) (now (nonces .entry))) ++ drop (recordsAt (sizesIn s) m) (now (out .entry)) ⌝ }
+    requires { ⌜ CanPut (now question) (sizesIn s) m (lentOf (now coefficients) (now tails) (now blinds) (now masks) (now nonces)) × (recordsAt (sizesIn s) m ≤ length (now out)) ⌝ }
+    ensures { λ _. ⌜ now (out .exit) ≡ provedAnswers (now (question .entry)) (lentOf (now (coefficients .entry)) (now (tails .entry)) (now (blinds .entry)) (now (masks .entry)) (now (nonces .entry))) ++ drop (recordsAt (sizesIn s) m) (now (out .entry)) ⌝ }
 {
     let l = s.l as usize;
     let n = question_length(s, m as usize);
     let indices = blank_indices();
     let mut drawn = blank_question();
     draw_question(question, s, m, &indices[..l], &mut drawn[..n]);
-    put_sums(s, m, &drawn[..n], coefficients, tails, masks, out);
+    put_sums(s, m, &drawn[..n], coefficients, tails, blinds, masks, out);
 }
 
 // The string but for the counter: 0x03, question, answers. Returns its length.
@@ -141,13 +156,14 @@ fn put_string(
     question: &[u8],
     coefficients: &[u32],
     tails: &[u32],
+    blinds: &[u32],
     masks: &[u32],
     nonces: &[u8],
     string: &mut [u8],
 ) -> usize
-    requires { ⌜ CanPut (now question) (sizesIn s) m (lentOf (now coefficients) (now tails) (now masks) (now nonces)) × (15439 ≤ length (now string)) ⌝ }
+    requires { ⌜ CanPut (now question) (sizesIn s) m (lentOf (now coefficients) (now tails) (now blinds) (now masks) (now nonces)) × (mostString ≤ length (now string)) ⌝ }
     ensures { λ r. ⌜ r ≡ suc (length (now (question .entry))) + recordsAt (sizesIn s) m ⌝ }
-    ensures { λ r. ⌜ now (string .exit) ≡ (3 ∷ (now (question .entry) ++ provedAnswers (now (question .entry)) (lentOf (now (coefficients .entry)) (now (tails .entry)) (now (masks .entry)) (now (nonces .entry))))) ++ drop r (now (string .entry)) ⌝ }
+    ensures { λ r. ⌜ now (string .exit) ≡ (3 ∷ (now (question .entry) ++ provedAnswers (now (question .entry)) (lentOf (now (coefficients .entry)) (now (tails .entry)) (now (blinds .entry)) (now (masks .entry)) (now (nonces .entry))))) ++ drop r (now (string .entry)) ⌝ }
 {
     put_question(question, string);
     let at = question.len() + 1;
@@ -157,6 +173,7 @@ fn put_string(
         question,
         coefficients,
         tails,
+        blinds,
         masks,
         nonces,
         &mut string[at..],
@@ -235,14 +252,15 @@ fn prove_lent(
     limit: u32,
     coefficients: &[u32],
     tails: &[u32],
+    blinds: &[u32],
     masks: &[u32],
     table: &[u32],
     nonces: &[u8],
     tree: &[u8],
     proof: &mut [u8],
 ) -> Proved
-    requires { ⌜ Ready (now question) (sizesIn s) m kappa (lentOf (now coefficients) (now tails) (now masks) (now nonces)) (now table) (now tree) (now proof) ⌝ }
-    ensures { λ r. ⌜ (numberOf r, lengthOf r, now (proof .exit)) ≡ searched (now (question .entry)) kappa limit (lentOf (now (coefficients .entry)) (now (tails .entry)) (now (masks .entry)) (now (nonces .entry))) (now (table .entry)) (now (tree .entry)) (now (proof .entry)) ⌝ }
+    requires { ⌜ Ready (now question) (sizesIn s) m kappa (lentOf (now coefficients) (now tails) (now blinds) (now masks) (now nonces)) (now table) (now tree) (now proof) ⌝ }
+    ensures { λ r. ⌜ (numberOf r, lengthOf r, now (proof .exit)) ≡ searched (now (question .entry)) kappa limit (lentOf (now (coefficients .entry)) (now (tails .entry)) (now (blinds .entry)) (now (masks .entry)) (now (nonces .entry))) (now (table .entry)) (now (tree .entry)) (now (proof .entry)) ⌝ }
 {
     let mut string = blank_string();
     let n = put_string(
@@ -251,6 +269,7 @@ fn prove_lent(
         question,
         coefficients,
         tails,
+        blinds,
         masks,
         nonces,
         &mut string,
@@ -283,13 +302,14 @@ pub fn prove(
     limit: u32,
     coefficients: &[u32],
     tails: &[u32],
+    blinds: &[u32],
     masks: &[u32],
     table: &[u32],
     nonces: &[u8],
     tree: &[u8],
     proof: &mut [u8],
 ) -> Proved
-    ensures { λ r. ⌜ (numberOf r, lengthOf r, now (proof .exit)) ≡ proving (now (question .entry)) kappa limit (lentOf (now (coefficients .entry)) (now (tails .entry)) (now (masks .entry)) (now (nonces .entry))) (now (table .entry)) (now (tree .entry)) (now (proof .entry)) ⌝ }
+    ensures { λ r. ⌜ (numberOf r, lengthOf r, now (proof .exit)) ≡ proving (now (question .entry)) kappa limit (lentOf (now (coefficients .entry)) (now (tails .entry)) (now (blinds .entry)) (now (masks .entry)) (now (nonces .entry))) (now (table .entry)) (now (tree .entry)) (now (proof .entry)) ⌝ }
 {
     match ask_offline(question, kappa) {
         Questioned::WellFormed(s, m) => {
@@ -299,6 +319,7 @@ pub fn prove(
                 question,
                 coefficients,
                 tails,
+                blinds,
                 masks,
                 table,
                 nonces,
@@ -316,6 +337,7 @@ pub fn prove(
                 limit,
                 coefficients,
                 tails,
+                blinds,
                 masks,
                 table,
                 nonces,

@@ -28,14 +28,16 @@ pub extern "C" fn smallwood_commit(
     w: u32,
     l: u32,
     eta: u32,
+    beta: u32,
     coefficients: &[u32],
     tails: &[u32],
+    blinds: &[u32],
     masks: &[u32],
     nonces: &[u8],
     table: &mut [u32],
     tree: &mut [u8],
 ) -> u32
-    ensures { λ r. ⌜ (r, now (table .exit), now (tree .exit)) ≡ committing (sizesOf h mu nu w l eta) (lentOf (now (coefficients .entry)) (now (tails .entry)) (now (masks .entry)) (now (nonces .entry))) (now (table .entry)) (now (tree .entry)) ⌝ }
+    ensures { λ r. ⌜ (r, now (table .exit), now (tree .exit)) ≡ committing (sizesOf h mu nu w l eta beta) (lentOf (now (coefficients .entry)) (now (tails .entry)) (now (blinds .entry)) (now (masks .entry)) (now (nonces .entry))) (now (table .entry)) (now (tree .entry)) ⌝ }
 {
     committer::commit(
         h,
@@ -44,8 +46,10 @@ pub extern "C" fn smallwood_commit(
         w,
         l,
         eta,
+        beta,
         coefficients,
         tails,
+        blinds,
         masks,
         nonces,
         table,
@@ -74,6 +78,7 @@ pub extern "C" fn smallwood_open(
     question: &[u8],
     coefficients: &[u32],
     tails: &[u32],
+    blinds: &[u32],
     masks: &[u32],
     table: &[u32],
     nonces: &[u8],
@@ -81,12 +86,13 @@ pub extern "C" fn smallwood_open(
     reply: &mut [u8],
     length: &mut u64,
 ) -> u32
-    ensures { λ r. ⌜ (r, now (length .exit), now (reply .exit)) ≡ openingC (now (question .entry)) (lentOf (now (coefficients .entry)) (now (tails .entry)) (now (masks .entry)) (now (nonces .entry))) (now (table .entry)) (now (tree .entry)) (now (reply .entry)) (now (length .entry)) ⌝ }
+    ensures { λ r. ⌜ (r, now (length .exit), now (reply .exit)) ≡ openingC (now (question .entry)) (lentOf (now (coefficients .entry)) (now (tails .entry)) (now (blinds .entry)) (now (masks .entry)) (now (nonces .entry))) (now (table .entry)) (now (tree .entry)) (now (reply .entry)) (now (length .entry)) ⌝ }
 {
     let answer = opener::open(
         question,
         coefficients,
         tails,
+        blinds,
         masks,
         table,
         nonces,
@@ -169,6 +175,7 @@ pub extern "C" fn smallwood_prove(
     limit: u32,
     coefficients: &[u32],
     tails: &[u32],
+    blinds: &[u32],
     masks: &[u32],
     table: &[u32],
     nonces: &[u8],
@@ -176,7 +183,7 @@ pub extern "C" fn smallwood_prove(
     proof: &mut [u8],
     length: &mut u64,
 ) -> u32
-    ensures { λ r. ⌜ (r, now (length .exit), now (proof .exit)) ≡ provingC (now (question .entry)) kappa limit (lentOf (now (coefficients .entry)) (now (tails .entry)) (now (masks .entry)) (now (nonces .entry))) (now (table .entry)) (now (tree .entry)) (now (proof .entry)) (now (length .entry)) ⌝ }
+    ensures { λ r. ⌜ (r, now (length .exit), now (proof .exit)) ≡ provingC (now (question .entry)) kappa limit (lentOf (now (coefficients .entry)) (now (tails .entry)) (now (blinds .entry)) (now (masks .entry)) (now (nonces .entry))) (now (table .entry)) (now (tree .entry)) (now (proof .entry)) (now (length .entry)) ⌝ }
 {
     let answer = prover::prove(
         question,
@@ -184,6 +191,7 @@ pub extern "C" fn smallwood_prove(
         limit,
         coefficients,
         tails,
+        blinds,
         masks,
         table,
         nonces,

@@ -25,13 +25,13 @@ same-length-2 c = search needs
 
 returns : tie.Need-returns
 returns c =
-    let s = c .before .before .before .before .before .before .before .before .before .before .before .before .before .args in
+    let s = c .before .before .before .before .before .before .before .before .before .before .before .before .before .before .args in
     let n : ℕ = length (s .answer .now) in
-    let es : List (List ℕ) = extendedRows (sizesIn (s .s)) (lentOf (s .coefficients .now) (s .tails .now) [] []) in
+    let es : List (List ℕ) = extendedRows (sizesIn (s .s)) (lentOf (s .coefficients .now) (s .tails .now) (s .blinds .now) [] []) in
     c .before .before .put-words .ensures
-    ∙ put-answer (s .at) n (c .before .before .before .before .before .before .before .combine-lent .last .1 .1 .1 .1 .0) (combination n (s .z .0) es) (s .out .now)
+    ∙ put-answer (s .at) n (c .before .before .before .before .before .before .before .combine-lent .last .1 .1 .1 .1 .1 .0) (combination n (s .z .0) es) (s .out .now)
     (c .before .before .before .before .before .before .before .combine-lent .ensures ∙ ap (λ (k : ℕ). combination k (s .z .0) es)
-    (sym (c .before .before .before .before .before .before .before .before .before .before .before .before .before .pre .1))) (combination-length n (s .z .0) es)
+    (sym (c .before .before .before .before .before .before .before .before .before .before .before .before .before .before .pre .1))) (combination-length n (s .z .0) es)
 
 pub put-answer-in-spec : {M : Type 1} → statement M
 put-answer-in-spec =

@@ -17,21 +17,27 @@ use Rattle.answers.proofs.put_answers.Statement.{statement}
 use Rattle.answers.proofs.put_answers.Tie as tie
 
 abbrev Inv-loop : tie.InvT-loop
-Inv-loop s question points m coefficients tails n out₀ at size p₀ out p =
-    (size ≡ 4 * n) × (p ≤ m) × (out ≡ answersTo (answerAt n (extendedRows (sizesIn s) (lentOf coefficients tails [] []))) (words m (drop points question)) n at out₀ p) × (length out ≡ length out₀)
+Inv-loop s question points m coefficients tails blinds n out₀ at size p₀ out p =
+    (size ≡ 4 * n) × (p ≤ m) × (out ≡ answersTo (answerAt n (extendedRows (sizesIn s) (lentOf coefficients tails blinds [] []))) (words m (drop points question)) n at out₀ p) × (length out ≡ length out₀)
 
 abbrev μ-loop : tie.MeasureT-loop
-μ-loop s question points m coefficients tails n out₀ at size p₀ out p = m - p
+μ-loop s question points m coefficients tails blinds n out₀ at size p₀ out p = m - p
 
 mul-size : tie.Need-mul-size Inv-loop μ-loop
 mul-size c =
-    let s = c .before .before .before .before .args in
-    let h : s .n ≤ 320 = answer-narrow (sizesIn (s .s)) (s .coefficients .now) (s .tails .now) (c .before .before .before .before .pre .0) (s .n) (c .before .before .before .before .pre .1) in search needs
+    let s = c .before .before .before .before .before .args in
+    let h : s .n ≤ 320 = answer-narrow (sizesIn (s .s)) (s .coefficients .now) (s .tails .now) (s .blinds .now) (c .before .before .before .before .before .pre .0) (s .n)
+    (c .before .before .before .before .before .pre .1) in search needs
 
 loop-holds : tie.Need-loop-holds Inv-loop μ-loop
 loop-holds c =
-    let s = c .before .before .before .before .args in
-    (refl, omega arith, answers-none (answerAt (s .n) (extendedRows (sizesIn (s .s)) (lentOf (s .coefficients .now) (s .tails .now) [] []))) (words (s .m) (drop (s .points) (s .question .now))) (s .n) (s .at) (s .out .now), refl)
+    let s = c .before .before .before .before .before .args in (
+      refl,
+      omega arith,
+      answers-none (answerAt (s .n) (extendedRows (sizesIn (s .s)) (lentOf (s .coefficients .now) (s .tails .now) (s .blinds .now) [] []))) (words (s .m) (drop (s .points) (s .question .now))) (s .n) (s .at)
+          (s .out .now),
+      refl,
+    )
 
 mul-word : tie.Need-mul-word Inv-loop μ-loop
 mul-word c = search needs
@@ -44,31 +50,31 @@ word-requires c κs = search needs
 
 mul-put-answer : tie.Need-mul-put-answer Inv-loop μ-loop
 mul-put-answer c =
-    let s = c .before .before .before .before .before .before .before .before .args in
-    let es : List (List ℕ) = extendedRows (sizesIn (s .s)) (lentOf (s .coefficients .now) (s .tails .now) [] []) in
+    let s = c .before .before .before .before .before .before .before .before .before .args in
+    let es : List (List ℕ) = extendedRows (sizesIn (s .s)) (lentOf (s .coefficients .now) (s .tails .now) (s .blinds .now) [] []) in
     let h : s .at + 4 * s .n * c .before .before .before .loop .p + 4 * s .n ≤ length (s .out .now) =
     answers-room (answerAt (s .n) es) (words (s .m) (drop (s .points) (s .question .now))) (s .n) (s .at) (s .out .now) (s .m) (length-words (s .m) (drop (s .points) (s .question .now)))
-    (λ z. combination-length (s .n) z es) (c .before .before .before .before .before .before .before .before .pre .3) (c .before .before .before .loop .p) (omega arith) in
+    (λ z. combination-length (s .n) z es) (c .before .before .before .before .before .before .before .before .before .pre .3) (c .before .before .before .loop .p) (omega arith) in
     search needs
 
 add-put-answer : tie.Need-add-put-answer Inv-loop μ-loop
 add-put-answer c =
-    let s = c .before .before .before .before .before .before .before .before .args in
-    let es : List (List ℕ) = extendedRows (sizesIn (s .s)) (lentOf (s .coefficients .now) (s .tails .now) [] []) in
+    let s = c .before .before .before .before .before .before .before .before .before .args in
+    let es : List (List ℕ) = extendedRows (sizesIn (s .s)) (lentOf (s .coefficients .now) (s .tails .now) (s .blinds .now) [] []) in
     let h : s .at + 4 * s .n * c .before .before .before .loop .p + 4 * s .n ≤ length (s .out .now) =
     answers-room (answerAt (s .n) es) (words (s .m) (drop (s .points) (s .question .now))) (s .n) (s .at) (s .out .now) (s .m) (length-words (s .m) (drop (s .points) (s .question .now)))
-    (λ z. combination-length (s .n) z es) (c .before .before .before .before .before .before .before .before .pre .3) (c .before .before .before .loop .p) (omega arith) in
+    (λ z. combination-length (s .n) z es) (c .before .before .before .before .before .before .before .before .before .pre .3) (c .before .before .before .loop .p) (omega arith) in
     search needs
 
 put-answer-requires : tie.Need-put-answer-requires Inv-loop μ-loop
 put-answer-requires c κs =
-    let s = c .before .before .before .before .before .before .before .before .args in
-    let es : List (List ℕ) = extendedRows (sizesIn (s .s)) (lentOf (s .coefficients .now) (s .tails .now) [] []) in
+    let s = c .before .before .before .before .before .before .before .before .before .args in
+    let es : List (List ℕ) = extendedRows (sizesIn (s .s)) (lentOf (s .coefficients .now) (s .tails .now) (s .blinds .now) [] []) in
     let h : s .at + 4 * s .n * c .before .before .before .loop .p + 4 * s .n ≤ length (s .out .now) =
     answers-room (answerAt (s .n) es) (words (s .m) (drop (s .points) (s .question .now))) (s .n) (s .at) (s .out .now) (s .m) (length-words (s .m) (drop (s .points) (s .question .now)))
-    (λ z. combination-length (s .n) z es) (c .before .before .before .before .before .before .before .before .pre .3) (c .before .before .before .loop .p) (omega arith) in (
-      c .before .before .before .before .before .before .before .before .pre .0,
-      c .before .before .before .before .before .before .before .before .pre .1,
+    (λ z. combination-length (s .n) z es) (c .before .before .before .before .before .before .before .before .before .pre .3) (c .before .before .before .loop .p) (omega arith) in (
+      c .before .before .before .before .before .before .before .before .before .pre .0,
+      c .before .before .before .before .before .before .before .before .before .pre .1,
       subst
           (λ (k : ℕ). s .at + 4 * s .n * c .before .before .before .loop .p + 4 * s .n ≤ k) (sym (c .before .before .before .loop .inv .3)) h,
     )
@@ -81,15 +87,15 @@ loop-less c = search needs
 
 loop-again : tie.Need-loop-again Inv-loop μ-loop
 loop-again c =
-    let s = c .before .before .before .before .before .before .before .before .before .before .before .args in
+    let s = c .before .before .before .before .before .before .before .before .before .before .before .before .args in
     let p : ℕ = c .before .before .before .before .before .before .loop .p in
     let xs : List ℕ = (words (s .m) (drop (s .points) (s .question .now))) in
-    let es : List (List ℕ) = extendedRows (sizesIn (s .s)) (lentOf (s .coefficients .now) (s .tails .now) [] []) in
+    let es : List (List ℕ) = extendedRows (sizesIn (s .s)) (lentOf (s .coefficients .now) (s .tails .now) (s .blinds .now) [] []) in
     let f : ℕ → List ℕ = answerAt (s .n) es in
     let z : c .before .before .before .before .word .result ≡ getD xs p 0 = c .before .before .before .before .word .ensures ∙ sym (word-from (s .m) (s .points) p (s .question .now) (omega arith)) in
     let r = answers-turn f xs (s .n) (s .at) (s .out .now) (s .m) (length-words (s .m) (drop (s .points) (s .question .now)))
-    (λ z. combination-length (s .n) z es) (c .before .before .before .before .before .before .before .before .before .before .before .pre .3) p (c .before .before .before .before .before .before .loop .out)
-    (c .before .before .put-answer .last .1 .1 .1 .1 .1 .0) (omega arith) (c .before .before .before .before .before .before .loop .inv .2)
+    (λ z. combination-length (s .n) z es) (c .before .before .before .before .before .before .before .before .before .before .before .before .pre .3) p (c .before .before .before .before .before .before .loop .out)
+    (c .before .before .put-answer .last .1 .1 .1 .1 .1 .1 .0) (omega arith) (c .before .before .before .before .before .before .loop .inv .2)
     (c .before .before .put-answer .ensures ∙ ap (λ (y : ℕ). spliced (s .at + 4 * s .n * p) (4 * s .n) (bytesOf (f y)) (c .before .before .before .before .before .before .loop .out)) z) in
     (refl, omega arith, r .0, r .1)
 
@@ -98,8 +104,9 @@ same-length c = search needs
 
 returns : tie.Need-returns Inv-loop μ-loop
 returns c =
-    let s = c .before .before .before .before .before .before .args in
-    c .before .loop .inv .2 ∙ answers-all (answerAt (s .n) (extendedRows (sizesIn (s .s)) (lentOf (s .coefficients .now) (s .tails .now) [] []))) (words (s .m) (drop (s .points) (s .question .now))) (s .n) (s .at) (s .out .now)
+    let s = c .before .before .before .before .before .before .before .args in
+    c .before .loop .inv .2 ∙ answers-all (answerAt (s .n) (extendedRows (sizesIn (s .s)) (lentOf (s .coefficients .now) (s .tails .now) (s .blinds .now) [] []))) (words (s .m) (drop (s .points) (s .question .now))) (s .n) (s .at)
+    (s .out .now)
     (s .m) (length-words (s .m) (drop (s .points) (s .question .now))) (c .before .loop .p) (omega arith)
 
 pub put-answers-spec : {M : Type 1} → statement M

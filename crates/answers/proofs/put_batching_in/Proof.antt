@@ -29,13 +29,13 @@ same-length-3 c = search needs
 
 returns : tie.Need-returns
 returns c =
-    let s = c .before .before .before .before .before .before .before .before .before .before .before .before .before .before .before .before .before .before .args in
+    let s = c .before .before .before .before .before .before .before .before .before .before .before .before .before .before .before .before .before .before .before .args in
     let n : ℕ = length (s .mask .now) in
-    let es : List (List ℕ) = extendedRows (sizesIn (s .s)) (lentOf (s .coefficients .now) (s .tails .now) [] []) in
+    let es : List (List ℕ) = extendedRows (sizesIn (s .s)) (lentOf (s .coefficients .now) (s .tails .now) (s .blinds .now) [] []) in
     c .before .before .put-words .ensures
-    ∙ put-answer (s .at) n (c .before .before .before .before .before .before .before .before .before .batching-answer .last .1 .1 .1 .1 .1 .1 .1 .0) (batchingOver (s .first .0) n es (s .mask .now) (s .gamma .0)) (s .out .now)
+    ∙ put-answer (s .at) n (c .before .before .before .before .before .before .before .before .before .batching-answer .last .1 .1 .1 .1 .1 .1 .1 .1 .0) (batchingOver (s .first .0) n es (s .mask .now) (s .gamma .0)) (s .out .now)
     (c .before .before .before .before .before .before .before .before .before .batching-answer .ensures ∙ ap (λ (k : ℕ). batchingOver (s .first .0) k es (s .mask .now) (s .gamma .0))
-    (c .before .before .before .before .before .before .before .before .before .before .before .before .before .before .before .before .before .before .pre .5)) (combination-length n (s .gamma .0) _)
+    (c .before .before .before .before .before .before .before .before .before .before .before .before .before .before .before .before .before .before .before .pre .5)) (combination-length n (s .gamma .0) _)
 
 pub put-batching-in-spec : {M : Type 1} → statement M
 put-batching-in-spec =

@@ -7,22 +7,22 @@ use Rattle.opener.proofs.put_sums.Statement.{statement}
 use Rattle.opener.proofs.put_sums.Tie as tie
 
 row-width-requires : tie.Need-row-width-requires
-row-width-requires c κs = c .before .before .before .before .before .pre .combine .extend .sizes
+row-width-requires c κs = c .before .before .before .before .before .before .pre .combine .extend .laid .sizes
 
 leaf-count-requires : tie.Need-leaf-count-requires
-leaf-count-requires c κs = c .before .before .before .before .before .before .pre .combine .extend .sizes .h-high
+leaf-count-requires c κs = c .before .before .before .before .before .before .before .pre .combine .extend .laid .sizes .h-high
 
-cast-t11 : tie.Need-cast-t11
-cast-t11 c =
-    let h = leaves-high (sizesIn (c .before .before .before .before .before .before .before .args .s)) (c .before .before .before .before .before .before .before .pre .combine .extend .sizes) in search needs
+cast-t12 : tie.Need-cast-t12
+cast-t12 c =
+    let h = leaves-high (sizesIn (c .before .before .before .before .before .before .before .before .args .s)) (c .before .before .before .before .before .before .before .before .pre .combine .extend .laid .sizes) in search needs
 
 challenges-at-requires : tie.Need-challenges-at-requires
 challenges-at-requires c κs = search needs
 
 put-batchings-requires : tie.Need-put-batchings-requires
 put-batchings-requires c κs =
-    let s = c .before .before .before .before .before .before .before .before .before .args in
-    batchings-ask (sizesIn (s .s)) (s .m) (s .question .now) (s .coefficients .now) (s .tails .now) (s .masks .now) (s .reply .now) (c .before .before .before .before .before .before .before .before .before .pre)
+    let s = c .before .before .before .before .before .before .before .before .before .before .args in
+    batchings-ask (sizesIn (s .s)) (s .m) (s .question .now) (s .coefficients .now) (s .tails .now) (s .blinds .now) (s .masks .now) (s .reply .now) (c .before .before .before .before .before .before .before .before .before .before .pre)
     (c .before .before .before .row-width .result) (c .before .before .leaf-count .result) (c .before .challenges-at .result) (c .before .before .before .row-width .ensures) (c .before .before .leaf-count .ensures)
     (c .before .challenges-at .ensures)
 
@@ -30,29 +30,29 @@ points-at-requires : tie.Need-points-at-requires
 points-at-requires c κs = search needs
 
 answers-at-requires : tie.Need-answers-at-requires
-answers-at-requires c κs = c .before .before .before .before .before .before .before .before .before .before .before .before .before .before .pre .combine .extend .sizes
+answers-at-requires c κs = c .before .before .before .before .before .before .before .before .before .before .before .before .before .before .before .pre .combine .extend .laid .sizes
 
 put-answers-requires : tie.Need-put-answers-requires
 put-answers-requires c κs =
-    let s = c .before .before .before .before .before .before .before .before .before .before .before .before .before .before .before .args in
-    answers-ask (sizesIn (s .s)) (s .m) (s .question .now) (s .coefficients .now) (s .tails .now) (s .masks .now) (s .reply .now)
-    (c .before .before .before .before .before .before .before .before .before .before .before .before .before .before .before .pre) (c .before .before .before .before .before .before .before .before .before .row-width .result)
-    (c .before .before .points-at .result) (c .answers-at .result) (c .before .before .before .before .before .put-batchings .last .1 .1 .1 .1 .1 .1 .1 .1 .0)
+    let s = c .before .before .before .before .before .before .before .before .before .before .before .before .before .before .before .before .args in
+    answers-ask (sizesIn (s .s)) (s .m) (s .question .now) (s .coefficients .now) (s .tails .now) (s .blinds .now) (s .masks .now) (s .reply .now)
+    (c .before .before .before .before .before .before .before .before .before .before .before .before .before .before .before .before .pre) (c .before .before .before .before .before .before .before .before .before .row-width .result)
+    (c .before .before .points-at .result) (c .answers-at .result) (c .before .before .before .before .before .put-batchings .last .1 .1 .1 .1 .1 .1 .1 .1 .1 .0)
     (c .before .before .before .before .before .before .before .before .before .row-width .ensures) (c .before .before .points-at .ensures) (c .answers-at .ensures)
-    (c .before .before .before .before .before .put-batchings .kept .1 .1 .1 .1 .1 .1 .1 .1 .0)
+    (c .before .before .before .before .before .put-batchings .kept .1 .1 .1 .1 .1 .1 .1 .1 .1 .0)
 
 same-length : tie.Need-same-length
 same-length c = search needs
 
 returns : tie.Need-returns
 returns c =
-    let s = c .before .before .before .before .before .before .before .before .before .before .before .before .before .before .before .before .before .before .args in
-    sums-are (sizesIn (s .s)) (s .m) (s .question .now) (s .coefficients .now) (s .tails .now) (s .masks .now) (s .reply .now)
-    (c .before .before .before .before .before .before .before .before .before .before .before .before .before .before .before .before .before .before .pre)
+    let s = c .before .before .before .before .before .before .before .before .before .before .before .before .before .before .before .before .before .before .before .args in
+    sums-are (sizesIn (s .s)) (s .m) (s .question .now) (s .coefficients .now) (s .tails .now) (s .blinds .now) (s .masks .now) (s .reply .now)
+    (c .before .before .before .before .before .before .before .before .before .before .before .before .before .before .before .before .before .before .before .pre)
     (c .before .before .before .before .before .before .before .before .before .before .before .before .row-width .result)
     (c .before .before .before .before .before .before .before .before .before .before .before .leaf-count .result) (c .before .before .before .before .before .before .before .before .before .before .challenges-at .result)
     (c .before .before .before .before .before .points-at .result) (c .before .before .before .answers-at .result)
-    (c .before .before .before .before .before .before .before .before .put-batchings .last .1 .1 .1 .1 .1 .1 .1 .1 .0) (c .before .before .put-answers .last .1 .1 .1 .1 .1 .1 .1 .0)
+    (c .before .before .before .before .before .before .before .before .put-batchings .last .1 .1 .1 .1 .1 .1 .1 .1 .1 .0) (c .before .before .put-answers .last .1 .1 .1 .1 .1 .1 .1 .1 .0)
     (c .before .before .before .before .before .before .before .before .before .before .before .before .row-width .ensures)
     (c .before .before .before .before .before .before .before .before .before .before .before .leaf-count .ensures) (c .before .before .before .before .before .before .before .before .before .before .challenges-at .ensures)
     (c .before .before .before .before .before .points-at .ensures) (c .before .before .before .answers-at .ensures) (c .before .before .before .before .before .before .before .before .put-batchings .ensures)
@@ -64,7 +64,7 @@ put-sums-spec =
     (tie.spec
     row-width-requires
     leaf-count-requires
-    cast-t11
+    cast-t12
     challenges-at-requires
     put-batchings-requires
     points-at-requires

@@ -1,0 +1,2 @@
+-- the columns of the matrix from what is lent
+pub mod Columns
