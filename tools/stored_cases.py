@@ -17,10 +17,11 @@ sys.path.insert(0, str(ROOT / "reference"))
 
 import smallwood as S  # noqa: E402
 from drafts import Lent, Source, ask, case_p, committed, honest, lend, name, product, simulated, vanishing  # noqa: E402
-from faults import levels_with, wrong_batchings, wrong_strings  # noqa: E402
+from faults import levels_with, wrong_batchings, wrong_lines, wrong_strings  # noqa: E402
 from smallwood import Q, Question, Sizes  # noqa: E402
 
 SEVERAL = Sizes(5, 3, 2, 4, 6, 2, 3)
+BLINDED = Sizes(5, 3, 3, 3, 6, 2, 3, 2)
 FULL = Sizes(3, 1, 4, 1, 4, 1, 1)  # w nu + l = N
 
 
@@ -64,8 +65,18 @@ def columns_and_value():
     """The polynomial 1 + 2X + 3X^2 + 4X^3 in two columns, at 10 and at 0."""
     s = Sizes(2, 2, 2, 1, 1, 1, 2)
     src = Source("stored columns")
-    c = committed(s, Lent([1, 2, 3, 4], src.elements(2), src.elements(3), src.bytes(128)))
+    c = committed(s, Lent([1, 2, 3, 4], src.elements(2), [], src.elements(3), src.bytes(128)))
     return honest(c, Question(s, c.tree[-32:], [7], [10, 0], [2]))
+
+
+def columns_with_a_blind():
+    """The polynomial 1 + 2X + 3X^2 + 4X^3 + 5X^4 in two columns with the blind 7, at 10 and at 0."""
+    s = Sizes(2, 2, 2, 1, 1, 1, 2, 1)
+    src = Source("stored columns with a blind")
+    c = committed(s, Lent([1, 2, 3, 4, 5], src.elements(3), [7], src.elements(3), src.bytes(128)))
+    d = honest(c, Question(s, c.tree[-32:], [7], [10, 0], [2]))
+    assert d.answers[0][:2] == [721, 536]
+    return d
 
 
 def largest_elements():
@@ -93,6 +104,10 @@ def accepted():
     yield "equal_points", drawn(Sizes(4, 3, 2, 2, 3, 2, 3), points=[9, 9, 0])
     yield "false_value", false_value()
     yield "largest_sizes", simulated(Source("stored largest sizes"), Sizes(12, 64, 1, 256, 64, 4, 8))
+    yield "columns_with_a_blind", columns_with_a_blind()
+    yield "blinded_polynomials", drawn(BLINDED)
+    yield "most_blinding_rows", drawn(Sizes(4, 48, 2, 3, 4, 1, 2, 16))
+    yield "blinding_rows_without_blinds", drawn(Sizes(3, 2, 1, 3, 2, 2, 1, 2))
 
 
 # ---- Refused ----------------------------------------------------------------------------------------
@@ -110,16 +125,21 @@ def set_entry(part, at, word):
 def question_refused():
     d = drawn(SEVERAL)
     question, data = d.question(), whole(d)
-    yield "thirteen_bytes", 6, question[:13]
+    yield "fourteen_bytes", 6, question[:14]
     yield "wrong_mark", 5, spoiled(data, 2)
     yield "wrong_version", 5, spoiled(data, 3)
-    yield "version_in_other_order", 5, data[:3] + b"\0\1" + data[5:]
+    yield "version_in_other_order", 5, data[:3] + b"\0\2" + data[5:]
+    yield "version_1", 5, data[:3] + b"\1\0" + data[5:]
+    yield "version_1_without_byte_14", 5, data[:3] + b"\1\0" + data[5:14] + data[15:]
     yield "one_leaf_too_many", 1, header_with(FULL._replace(l=5))
     yield "depth_13", 1, header_with(SEVERAL._replace(h=13))
     yield "columns_257", 1, header_with(Sizes(12, 1, 257, 1, 1, 1, 1))
     yield "columns_65536", 1, header_with(Sizes(12, 1, 256, 256, 1, 1, 1))
     yield "nine_points", 1, header_with(SEVERAL._replace(m=9))
-    yield "header_alone", 6, question[:14]
+    yield "more_blinding_rows_than_others", 1, header_with(SEVERAL._replace(beta=4))
+    yield "blinding_rows_17", 1, header_with(SEVERAL._replace(mu=20, beta=17))
+    yield "rows_65", 1, header_with(SEVERAL._replace(mu=49, beta=16))
+    yield "header_alone", 6, question[:15]
     yield "question_cut", 6, question[:-1]
     yield "challenge_q", 3, altered(d, set_entry("challenges", -1, Q))
     yield "point_q", 3, altered(d, set_entry("points", 0, Q))
@@ -142,7 +162,7 @@ def reply_refused():
     yield "batching_word_q", 3, altered(d, lambda e: e.batchings[0].__setitem__(0, Q))
     yield "answer_word_q", 3, altered(d, lambda e: e.answers[-1].__setitem__(-1, Q))
     yield "leaf_word_over_q", 3, altered(d, lambda e: e.leaves[-1][0].__setitem__(-1, 2**32 - 1))
-    yield "other_root", 8, spoiled(whole(d), 14 + 31)
+    yield "other_root", 8, spoiled(whole(d), 15 + 31)
     yield "other_nonce", 8, altered(d, set_entry("leaves", 2, (d.leaves[2][0], spoiled(d.leaves[2][1], 0))))
     yield "other_node", 8, altered(d, set_entry("nodes", -1, spoiled(d.nodes[-1], 0)))
     yield "no_first_bytes", 8, whole(unmarked())
@@ -150,6 +170,13 @@ def reply_refused():
     yield "batching_from_power_0", 9, whole(from_power_0())
     yield "answer_at_last_leaf", 10, altered(d, lambda e: e.shift_answer(point, product([3], d.others(last))))
     yield "row_hidden_by_masks", 10, altered(d, lambda e: e.compensate(0, 1, 8, range(d.sizes.eta)).rehash())
+    d = drawn(BLINDED)
+    yield "another_beta", 7, altered(d, lambda e: setattr(e, "sizes", BLINDED._replace(beta=1)))
+    yield "blinding_row_hidden_by_masks", 10, altered(d, lambda e: e.compensate(5, 4, 8, range(d.sizes.eta)).rehash())
+    yield "batching_with_blinds_not_taken_off", 9, whole(mistaken("batchings", "blinds not taken off"))
+    yield "batching_without_blinding_rows", 9, whole(mistaken("batchings", "no blinding rows"))
+    yield "answer_with_blinds_not_taken_off", 10, whole(mistaken("answers", "blinds not taken off"))
+    yield "answer_without_top_coefficients", 10, whole(mistaken("answers", "no top coefficients"))
 
 
 def unmarked():
@@ -173,6 +200,19 @@ def from_power_0():
     return e
 
 
+def mistaken(part, label):
+    """Batching or evaluation answers over columns with that mistake."""
+    src, c = commitment(BLINDED)
+    q = ask(src, c)
+    e, lines = honest(c, q), dict(wrong_lines(c))[label]
+    if part == "batchings":
+        masks = [S.mask_of(BLINDED, c.lent.masks, k) for k in range(BLINDED.eta)]
+        e.batchings = [S.batching_of(BLINDED, lines, *pair) for pair in zip(masks, q.challenges)]
+    else:
+        e.answers = [S.answer_of(lines, z) for z in q.points]
+    return e
+
+
 # ---- Files ------------------------------------------------------------------------------------------
 
 
@@ -187,7 +227,7 @@ def cases():
 def files():
     """(path from the repository's root, contents)"""
     p = whole(case_p())
-    assert len(case_p().question()) == 56 and len(case_p().reply()) == 88
+    assert len(case_p().question()) == 57 and len(case_p().reply()) == 88
     assert S.program(p) == b"verdict 0\n1 1 5\n" and S.program(b"") == b"verdict 6\n"
     yield "crates/verdict/stdin", p
     yield "crates/verdict/stdout", S.program(p)

@@ -6,9 +6,13 @@
 
 Nothing here runs the proved program: the inputs are made by the rules that crates/runs/src/inputs.rt states, every outcome
 is what reference/smallwood.py says, and each reply is checked by it. Each refusal also has the number that its construction gives.
+
+The runs without blinding rows come first. They are those of version 1, and beta = 0 has to give what it gave: the whole of
+its stored output, by its SHA-256, once beta and version are taken out of sizes and headers again.
 """
 
 import sys
+from hashlib import sha256
 from pathlib import Path
 
 ROOT = Path(__file__).resolve().parent.parent
@@ -16,9 +20,14 @@ sys.dont_write_bytecode = True
 sys.path.insert(0, str(ROOT / "reference"))
 
 import smallwood as S  # noqa: E402
+from drafts import Lent  # noqa: E402
 from smallwood import Q, Question, Sizes  # noqa: E402
 
 STORED = ROOT / "crates" / "openings" / "stdout"
+# git show 475c6a9:crates/openings/stdout | sha256sum
+VERSION_1 = "a19469a0a68786c606a5f8dd76d36430441cb58c8e2b6b31615bfdf89548a7d7"
+LARGEST = 2**32 - 1
+BLINDS = 11  # the tag of the blinds in the rules
 SHORT = 1500  # replies below this many bytes are printed whole
 
 
@@ -42,12 +51,23 @@ def points(count):
 
 
 def lent(s):
-    """Coefficients, tails, masks, nonces; then table and tree before committing."""
-    return (
-        (words(1, s.w * s.mu * s.nu), words(2, s.mu * s.l), words(3, s.eta * s.width), octets(4, 32 * s.leaves)),
-        words(7, s.leaves * s.record),
-        octets(8, 32 * (2 * s.leaves - 1)),
-    )
+    """Coefficients, tails, blinds, masks, nonces; then table and tree before committing."""
+    given = Lent(
+        words(1, s.w * s.each), words(2, s.rows * s.l), words(BLINDS, s.w * s.blinds_each), words(3, s.eta * s.width),
+        octets(4, 32 * s.leaves),
+    )  # fmt: skip
+    return given, words(7, s.leaves * s.record), octets(8, 32 * (2 * s.leaves - 1))
+
+
+def shorter(given, part):
+    """What is lent, with one slice less by its last item."""
+    return given._replace(**{part: getattr(given, part)[:-1]})
+
+
+def with_q(given, part):
+    """What is lent, with q for the last word of one slice."""
+    items = getattr(given, part)
+    return given._replace(**{part: with_item(items, len(items) - 1, Q)})
 
 
 def reply_room(length):
@@ -64,7 +84,7 @@ def question_of(s, tree, first, step):
 
 
 def sizes_text(s):
-    return "h %d mu %d nu %d w %d l %d eta %d" % s[:6]
+    return "h %d mu %d nu %d w %d l %d eta %d beta %d" % s.of_commitment
 
 
 def size_text(question):
@@ -73,7 +93,7 @@ def size_text(question):
 
 
 def accepted(s, given, table, tree, before, ask):
-    number, table, tree = S.commit(*s[:6], *given, table, tree)
+    number, table, tree = S.commit(*s.of_commitment, *given, table, tree)
     assert number == 0
     question = ask(tree)
     number, length, reply = S.open_reply(question, *given, table, tree, before(S.reply_length(question)[1]))
@@ -93,7 +113,7 @@ def accepted(s, given, table, tree, before, ask):
 
 def case_p():
     s = Sizes(1, 1, 1, 1, 1, 1, 1)
-    given = [5], [9], [7, 2], bytes(64)
+    given = [5], [9], [], [7, 2], bytes(64)
 
     def ask(tree):
         return S.write_question(Question(s, tree[-32:], [10], [6], [1]))
@@ -102,6 +122,7 @@ def case_p():
 
 
 SMALL = Sizes(2, 2, 1, 2, 2, 2, 1)  # those of the refusals
+BLINDED = Sizes(2, 2, 2, 1, 2, 2, 1, 1)  # and those with one blind
 
 CASES = (  # the sizes, then the first index and the step
     (Sizes(4, 3, 2, 4, 5, 2, 3), 1, 3),
@@ -112,6 +133,16 @@ CASES = (  # the sizes, then the first index and the step
     (Sizes(3, 1, 4, 1, 4, 1, 1), 4, 1),
     (Sizes(12, 64, 16, 16, 64, 4, 8), 63, 64),
     (SMALL, 1, 2),
+)
+
+BLINDED_CASES = (
+    (BLINDED, 1, 2),
+    (Sizes(1, 1, 1, 1, 1, 1, 1, 1), 1, 0),  # nu = 1: no blinds
+    (Sizes(3, 4, 1, 3, 2, 3, 1, 2), 2, 3),
+    (Sizes(4, 3, 3, 2, 4, 2, 2, 3), 0, 5),  # beta = mu
+    (Sizes(5, 16, 2, 5, 3, 1, 3, 16), 9, 11),
+    (Sizes(9, 2, 256, 1, 3, 1, 1, 2), 0, 255),
+    (Sizes(12, 48, 16, 16, 64, 4, 8, 16), 63, 64),
 )
 
 
@@ -131,84 +162,177 @@ def raised(data, at):
     return with_item(data, at, (data[at] + 1) % 256)
 
 
+class Committing:
+    """Commits with what is lent at these sizes, and a line for each."""
+
+    def __init__(self, s):
+        self.s = s
+        self.given, self.table, self.tree = lent(s)
+
+    def line(self, expected, sizes=None, given=None, table=None, tree=None):
+        s, before = sizes or self.s, (table or self.table, tree or self.tree)
+        number, *after = S.commit(*s.of_commitment, *(given or self.given), *before)
+        assert number == expected, (number, expected)
+        return "%s commit %d %s" % (sizes_text(s), number, "same" if tuple(after) == before else "changed")
+
+
 def refused_commits():
-    s = SMALL
-    given, table, tree = lent(s)
-
-    def line(expected, sizes, given, table, tree):
-        number, table_after, tree_after = S.commit(*sizes[:6], *given, table, tree)
-        assert number == expected
-        kept = (table_after, tree_after) == (table, tree)
-        return "%s commit %d %s" % (sizes_text(sizes), number, "same" if kept else "changed")
-
+    c = Committing(SMALL)
     for changed in (
         dict(h=0), dict(h=13), dict(mu=0), dict(mu=65), dict(nu=0), dict(nu=257), dict(w=0), dict(w=257),
         dict(h=12, nu=16, w=17), dict(l=0), dict(h=12, l=65), dict(eta=0), dict(eta=5), dict(l=3),
     ):  # fmt: skip
-        yield line(1, s._replace(**changed), given, table, tree)
-    for k in range(4):
-        yield line(2, s, [g[:-1] if i == k else g for i, g in enumerate(given)], table, tree)
-    yield line(2, s, given, table[:-1], tree)
-    yield line(2, s, given, table, tree[:-1])
-    for k in range(3):
-        yield line(3, s, [with_item(g, len(g) - 1, Q) if i == k else g for i, g in enumerate(given)], table, tree)
-    yield line(0, s, given, table, tree)
+        yield c.line(1, c.s._replace(**changed))
+    for part in ("coefficients", "tails", "masks", "nonces"):
+        yield c.line(2, given=shorter(c.given, part))
+    yield c.line(2, table=c.table[:-1])
+    yield c.line(2, tree=c.tree[:-1])
+    for part in ("coefficients", "tails", "masks"):
+        yield c.line(3, given=with_q(c.given, part))
+    yield c.line(0)
+
+
+def with_blinds(given, count):
+    return given._replace(blinds=words(BLINDS, count))
+
+
+def refused_blinded_commits():
+    c = Committing(SMALL)
+    for changed in dict(beta=3), dict(mu=20, beta=17), dict(mu=49, beta=16), dict(mu=64, beta=1), dict(beta=LARGEST):
+        yield c.line(1, c.s._replace(**changed))
+    yield c.line(1, Sizes(*[LARGEST] * 8))
+    yield c.line(2, given=with_blinds(c.given, 1))
+    c = Committing(BLINDED)
+    for count in (0, 2):
+        yield c.line(2, given=with_blinds(c.given, count))
+    for part in ("coefficients", "tails"):
+        yield c.line(2, given=shorter(c.given, part))
+    yield c.line(2, table=c.table[:-1])
+    for part in ("coefficients", "tails", "blinds", "masks"):
+        yield c.line(3, given=with_q(c.given, part))
+    yield c.line(0)
+
+
+class Opening:
+    """Openings of one commitment, and a line for each."""
+
+    def __init__(self, s):
+        self.s = s
+        self.given, table, tree = lent(s)
+        number, self.table, self.tree = S.commit(*s.of_commitment, *self.given, table, tree)
+        assert number == 0
+        self.question = question_of(s, self.tree, 1, 2)
+        self.exact = S.reply_length(self.question)[1]
+
+    def asked(self, **changed):
+        """The question with other sizes, challenges, points or indices."""
+        return S.write_question(S.read_question(self.question)[1]._replace(**changed))
+
+    def line(self, expected, question=None, given=None, table=None, tree=None, room=None):
+        question = question or self.question
+        given, table, tree = given or self.given, table or self.table, tree or self.tree
+        before = reply_room(self.exact if room is None else room)
+        number, _, after = S.open_reply(question, *given, table, tree, before)
+        assert number == expected, (number, expected)
+        return "%s open %d %s" % (size_text(question), number, "same" if after == before else "changed")
 
 
 def refused_opens():
-    s = SMALL
-    given, table, tree = lent(s)
-    number, table, tree = S.commit(*s[:6], *given, table, tree)
-    assert number == 0
-    question = question_of(s, tree, 1, 2)
-    exact = S.reply_length(question)[1]
-
-    def line(expected, question=question, given=given, table=table, tree=tree, room=exact):
-        number, _, after = S.open_reply(question, *given, table, tree, reply_room(room))
-        assert number == expected, (number, expected)
-        return "%s open %d %s" % (size_text(question), number, "same" if after == reply_room(room) else "changed")
-
-    def shorter(k):
-        return [g[:-1] if i == k else g for i, g in enumerate(given)]
-
-    def with_q(k):
-        return [with_item(g, len(g) - 1, Q) if i == k else g for i, g in enumerate(given)]
-
-    def asked(challenges=words(5, s.eta), points=points(s.m), indices=(1, 3)):
-        return S.write_question(Question(s, tree[-32:], challenges, points, indices))
-
-    yield line(6, question[:13])
+    o = Opening(SMALL)
+    yield o.line(6, o.question[:13])
     for at in (0, 3, 4):
-        yield line(5, raised(question, at))
-    yield line(1, raised(question, 8))
-    yield line(1, raised(question, 11))
-    yield line(6, raised(question, 13))
-    yield line(6, question[:-1])
-    yield line(3, asked(challenges=[Q, 0]))
-    yield line(3, asked(points=[2**32 - 1]))
-    yield line(4, asked(indices=(1, 1)))
-    yield line(4, asked(indices=(3, 4)))
-    for k in range(4):
-        yield line(2, given=shorter(k))
-    yield line(2, table=table[:-1])
-    yield line(2, tree=tree[:-1])
-    for room in (0, exact - 1, exact + 1, S.reply_bytes(s, s.l * s.h)):
-        yield line(2, room=room)
-    for k in range(3):
-        yield line(3, given=with_q(k))
-    yield line(3, table=with_item(table, 15, Q))
-    yield line(8, raised(question, 14))
-    yield line(8, tree=raised(tree, 223))
-    yield line(0)
+        yield o.line(5, raised(o.question, at))
+    yield o.line(1, raised(o.question, 8))
+    yield o.line(1, raised(o.question, 11))
+    yield o.line(6, raised(o.question, 13))
+    yield o.line(6, o.question[:-1])
+    yield o.line(3, o.asked(challenges=[Q, 0]))
+    yield o.line(3, o.asked(points=[LARGEST]))
+    yield o.line(4, o.asked(indices=(1, 1)))
+    yield o.line(4, o.asked(indices=(3, 4)))
+    for part in ("coefficients", "tails", "masks", "nonces"):
+        yield o.line(2, given=shorter(o.given, part))
+    yield o.line(2, table=o.table[:-1])
+    yield o.line(2, tree=o.tree[:-1])
+    for room in (0, o.exact - 1, o.exact + 1, S.reply_bytes(o.s, o.s.l * o.s.h)):
+        yield o.line(2, room=room)
+    for part in ("coefficients", "tails", "masks"):
+        yield o.line(3, given=with_q(o.given, part))
+    yield o.line(3, table=with_item(o.table, len(o.table) - 1, Q))
+    yield o.line(8, raised(o.question, S.HEADER_BYTES))
+    yield o.line(8, tree=raised(o.tree, len(o.tree) - 1))
+    yield o.line(0)
+
+
+def with_version(question, version):
+    return question[:3] + version.to_bytes(2, "little") + question[5:]
+
+
+def refused_blinded_opens():
+    plain, o = Opening(SMALL), Opening(BLINDED)
+    yield plain.line(6, plain.question[:14])
+    yield plain.line(5, with_version(plain.question, 1))
+    for s in o.s._replace(beta=3), SMALL._replace(mu=20, beta=17), SMALL._replace(mu=49, beta=16):
+        yield o.line(1, o.asked(sizes=s))
+    yield o.line(1, o.asked(sizes=Sizes(255, 255, 65535, 65535, 255, 255, 1, 255)))
+    yield plain.line(6, plain.question[: S.HEADER_BYTES])
+    yield plain.line(2, given=with_blinds(plain.given, 1))
+    for count in (0, 2):
+        yield o.line(2, given=with_blinds(o.given, count))
+    yield plain.line(2, plain.asked(sizes=SMALL._replace(beta=1)))
+    for beta in (0, 2):
+        yield o.line(2, o.asked(sizes=o.s._replace(beta=beta)))
+    for part in ("coefficients", "tails"):
+        yield o.line(2, given=shorter(o.given, part))
+    yield o.line(2, table=o.table[:-1])
+    for room in (o.exact - 1, o.exact + 1):
+        yield o.line(2, room=room)
+    for part in ("coefficients", "tails", "blinds", "masks"):
+        yield o.line(3, given=with_q(o.given, part))
+    yield o.line(3, table=with_item(o.table, len(o.table) - 1, Q))
+    yield o.line(0)
+
+
+# ---- The whole output -------------------------------------------------------------------------------
+
+
+def plain_lines():
+    """The runs without blinding rows."""
+    yield from case_p()
+    for c in CASES:
+        yield from case(*c)
+    yield from refused_commits()
+    yield from refused_opens()
+
+
+def blinded_lines():
+    for c in BLINDED_CASES:
+        yield from case(*c)
+    yield from refused_blinded_commits()
+    yield from refused_blinded_opens()
 
 
 def output():
-    lines = list(case_p())
-    for c in CASES:
-        lines += case(*c)
-    lines += refused_commits()
-    lines += refused_opens()
+    plain = list(plain_lines())
+    compare_with_version_1(plain, VERSION_1)
+    return text([*plain, *blinded_lines()])
+
+
+def text(lines):
     return "".join(line + "\n" for line in lines).encode()
+
+
+def in_version_1(line):
+    """A line as it was in version 1, whose sizes and headers had no beta."""
+    if line.startswith("question "):
+        question = with_version(bytes.fromhex(line.split()[1]), 1)
+        return "question " + (question[:14] + question[S.HEADER_BYTES :]).hex()
+    return line.replace(" beta 0", "", 1)
+
+
+def compare_with_version_1(lines, expected):
+    if sha256(text(map(in_version_1, lines))).hexdigest() != expected:
+        sys.exit("the runs without blinding rows are not those of version 1")
 
 
 def compare_or_write(path, output):

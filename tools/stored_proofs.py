@@ -5,7 +5,8 @@
     tools/stored_proofs.py --check    makes it anew and compares it with what is stored
 
 As with tools/stored_openings.py, whose inputs these are, nothing here runs the proved program: every outcome is what
-reference/smallwood.py says, and each refusal also has the number that its construction gives.
+reference/smallwood.py says, and each refusal also has the number that its construction gives. The runs without blinding
+rows come first; roots and values are those of version 1, proofs are not, since their draws hash the header.
 """
 
 import sys
@@ -13,19 +14,24 @@ import sys
 sys.dont_write_bytecode = True
 
 from stored_openings import (  # noqa: E402
-    Q, ROOT, SMALL, S, Sizes, compare_or_write, lent, points, question_of, raised, reply_room, sizes_text, with_item, words,
+    BLINDED, Q, ROOT, SMALL, S, Sizes, compare_or_write, compare_with_version_1, lent, points, question_of, raised, reply_room,
+    shorter, sizes_text, text, with_blinds, with_item, with_q, with_version, words,
 )  # fmt: skip
 
 STORED = ROOT / "crates" / "offline_proofs" / "stdout"
+# git show 475c6a9:crates/offline_proofs/stdout | grep -E '^(h|m|question|values) ' | sha256sum
+VERSION_1 = "2db8579f3542d35a3865bd01ec2ff228b4ac53ab1c95f0ed4adde3b2e4d3507d"
 LIMIT = 5000  # above the least counter of every run here
 BUFFER = 4096  # the buffers of which a call is lent the front
 
-# The refusals' sizes, with two points: where the parts of a proof begin, and how long it is.
+# The refusals' sizes, with two points: where the parts of a proof begin (of the tails the second), and how long it is.
 SIZES = SMALL._replace(m=2)
-R_AT, COLUMNS_AT, TAILS_AT, ROWS_AT, MASKS_AT, NONCE_AT, NODES_AT, PROOF_LENGTH = 4, 36, 44, 68, 76, 84, 164, 228
-LEAST = 273  # the least counter with kappa 8
-COUNTER = 14  # with kappa 3
-UNQUALIFIED = 5  # draws the same leaves as COUNTER and does not qualify with kappa 3
+BLINDED_SIZES = BLINDED._replace(m=2)
+R_AT, COLUMNS_AT, TAIL_AT, ROWS_AT, MASKS_AT, NONCE_AT, NODES_AT, PROOF_LENGTH = 4, 36, 48, 68, 76, 84, 164, 228
+BLINDING_ROW_AT, BLINDED_LENGTH = 76, 236  # with a blinding row
+LEAST = 304  # the least counter with kappa 8
+COUNTER = 9  # with kappa 3
+UNQUALIFIED = 6  # draws the same leaves as COUNTER and does not qualify with kappa 3
 
 
 def value_room(length):
@@ -38,12 +44,12 @@ class Run:
     def __init__(self, s):
         self.s = s
         self.given, table, tree = lent(s)
-        number, self.table, self.tree = S.commit(*s[:6], *self.given, table, tree)
+        number, self.table, self.tree = S.commit(*s.of_commitment, *self.given, table, tree)
         assert number == 0
         self.question = self.asked(points(s.m))
 
-    def asked(self, at):
-        return S.write_proof_question(S.ProofQuestion(self.s, self.tree[-32:], at))
+    def asked(self, at, sizes=None):
+        return S.write_proof_question(S.ProofQuestion(sizes or self.s, self.tree[-32:], at))
 
     def prove(self, kappa, limit=LIMIT, buffer=None, question=None, given=None, table=None, tree=None):
         return S.prove(
@@ -61,6 +67,14 @@ ACCEPTED = (  # the sizes, then kappa
     (SIZES, 3),
     (Sizes(4, 3, 2, 4, 5, 4, 3), 8),
     (Sizes(4, 2, 3, 1, 4, 3, 2), 9),
+)
+
+BLINDED_ACCEPTED = (
+    (BLINDED_SIZES, 3),
+    (Sizes(1, 1, 1, 1, 1, 1, 1, 1), 0),  # nu = 1: no blinds
+    (Sizes(3, 4, 1, 3, 2, 3, 1, 2), 5),
+    (Sizes(4, 3, 3, 2, 4, 2, 2, 3), 8),  # beta = mu
+    (Sizes(5, 48, 2, 2, 3, 1, 1, 16), 4),
 )
 
 
@@ -98,94 +112,159 @@ def faulty_questions(run):
     yield run.asked([points(2)[0], Q]), None, 3
 
 
-def refused_proofs():
-    run = Run(SIZES)
-    bound = S.proof_bound(SIZES)
+def faulty_blinded_questions(run):
+    """(question, number) for sizes, header and version."""
+    yield run.question[:14], 6
+    yield with_version(run.question, 1), 5
+    for s in (
+        run.s._replace(beta=3), SIZES._replace(mu=20, beta=17), SIZES._replace(mu=49, beta=16),
+        Sizes(255, 255, 65535, 65535, 255, 255, run.s.m, 255),
+    ):  # fmt: skip
+        yield run.asked(points(run.s.m), s), 1
+    yield run.question[: S.HEADER_BYTES], 6
 
-    def line(expected, question=run.question, kappa=8, limit=LIMIT, room=bound, **lent):
-        before = reply_room(room)
-        number, _, after = run.prove(kappa, limit, before, question, **lent)
+
+class Proving(Run):
+    """Calls of the prover, and a line for each."""
+
+    def __init__(self, s):
+        super().__init__(s)
+        self.bound = S.proof_bound(s)
+
+    def line(self, expected, question=None, kappa=8, limit=LIMIT, room=None, **lent):
+        question, before = question or self.question, reply_room(room or self.bound)
+        number, _, after = self.prove(kappa, limit, before, question, **lent)
         assert number == expected, (number, expected)
         kept = "same" if after == before else "changed"
-        return "kappa %d limit %d question %d buffer %d prove %d %s" % (kappa, limit, len(question), room, number, kept)
+        shown = kappa, limit, len(question), len(before), number, kept
+        return "kappa %d limit %d question %d buffer %d prove %d %s" % shown
 
-    def with_slice(k, change):
-        return [change(g) if i == k else g for i, g in enumerate(run.given)]
 
+def refused_proofs():
+    run = Proving(SIZES)
     for question, kappa, number in faulty_questions(run):
-        yield line(number, question, kappa or 8)
-    for k in range(4):
-        yield line(2, given=with_slice(k, lambda g: g[:-1]))
-    yield line(2, table=run.table[:-1])
-    yield line(2, tree=run.tree[:-1])
-    yield line(2, room=bound - 1)
-    yield line(2, room=bound + 1)
-    for k in range(3):
-        yield line(3, given=with_slice(k, lambda g: with_item(g, len(g) - 1, Q)))
-    yield line(3, table=with_item(run.table, 15, Q))
-    yield line(8, raised(run.question, 14))
-    yield line(8, tree=raised(run.tree, 223))
-    yield line(11, limit=0)
-    yield line(11, limit=LEAST)
-    yield line(0, limit=LEAST + 1)
+        yield run.line(number, question, kappa or 8)
+    for part in ("coefficients", "tails", "masks", "nonces"):
+        yield run.line(2, given=shorter(run.given, part))
+    yield run.line(2, table=run.table[:-1])
+    yield run.line(2, tree=run.tree[:-1])
+    yield run.line(2, room=run.bound - 1)
+    yield run.line(2, room=run.bound + 1)
+    for part in ("coefficients", "tails", "masks"):
+        yield run.line(3, given=with_q(run.given, part))
+    yield run.line(3, table=with_item(run.table, len(run.table) - 1, Q))
+    yield run.line(8, raised(run.question, S.HEADER_BYTES))
+    yield run.line(8, tree=raised(run.tree, len(run.tree) - 1))
+    yield run.line(11, limit=0)
+    yield run.line(11, limit=LEAST)
+    yield run.line(0, limit=LEAST + 1)
 
 
-def refused_checks():
-    run = Run(SIZES)
-    number, length, after = run.prove(3)
-    proof, filled = after[:length], after + reply_room(BUFFER)[len(after) :]
-    assert (number, length, proof[:4]) == (0, PROOF_LENGTH, S.write_counter(COUNTER))
+def refused_blinded_proofs():
+    plain, run = Proving(SIZES), Proving(BLINDED_SIZES)
+    for question, number in faulty_blinded_questions(run):
+        yield run.line(number, question)
+    yield plain.line(2, given=with_blinds(plain.given, 1))
+    for count in (0, 2):
+        yield run.line(2, given=with_blinds(run.given, count))
+    yield plain.line(2, plain.asked(points(2), SIZES._replace(beta=1)))
+    for beta in (0, 2):
+        yield run.line(2, run.asked(points(2), run.s._replace(beta=beta)))
+    for part in ("coefficients", "tails"):
+        yield run.line(2, given=shorter(run.given, part))
+    yield run.line(2, table=run.table[:-1])
+    yield run.line(2, room=run.bound - 1)
+    yield run.line(2, room=run.bound + 1)
+    for part in ("coefficients", "tails", "blinds", "masks"):
+        yield run.line(3, given=with_q(run.given, part))
+    yield run.line(3, table=with_item(run.table, len(run.table) - 1, Q))
+    yield run.line(0)
 
-    def line(expected, question=run.question, kappa=3, proof=proof, count=4):
-        before = value_room(count)
+
+class Checking(Run):
+    """Checks of a proof with kappa 3, and a line for each."""
+
+    def __init__(self, s):
+        super().__init__(s)
+        number, length, after = self.prove(3)
+        assert number == 0
+        self.proof, self.filled = after[:length], after + reply_room(BUFFER)[len(after) :]
+
+    def line(self, expected, question=None, kappa=3, proof=None, count=None):
+        question, proof = question or self.question, self.proof if proof is None else proof
+        before = value_room(self.s.w * self.s.m if count is None else count)
         number, values = S.check_proof(question, kappa, proof, before)
         assert number == expected, (number, expected)
         kept = "same" if values == before else "changed"
-        return "kappa %d question %d proof %d values %d check %d %s" % (
-            kappa, len(question), len(proof), count, number, kept,
-        )  # fmt: skip
+        shown = kappa, len(question), len(proof), len(before), number, kept
+        return "kappa %d question %d proof %d values %d check %d %s" % shown
 
-    def counted(counter, proof=proof):
-        return S.write_counter(counter) + proof[4:]
+    def counted(self, counter):
+        return S.write_counter(counter) + self.proof[4:]
 
-    def with_q(at, proof=proof):
-        return proof[:at] + S.to_bytes([Q]) + proof[at + 4 :]
 
+def with_word_q(proof, at):
+    return proof[:at] + S.to_bytes([Q]) + proof[at + 4 :]
+
+
+def refused_checks():
+    run = Checking(SIZES)
+    proof, line, counted = run.proof, run.line, run.counted
+    assert (len(proof), proof[:4]) == (PROOF_LENGTH, S.write_counter(COUNTER))
     for question, kappa, number in faulty_questions(run):
         yield line(number, question, kappa or 3)
     for count in (3, 5):
         yield line(2, count=count)
     for cut in (0, 1, 2, 3, ROWS_AT - 1, ROWS_AT, PROOF_LENGTH - 1, PROOF_LENGTH + 1):
-        yield line(7, proof=filled[:cut])
+        yield line(7, proof=run.filled[:cut])
     yield line(7, proof=counted(UNQUALIFIED)[:-1])
-    yield line(3, proof=with_q(COLUMNS_AT))
-    yield line(7, proof=with_q(TAILS_AT))
-    for at in (ROWS_AT, MASKS_AT):
-        yield line(3, proof=with_q(at))
-    yield line(3, proof=with_q(ROWS_AT, counted(UNQUALIFIED)))
+    yield line(7, proof=with_word_q(proof, COLUMNS_AT))  # the leaves so drawn miss one node
+    for at in (TAIL_AT, ROWS_AT, MASKS_AT):
+        yield line(3, proof=with_word_q(proof, at))
+    yield line(3, proof=with_word_q(counted(UNQUALIFIED), ROWS_AT))
+    # Other leaves, before and after, then leaves that miss one node, then the same leaves.
     for kappa, numbers in ((3, (12, 12, 7, 12, 0)), (0, (8, 8, 7, 0, 0))):
-        for counter, number in zip((COUNTER - 1, COUNTER + 1, 12, UNQUALIFIED, 17), numbers):
+        for counter, number in zip((7, 12, COUNTER - 1, UNQUALIFIED, 70), numbers):
             yield line(number, kappa=kappa, proof=counted(counter))
-    for kappa, in_r, unqualified in ((3, 12, 12), (0, 9, 8)):
-        yield line(in_r, kappa=kappa, proof=raised(proof, R_AT))
-        for at in (COLUMNS_AT, TAILS_AT):  # the leaves so drawn miss one node
-            yield line(7, kappa=kappa, proof=raised(proof, at))
+    for kappa, in_r, in_columns, in_tail, unqualified in ((3, 12, 12, 12, 12), (0, 9, 8, 10, 8)):
+        for at, number in ((R_AT, in_r), (COLUMNS_AT, in_columns), (TAIL_AT, in_tail)):
+            yield line(number, kappa=kappa, proof=raised(proof, at))
         for at in (ROWS_AT, MASKS_AT, NONCE_AT, NODES_AT):
             yield line(8, kappa=kappa, proof=raised(proof, at))
         yield line(unqualified, kappa=kappa, proof=raised(counted(UNQUALIFIED), NODES_AT))
-        for at, counter, number in ((R_AT, 45, 9), (COLUMNS_AT, 4, 10), (TAILS_AT, 32, 10)):  # the same leaves
+        for at, counter, number in ((R_AT, 13, 9), (COLUMNS_AT, 27, 10), (TAIL_AT, 28, 10)):  # the same leaves
             yield line(number, kappa=kappa, proof=raised(counted(counter), at))
-    yield line(8, raised(run.question, 15), 0)
+    yield line(8, raised(run.question, S.HEADER_BYTES), 0)
     yield line(0)
 
 
+def refused_blinded_checks():
+    plain, run = Checking(SIZES), Checking(BLINDED_SIZES)
+    assert len(run.proof) == BLINDED_LENGTH
+    for question, number in faulty_blinded_questions(run):
+        yield run.line(number, question)
+    yield plain.line(7, plain.asked(points(2), SIZES._replace(beta=1)))
+    for beta in (0, 2):
+        yield run.line(7, run.asked(points(2), run.s._replace(beta=beta)))
+    yield run.line(3, proof=with_word_q(run.proof, BLINDING_ROW_AT))
+    yield run.line(8, proof=raised(run.proof, BLINDING_ROW_AT))
+    yield run.line(0)
+
+
+# ---- The whole output -------------------------------------------------------------------------------
+
+
+def all_accepted(cases):
+    return [line for case in cases for line in accepted(*case)]
+
+
 def output():
-    lines = []
-    for s, kappa in ACCEPTED:
-        lines += accepted(s, kappa)
-    lines += refused_proofs()
-    lines += refused_checks()
-    return "".join(line + "\n" for line in lines).encode()
+    plain = all_accepted(ACCEPTED)
+    compare_with_version_1([line for line in plain if line.split()[0] in ("h", "m", "question", "values")], VERSION_1)
+    return text([
+        *plain, *refused_proofs(), *refused_checks(),
+        *all_accepted(BLINDED_ACCEPTED), *refused_blinded_proofs(), *refused_blinded_checks(),
+    ])  # fmt: skip
 
 
 if __name__ == "__main__":

@@ -1,14 +1,18 @@
 // A call of the prover: inputs by the rules, and something wrong with them where a test is meant.
 use commitment::Shape;
+use commitment::challenges_at;
 use prover::Proved;
 use prover::prove;
 use runs::calls::front_bytes;
 use runs::calls::front_bytes_mut;
 use runs::calls::front_words;
+use runs::inputs::BLINDS;
+use runs::inputs::COEFFICIENTS;
+use runs::inputs::MASKS;
 use runs::inputs::NONCES;
+use runs::inputs::TAILS;
 use runs::inputs::filled_bytes;
-use runs::inputs::filled_points;
-use runs::questions::WORDS_AT;
+use runs::questions::Asked;
 use runs::questions::filled_question;
 use runs::questions::put_offline_question;
 use runs::questions::put_question;
@@ -18,24 +22,22 @@ use runs::sizes::product;
 use runs::small::NONE;
 use runs::small::NOWHERE;
 use runs::small::commit_small;
+use runs::small::lent_words;
 use runs::small::raise;
-use runs::small::small_coefficients;
-use runs::small::small_masks;
-use runs::small::small_tails;
 
 // Above the least counter of every run here.
 const LIMIT: u32 = 5000;
 
-// The lengths are those that the call is lent. A byte of the question or the tree is raised by 1, the last word of one slice is made q.
+// The question's sizes can be others than the commitment's. The lengths are those that the call is lent. A byte of the question or the tree is raised by 1, the last word of one slice is made q.
 pub struct Attempt {
-    pub s: Shape,
-    pub m: u32,
+    pub sizes: Shape,
+    pub asked_sizes: Shape,
+    pub asked: Asked,
+    pub conversation: bool,
     pub kappa: u32,
     pub limit: u32,
     pub lengths: Lengths,
     pub proof_length: usize,
-    pub points: [u32; 8],
-    pub conversation: bool,
     pub question_at: usize,
     pub tree_at: usize,
     pub spoiled: usize,
@@ -46,23 +48,23 @@ fn proof_bound(s: Shape, m: u32) -> usize {
     let l = s.l as usize;
     let width = product(s.w as usize, s.nu as usize) + l;
     let answers = product(s.eta as usize + m as usize, width);
-    let record = 4 * (s.mu as usize + s.eta as usize) + 32;
+    let record = 4 * (s.mu as usize + s.beta as usize + s.eta as usize) + 32;
     4 + 4 * answers + product(l, record) + 32 * product(l, s.h as usize)
 }
 
 // With nothing wrong.
 pub fn sound(s: Shape, m: u32, kappa: u32) -> Attempt {
     let mut n = lengths_of(s, m);
-    n.question = WORDS_AT + 4 * m as usize;
+    n.question = challenges_at() + 4 * m as usize;
     Attempt {
-        s: s,
-        m: m,
+        sizes: s,
+        asked_sizes: s,
+        asked: filled_question(m, 1, 2),
+        conversation: false,
         kappa: kappa,
         limit: LIMIT,
         lengths: n,
         proof_length: proof_bound(s, m),
-        points: filled_points(),
-        conversation: false,
         question_at: NOWHERE,
         tree_at: NOWHERE,
         spoiled: NONE,
@@ -83,17 +85,31 @@ pub fn with_question_raised(a: Attempt, at: usize) -> Attempt {
     b
 }
 
+pub fn with_version(a: Attempt, version: usize) -> Attempt {
+    let mut b = a;
+    b.asked.version = version;
+    b
+}
+
+pub fn with_asked_sizes(a: Attempt, s: Shape) -> Attempt {
+    let mut b = a;
+    b.asked_sizes = s;
+    b
+}
+
 // Asks what a conversation asks.
 pub fn with_conversation(a: Attempt) -> Attempt {
     let mut b = a;
     b.conversation = true;
-    b.lengths.question = lengths_of(a.s, a.m).question;
+    b.lengths.question = sound_lengths(a).question;
     b
 }
 
 pub fn with_point(a: Attempt, point: u32) -> Attempt {
+    let mut q = a.asked;
+    q.points[1] = point;
     let mut b = a;
-    b.points[1] = point;
+    b.asked = q;
     b
 }
 
@@ -105,22 +121,26 @@ pub fn with_kappa(a: Attempt, kappa: u32) -> Attempt {
 
 // ---- calls
 
+// Those of a conversation at the commitment's sizes.
+fn sound_lengths(a: Attempt) -> Lengths {
+    lengths_of(a.sizes, a.asked.m)
+}
+
 pub fn commit_sound(a: Attempt, table: &mut [u32], tree: &mut [u8]) {
-    commit_small(a.s, lengths_of(a.s, a.m), NONE, table, tree);
+    commit_small(a.sizes, sound_lengths(a), NONE, table, tree);
 }
 
 // The question of the proof, or that of a conversation.
 fn put_asked(a: Attempt, tree: &[u8], question: &mut [u8]) {
-    let points = a.points;
     if a.conversation {
-        put_question(a.s, filled_question(a.m, 1, 2), tree, question);
+        put_question(a.asked_sizes, a.asked, tree, question);
     } else {
-        put_offline_question(a.s, a.m, &points, tree, question);
+        put_offline_question(a.asked_sizes, a.asked, tree, question);
     }
 }
 
 pub fn ask(a: Attempt, tree: &[u8], question: &mut [u8]) {
-    put_asked(a, front_bytes(tree, lengths_of(a.s, a.m).tree), question);
+    put_asked(a, front_bytes(tree, sound_lengths(a).tree), question);
     raise(question, a.question_at);
 }
 
@@ -132,9 +152,10 @@ pub fn prove_asked(
     proof: &mut [u8],
 ) -> Proved {
     let n = a.lengths;
-    let coefficients = small_coefficients(a.spoiled);
-    let tails = small_tails(a.spoiled);
-    let masks = small_masks(a.spoiled);
+    let coefficients = lent_words(COEFFICIENTS, n.coefficients, a.spoiled);
+    let tails = lent_words(TAILS, n.tails, a.spoiled);
+    let blinds = lent_words(BLINDS, n.blinds, a.spoiled);
+    let masks = lent_words(MASKS, n.masks, a.spoiled);
     let nonces = filled_bytes(NONCES);
     prove(
         front_bytes(question, n.question),
@@ -142,6 +163,7 @@ pub fn prove_asked(
         a.limit,
         front_words(&coefficients, n.coefficients),
         front_words(&tails, n.tails),
+        front_words(&blinds, n.blinds),
         front_words(&masks, n.masks),
         front_words(table, n.table),
         front_bytes(&nonces, n.nonces),

@@ -4,12 +4,15 @@ use super::attempt::ask;
 use super::attempt::commit_sound;
 use super::attempt::prove_asked;
 use super::attempt::sound;
+use super::attempt::with_asked_sizes;
 use super::attempt::with_conversation;
 use super::attempt::with_kappa;
 use super::attempt::with_point;
 use super::attempt::with_question_length;
 use super::attempt::with_question_raised;
+use super::attempt::with_version;
 use codec::put_word;
+use commitment::root_at;
 use proof_checker::check_proof;
 use runs::calls::front_bytes;
 use runs::calls::front_words_mut;
@@ -23,17 +26,21 @@ use runs::inputs::filled_words;
 use runs::inputs::low_byte;
 use runs::printing::print_number;
 use runs::printing::word_digest;
+use runs::sizes::blinded;
+use runs::sizes::largest;
+use runs::sizes::shape;
 use runs::small::NOWHERE;
 use runs::small::print_same;
 use runs::small::raise;
 use runs::small::small;
+use runs::small::small_blinded;
 
-// Where the parts of a proof at the small sizes with two points begin: R_1, columns and tails of the first answer, rows, masks and nonce of the first leaf, nodes.
+// Where the parts of a proof at the small sizes with two points begin: R_1, columns of the first answer and its second tail, rows, masks and nonce of the first leaf, nodes.
 const R_AT: usize = 4;
 
 const COLUMNS_AT: usize = 36;
 
-const TAILS_AT: usize = 44;
+const TAIL_AT: usize = 48;
 
 const ROWS_AT: usize = 68;
 
@@ -43,19 +50,27 @@ const NONCE_AT: usize = 84;
 
 const NODES_AT: usize = 164;
 
-// With the two nodes that the leaves 1 and 3 miss, which counter 14 draws.
+// With the two nodes that the leaves 0 and 3 miss, which counter 9 draws.
 const PROOF_LENGTH: usize = 228;
 
+// With a blinding row: where it begins in the first leaf, and the length.
+const BLINDING_ROW_AT: usize = 76;
+
+const BLINDED_LENGTH: usize = 236;
+
 // A counter that draws the same leaves and does not qualify.
-const UNQUALIFIED: usize = 5;
+const UNQUALIFIED: usize = 6;
 
 // Keeps the counter as it is.
 const KEPT: usize = 256;
 
 const VALUE_COUNT: usize = 4;
 
-// What the check is lent: the question's faults and kappa, how much of the proof and of the value buffer; in the proof a byte raised by 1, a word made q, another counter.
+const BLINDED_VALUE_COUNT: usize = 2;
+
+// The proof that is made, and what the check is lent: the question's faults and kappa, how much of the proof and of the value buffer; in the proof a byte raised by 1, a word made q, another counter.
 struct Changed {
+    made: Attempt,
     asked: Attempt,
     length: usize,
     value_count: usize,
@@ -68,16 +83,29 @@ fn sound_proof() -> Attempt {
     sound(small(), 2, 3)
 }
 
-// With nothing wrong.
-fn unchanged() -> Changed {
+fn sound_blinded_proof() -> Attempt {
+    sound(small_blinded(), 2, 3)
+}
+
+fn unchanged_of(a: Attempt, length: usize, value_count: usize) -> Changed {
     Changed {
-        asked: sound_proof(),
-        length: PROOF_LENGTH,
-        value_count: VALUE_COUNT,
+        made: a,
+        asked: a,
+        length: length,
+        value_count: value_count,
         raised_at: NOWHERE,
         word_at: NOWHERE,
         counter: KEPT,
     }
+}
+
+// With nothing wrong.
+fn unchanged() -> Changed {
+    unchanged_of(sound_proof(), PROOF_LENGTH, VALUE_COUNT)
+}
+
+fn unchanged_blinded() -> Changed {
+    unchanged_of(sound_blinded_proof(), BLINDED_LENGTH, BLINDED_VALUE_COUNT)
 }
 
 fn put_q(proof: &mut [u8], at: usize) {
@@ -122,7 +150,7 @@ fn print_verdict(c: Changed, question: &[u8], proof: &[u8]) {
 
 // Commits, proves, makes what is lent wrong, and checks.
 fn print_changed(c: Changed) {
-    let a = sound_proof();
+    let a = c.made;
     let mut table = filled_words(TABLE);
     let mut tree = filled_bytes(TREE);
     let mut question = io::buffer();
@@ -137,6 +165,12 @@ fn print_changed(c: Changed) {
 
 fn with_question(asked: Attempt) {
     let mut c = unchanged();
+    c.asked = asked;
+    print_changed(c);
+}
+
+fn with_blinded_question(asked: Attempt) {
+    let mut c = unchanged_blinded();
     c.asked = asked;
     print_changed(c);
 }
@@ -169,6 +203,18 @@ fn with_raised(kappa: u32, at: usize, counter: usize) {
     print_changed(c);
 }
 
+fn with_blinding_row_q() {
+    let mut c = unchanged_blinded();
+    c.word_at = BLINDING_ROW_AT;
+    print_changed(c);
+}
+
+fn with_blinding_row_raised() {
+    let mut c = unchanged_blinded();
+    c.raised_at = BLINDING_ROW_AT;
+    print_changed(c);
+}
+
 fn print_questions() {
     let a = sound_proof();
     with_question(with_question_length(a, 13));
@@ -177,8 +223,8 @@ fn print_questions() {
     with_question(with_question_raised(a, 8));
     with_question(with_kappa(a, 17));
     with_question(with_conversation(a));
-    with_question(with_question_length(a, 53));
-    with_question(with_question_length(a, 55));
+    with_question(with_question_length(a, 54));
+    with_question(with_question_length(a, 56));
     with_question(with_point(a, Q));
 }
 
@@ -196,37 +242,37 @@ fn print_lengths() {
     with_length(PROOF_LENGTH - 1, UNQUALIFIED);
 }
 
-// With q in an answer other leaves are drawn, which may miss one node.
+// With q in a column other leaves are drawn, which miss one node.
 fn print_words_q() {
     with_word(COLUMNS_AT, KEPT);
-    with_word(TAILS_AT, KEPT);
+    with_word(TAIL_AT, KEPT);
     with_word(ROWS_AT, KEPT);
     with_word(MASKS_AT, KEPT);
     with_word(ROWS_AT, UNQUALIFIED);
 }
 
-// The least counter less and more by 1, then others: leaves that miss fewer nodes, the same leaves.
+// Counters less and more than the least one, then others: leaves that miss fewer nodes, the same leaves.
 fn print_counters(kappa: u32) {
-    with_raised(kappa, NOWHERE, 13);
-    with_raised(kappa, NOWHERE, 15);
+    with_raised(kappa, NOWHERE, 7);
     with_raised(kappa, NOWHERE, 12);
+    with_raised(kappa, NOWHERE, 8);
     with_raised(kappa, NOWHERE, UNQUALIFIED);
-    with_raised(kappa, NOWHERE, 17);
+    with_raised(kappa, NOWHERE, 70);
 }
 
 // A byte in each part; answers once more with counters for which the same leaves are drawn.
 fn print_bytes_raised(kappa: u32) {
     with_raised(kappa, R_AT, KEPT);
     with_raised(kappa, COLUMNS_AT, KEPT);
-    with_raised(kappa, TAILS_AT, KEPT);
+    with_raised(kappa, TAIL_AT, KEPT);
     with_raised(kappa, ROWS_AT, KEPT);
     with_raised(kappa, MASKS_AT, KEPT);
     with_raised(kappa, NONCE_AT, KEPT);
     with_raised(kappa, NODES_AT, KEPT);
     with_raised(kappa, NODES_AT, UNQUALIFIED);
-    with_raised(kappa, R_AT, 45);
-    with_raised(kappa, COLUMNS_AT, 4);
-    with_raised(kappa, TAILS_AT, 32);
+    with_raised(kappa, R_AT, 13);
+    with_raised(kappa, COLUMNS_AT, 27);
+    with_raised(kappa, TAIL_AT, 28);
 }
 
 pub fn print_refused_checks() {
@@ -238,7 +284,27 @@ pub fn print_refused_checks() {
     print_bytes_raised(3);
     print_bytes_raised(0);
     // Another root; the counter need not qualify.
-    with_question(with_kappa(with_question_raised(sound_proof(), 15), 0));
+    with_question(with_kappa(with_question_raised(sound_proof(), root_at()), 0));
     // Nothing wrong: accepted, and changed.
     print_changed(unchanged());
+}
+
+pub fn print_refused_blinded_checks() {
+    let a = sound_blinded_proof();
+    // The header of version 1 was a byte shorter.
+    with_blinded_question(with_question_length(a, 14));
+    with_blinded_question(with_version(a, 1));
+    with_blinded_question(with_asked_sizes(a, blinded(small_blinded(), 3)));
+    with_blinded_question(with_asked_sizes(a, blinded(shape(2, 20, 1, 2, 2, 2), 17)));
+    with_blinded_question(with_asked_sizes(a, blinded(shape(2, 49, 1, 2, 2, 2), 16)));
+    with_blinded_question(with_asked_sizes(a, largest()));
+    with_blinded_question(with_question_length(a, 15));
+    // Other blinding rows than the proof's.
+    with_question(with_asked_sizes(sound_proof(), blinded(small(), 1)));
+    with_blinded_question(with_asked_sizes(a, blinded(small_blinded(), 0)));
+    with_blinded_question(with_asked_sizes(a, blinded(small_blinded(), 2)));
+    with_blinding_row_q();
+    with_blinding_row_raised();
+    // Nothing wrong: accepted, and changed.
+    print_changed(unchanged_blinded());
 }

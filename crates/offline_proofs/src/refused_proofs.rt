@@ -5,11 +5,15 @@ use super::attempt::commit_sound;
 use super::attempt::number_of;
 use super::attempt::prove_asked;
 use super::attempt::sound;
+use super::attempt::with_asked_sizes;
 use super::attempt::with_conversation;
 use super::attempt::with_kappa;
 use super::attempt::with_point;
 use super::attempt::with_question_length;
 use super::attempt::with_question_raised;
+use super::attempt::with_version;
+use commitment::root_at;
+use runs::inputs::BLINDS;
 use runs::inputs::COEFFICIENTS;
 use runs::inputs::MASKS;
 use runs::inputs::NONCES;
@@ -21,20 +25,31 @@ use runs::inputs::TREE;
 use runs::inputs::filled_bytes;
 use runs::inputs::filled_words;
 use runs::printing::print_number;
+use runs::sizes::blinded;
+use runs::sizes::largest;
+use runs::sizes::shape;
 use runs::sizes::shorter;
 use runs::small::print_same;
 use runs::small::raise;
 use runs::small::small;
+use runs::small::small_blinded;
 use runs::small::spoil;
 
 // The bound at the small sizes with two points: a counter, four answers of 4 words, two records of 4 words and a nonce, and 4 nodes.
 const BUFFER: usize = 292;
 
+// With a blinding row: two records of 5 words.
+const BLINDED_BUFFER: usize = 300;
+
 // The least counter that qualifies for the question without a fault.
-const LEAST: u32 = 273;
+const LEAST: u32 = 304;
 
 fn sound_proof() -> Attempt {
     sound(small(), 2, 8)
+}
+
+fn sound_blinded_proof() -> Attempt {
+    sound(small_blinded(), 2, 8)
 }
 
 fn print_prove(a: Attempt, question: &[u8], table: &[u32], tree: &[u8]) {
@@ -57,26 +72,32 @@ fn print_attempt(a: Attempt) {
     commit_sound(a, &mut table, &mut tree);
     ask(a, &tree, &mut question);
     raise(&mut tree, a.tree_at);
-    spoil(&mut table, 15, a.spoiled == TABLE);
+    spoil(&mut table, a.lengths.table, a.spoiled == TABLE);
     print_prove(a, &question, &table, &tree);
 }
 
-fn with_shorter(slice: usize) {
-    let mut a = sound_proof();
-    a.lengths = shorter(a.lengths, slice);
-    print_attempt(a);
+fn with_shorter(a: Attempt, slice: usize) {
+    let mut b = a;
+    b.lengths = shorter(a.lengths, slice);
+    print_attempt(b);
 }
 
-fn with_buffer(length: usize) {
-    let mut a = sound_proof();
-    a.proof_length = length;
-    print_attempt(a);
+fn with_blind_count(a: Attempt, count: usize) {
+    let mut b = a;
+    b.lengths.blinds = count;
+    print_attempt(b);
 }
 
-fn with_spoiled(slice: usize) {
-    let mut a = sound_proof();
-    a.spoiled = slice;
-    print_attempt(a);
+fn with_buffer(a: Attempt, length: usize) {
+    let mut b = a;
+    b.proof_length = length;
+    print_attempt(b);
+}
+
+fn with_spoiled(a: Attempt, slice: usize) {
+    let mut b = a;
+    b.spoiled = slice;
+    print_attempt(b);
 }
 
 fn with_tree_raised(at: usize) {
@@ -99,29 +120,66 @@ fn print_questions() {
     print_attempt(with_question_raised(a, 8));
     print_attempt(with_kappa(a, 17));
     print_attempt(with_conversation(a));
-    print_attempt(with_question_length(a, 53));
-    print_attempt(with_question_length(a, 55));
+    print_attempt(with_question_length(a, 54));
+    print_attempt(with_question_length(a, 56));
     print_attempt(with_point(a, Q));
 }
 
 pub fn print_refused_proofs() {
+    let a = sound_proof();
     print_questions();
-    with_shorter(COEFFICIENTS);
-    with_shorter(TAILS);
-    with_shorter(MASKS);
-    with_shorter(NONCES);
-    with_shorter(TABLE);
-    with_shorter(TREE);
-    with_buffer(BUFFER - 1);
-    with_buffer(BUFFER + 1);
-    with_spoiled(COEFFICIENTS);
-    with_spoiled(TAILS);
-    with_spoiled(MASKS);
-    with_spoiled(TABLE);
-    print_attempt(with_question_raised(sound_proof(), 14));
+    with_shorter(a, COEFFICIENTS);
+    with_shorter(a, TAILS);
+    with_shorter(a, MASKS);
+    with_shorter(a, NONCES);
+    with_shorter(a, TABLE);
+    with_shorter(a, TREE);
+    with_buffer(a, BUFFER - 1);
+    with_buffer(a, BUFFER + 1);
+    with_spoiled(a, COEFFICIENTS);
+    with_spoiled(a, TAILS);
+    with_spoiled(a, MASKS);
+    with_spoiled(a, TABLE);
+    print_attempt(with_question_raised(a, root_at()));
     with_tree_raised(223);
     with_limit(0);
     with_limit(LEAST);
     // Nothing wrong: accepted, and changed.
     with_limit(LEAST + 1);
+}
+
+fn print_blinded_questions() {
+    let a = sound_blinded_proof();
+    // The header of version 1 was a byte shorter.
+    print_attempt(with_question_length(a, 14));
+    print_attempt(with_version(a, 1));
+    print_attempt(with_asked_sizes(a, blinded(small_blinded(), 3)));
+    print_attempt(with_asked_sizes(a, blinded(shape(2, 20, 1, 2, 2, 2), 17)));
+    print_attempt(with_asked_sizes(a, blinded(shape(2, 49, 1, 2, 2, 2), 16)));
+    print_attempt(with_asked_sizes(a, largest()));
+    print_attempt(with_question_length(a, 15));
+}
+
+pub fn print_refused_blinded_proofs() {
+    let a = sound_blinded_proof();
+    print_blinded_questions();
+    with_blind_count(sound_proof(), 1);
+    with_blind_count(a, 0);
+    with_blind_count(a, 2);
+    // Other blinding rows than the commitment's.
+    print_attempt(with_asked_sizes(sound_proof(), blinded(small(), 1)));
+    print_attempt(with_asked_sizes(a, blinded(small_blinded(), 0)));
+    print_attempt(with_asked_sizes(a, blinded(small_blinded(), 2)));
+    with_shorter(a, COEFFICIENTS);
+    with_shorter(a, TAILS);
+    with_shorter(a, TABLE);
+    with_buffer(a, BLINDED_BUFFER - 1);
+    with_buffer(a, BLINDED_BUFFER + 1);
+    with_spoiled(a, COEFFICIENTS);
+    with_spoiled(a, TAILS);
+    with_spoiled(a, BLINDS);
+    with_spoiled(a, MASKS);
+    with_spoiled(a, TABLE);
+    // Nothing wrong: accepted, and changed.
+    print_attempt(a);
 }

@@ -6,6 +6,7 @@ use opener::Opened;
 use runs::calls::commit_front;
 use runs::calls::front_bytes;
 use runs::calls::front_words;
+use runs::inputs::BLINDS;
 use runs::inputs::COEFFICIENTS;
 use runs::inputs::MASKS;
 use runs::inputs::TAILS;
@@ -25,6 +26,7 @@ use runs::printing::print_number;
 use runs::printing::print_sizes;
 use runs::printing::print_word_digest;
 use runs::questions::Asked;
+use runs::questions::VERSION;
 use runs::questions::filled_question;
 use runs::questions::put_question;
 use runs::sizes::Lengths;
@@ -36,12 +38,23 @@ fn print_commit(
     n: Lengths,
     coefficients: &[u32],
     tails: &[u32],
+    blinds: &[u32],
     masks: &[u32],
     nonces: &[u8],
     table: &mut [u32],
     tree: &mut [u8],
 ) {
-    let v = commit_front(s, n, coefficients, tails, masks, nonces, table, tree);
+    let v = commit_front(
+        s,
+        n,
+        coefficients,
+        tails,
+        blinds,
+        masks,
+        nonces,
+        table,
+        tree,
+    );
     print_sizes(s);
     print_number(b"\ncommit ", v as u64);
     print_word_digest(b"\ntable digest ", front_words(table, n.table));
@@ -83,6 +96,7 @@ fn print_run(
     a: Asked,
     coefficients: &[u32],
     tails: &[u32],
+    blinds: &[u32],
     masks: &[u32],
     nonces: &[u8],
     table: &mut [u32],
@@ -91,7 +105,17 @@ fn print_run(
 ) {
     let n = lengths_of(s, a.m);
     let mut question = io::buffer();
-    print_commit(s, n, coefficients, tails, masks, nonces, table, tree);
+    print_commit(
+        s,
+        n,
+        coefficients,
+        tails,
+        blinds,
+        masks,
+        nonces,
+        table,
+        tree,
+    );
     let reply_length = print_question(s, n, a, tree, &mut question);
     let answer = open_front(
         n,
@@ -99,6 +123,7 @@ fn print_run(
         &question,
         coefficients,
         tails,
+        blinds,
         masks,
         table,
         nonces,
@@ -112,6 +137,7 @@ fn print_run(
 pub fn print_p() {
     let mut coefficients = blank_words();
     let mut tails = blank_words();
+    let blinds = blank_words();
     let mut masks = blank_words();
     coefficients[0] = 5;
     tails[0] = 9;
@@ -122,6 +148,7 @@ pub fn print_p() {
     let mut tree = blank_tree();
     let mut reply = io::large_buffer();
     let a = Asked {
+        version: VERSION,
         m: 1,
         challenges: [10, 0, 0, 0],
         points: [6, 0, 0, 0, 0, 0, 0, 0],
@@ -133,6 +160,7 @@ pub fn print_p() {
         a,
         &coefficients,
         &tails,
+        &blinds,
         &masks,
         &nonces,
         &mut table,
@@ -145,6 +173,7 @@ pub fn print_p() {
 pub fn print_filled(s: Shape, m: u32, first: usize, step: usize) {
     let coefficients = filled_words(COEFFICIENTS);
     let tails = filled_words(TAILS);
+    let blinds = filled_words(BLINDS);
     let masks = filled_words(MASKS);
     let nonces = filled_nonces();
     let mut table = filled_table();
@@ -155,6 +184,7 @@ pub fn print_filled(s: Shape, m: u32, first: usize, step: usize) {
         filled_question(m, first, step),
         &coefficients,
         &tails,
+        &blinds,
         &masks,
         &nonces,
         &mut table,

@@ -1,9 +1,13 @@
 // Openings that are refused, in the order of the opener's tests: 6 5 1 6 3 4 2 3 8. The reply's length is asked for before each.
 use super::calls::open_front;
 use super::calls::print_reply_length;
+use commitment::Shape;
+use commitment::root_at;
 use opener::Opened;
 use runs::calls::front_bytes;
+use runs::inputs::BLINDS;
 use runs::inputs::COEFFICIENTS;
+use runs::inputs::LARGEST;
 use runs::inputs::MASKS;
 use runs::inputs::NONCES;
 use runs::inputs::Q;
@@ -18,17 +22,19 @@ use runs::questions::Asked;
 use runs::questions::filled_question;
 use runs::questions::put_question;
 use runs::sizes::Lengths;
+use runs::sizes::blinded;
+use runs::sizes::largest;
+use runs::sizes::lengths_of;
+use runs::sizes::shape;
 use runs::sizes::shorter;
 use runs::small::NONE;
 use runs::small::NOWHERE;
 use runs::small::commit_small;
+use runs::small::lent_words;
 use runs::small::print_same;
 use runs::small::raise;
 use runs::small::small;
-use runs::small::small_coefficients;
-use runs::small::small_lengths;
-use runs::small::small_masks;
-use runs::small::small_tails;
+use runs::small::small_blinded;
 use runs::small::spoil;
 
 // The reply at the small sizes: three answers of 4 words, two records of 4 words and a nonce, and 2 missing nodes; and with as many nodes as two paths have.
@@ -36,10 +42,15 @@ const REPLY_LENGTH: usize = 208;
 
 const REPLY_BOUND: usize = 272;
 
-// An opening at the small sizes with something wrong: a byte of the question or the tree is raised by 1, the last word of one slice is made q.
+// With a blinding row: two records of 5 words.
+const BLINDED_LENGTH: usize = 216;
+
+// An opening with something wrong: the question has other sizes than the commitment, a byte of the question or the tree is raised by 1, the last word of one slice is made q.
 struct Attempt {
+    sizes: Shape,
     lengths: Lengths,
     reply_length: usize,
+    asked_sizes: Shape,
     asked: Asked,
     question_at: usize,
     tree_at: usize,
@@ -50,16 +61,26 @@ fn sound_question() -> Asked {
     filled_question(1, 1, 2)
 }
 
-// With nothing wrong.
-fn sound() -> Attempt {
+fn sound_at(s: Shape, reply_length: usize) -> Attempt {
     Attempt {
-        lengths: small_lengths(),
-        reply_length: REPLY_LENGTH,
+        sizes: s,
+        lengths: lengths_of(s, 1),
+        reply_length: reply_length,
+        asked_sizes: s,
         asked: sound_question(),
         question_at: NOWHERE,
         tree_at: NOWHERE,
         spoiled: NONE,
     }
+}
+
+// With nothing wrong.
+fn sound() -> Attempt {
+    sound_at(small(), REPLY_LENGTH)
+}
+
+fn sound_blinded() -> Attempt {
+    sound_at(small_blinded(), BLINDED_LENGTH)
 }
 
 fn number_of(answer: Opened) -> u64 {
@@ -71,9 +92,10 @@ fn number_of(answer: Opened) -> u64 {
 
 fn print_open(a: Attempt, question: &[u8], table: &[u32], tree: &[u8]) {
     let n = a.lengths;
-    let coefficients = small_coefficients(a.spoiled);
-    let tails = small_tails(a.spoiled);
-    let masks = small_masks(a.spoiled);
+    let coefficients = lent_words(COEFFICIENTS, n.coefficients, a.spoiled);
+    let tails = lent_words(TAILS, n.tails, a.spoiled);
+    let blinds = lent_words(BLINDS, n.blinds, a.spoiled);
+    let masks = lent_words(MASKS, n.masks, a.spoiled);
     let nonces = filled_bytes(NONCES);
     let mut reply = filled_bytes(REPLY);
     let before = sponge::digest(&reply);
@@ -84,6 +106,7 @@ fn print_open(a: Attempt, question: &[u8], table: &[u32], tree: &[u8]) {
         question,
         &coefficients,
         &tails,
+        &blinds,
         &masks,
         table,
         &nonces,
@@ -96,17 +119,25 @@ fn print_open(a: Attempt, question: &[u8], table: &[u32], tree: &[u8]) {
 
 // Commits, asks, makes what is lent wrong, and opens.
 fn print_attempt(a: Attempt) {
-    let n = small_lengths();
+    let s = a.sizes;
+    let n = lengths_of(s, 1);
     let mut table = filled_words(TABLE);
     let mut tree = filled_bytes(TREE);
     let mut question = io::buffer();
-    commit_small(small(), n, NONE, &mut table, &mut tree);
-    put_question(small(), a.asked, front_bytes(&tree, n.tree), &mut question);
+    commit_small(s, n, NONE, &mut table, &mut tree);
+    put_question(
+        a.asked_sizes,
+        a.asked,
+        front_bytes(&tree, n.tree),
+        &mut question,
+    );
     raise(&mut question, a.question_at);
     raise(&mut tree, a.tree_at);
-    spoil(&mut table, 15, a.spoiled == TABLE);
+    spoil(&mut table, n.table, a.spoiled == TABLE);
     print_open(a, &question, &table, &tree);
 }
+
+// ---- with a fault of the question
 
 fn with_question_cut(length: usize) {
     let mut a = sound();
@@ -126,6 +157,12 @@ fn with_asked(q: Asked) {
     print_attempt(a);
 }
 
+fn with_version(version: usize) {
+    let mut q = sound_question();
+    q.version = version;
+    with_asked(q);
+}
+
 fn with_challenges(challenges: [u32; 4]) {
     let mut q = sound_question();
     q.challenges = challenges;
@@ -142,22 +179,36 @@ fn with_indices(first: usize, step: usize) {
     with_asked(filled_question(1, first, step));
 }
 
-fn with_shorter(slice: usize) {
-    let mut a = sound();
-    a.lengths = shorter(small_lengths(), slice);
-    print_attempt(a);
+fn with_asked_sizes(a: Attempt, s: Shape) {
+    let mut b = a;
+    b.asked_sizes = s;
+    print_attempt(b);
 }
 
-fn with_reply_length(length: usize) {
-    let mut a = sound();
-    a.reply_length = length;
-    print_attempt(a);
+// ---- with a fault of what is lent
+
+fn with_shorter(a: Attempt, slice: usize) {
+    let mut b = a;
+    b.lengths = shorter(a.lengths, slice);
+    print_attempt(b);
 }
 
-fn with_spoiled(slice: usize) {
-    let mut a = sound();
-    a.spoiled = slice;
-    print_attempt(a);
+fn with_blind_count(a: Attempt, count: usize) {
+    let mut b = a;
+    b.lengths.blinds = count;
+    print_attempt(b);
+}
+
+fn with_reply_length(a: Attempt, length: usize) {
+    let mut b = a;
+    b.reply_length = length;
+    print_attempt(b);
+}
+
+fn with_spoiled(a: Attempt, slice: usize) {
+    let mut b = a;
+    b.spoiled = slice;
+    print_attempt(b);
 }
 
 fn with_tree_raised(at: usize) {
@@ -167,6 +218,7 @@ fn with_tree_raised(at: usize) {
 }
 
 pub fn print_refused_opens() {
+    let s = sound();
     with_question_cut(13);
     with_question_raised(0);
     with_question_raised(3);
@@ -174,27 +226,58 @@ pub fn print_refused_opens() {
     with_question_raised(8);
     with_question_raised(11);
     with_question_raised(13);
-    with_question_cut(61);
+    with_question_cut(62);
     with_challenges([Q, 0, 0, 0]);
-    with_points([4294967295, 0, 0, 0, 0, 0, 0, 0]);
+    with_points([LARGEST, 0, 0, 0, 0, 0, 0, 0]);
     with_indices(1, 0);
     with_indices(3, 1);
-    with_shorter(COEFFICIENTS);
-    with_shorter(TAILS);
-    with_shorter(MASKS);
-    with_shorter(NONCES);
-    with_shorter(TABLE);
-    with_shorter(TREE);
-    with_reply_length(0);
-    with_reply_length(REPLY_LENGTH - 1);
-    with_reply_length(REPLY_LENGTH + 1);
-    with_reply_length(REPLY_BOUND);
-    with_spoiled(COEFFICIENTS);
-    with_spoiled(TAILS);
-    with_spoiled(MASKS);
-    with_spoiled(TABLE);
-    with_question_raised(14);
+    with_shorter(s, COEFFICIENTS);
+    with_shorter(s, TAILS);
+    with_shorter(s, MASKS);
+    with_shorter(s, NONCES);
+    with_shorter(s, TABLE);
+    with_shorter(s, TREE);
+    with_reply_length(s, 0);
+    with_reply_length(s, REPLY_LENGTH - 1);
+    with_reply_length(s, REPLY_LENGTH + 1);
+    with_reply_length(s, REPLY_BOUND);
+    with_spoiled(s, COEFFICIENTS);
+    with_spoiled(s, TAILS);
+    with_spoiled(s, MASKS);
+    with_spoiled(s, TABLE);
+    with_question_raised(root_at());
     with_tree_raised(223);
     // Nothing wrong: accepted, and changed.
-    print_attempt(sound());
+    print_attempt(s);
+}
+
+pub fn print_refused_blinded_opens() {
+    let s = sound_blinded();
+    // The header of version 1 was a byte shorter.
+    with_question_cut(14);
+    with_version(1);
+    with_asked_sizes(s, blinded(small_blinded(), 3));
+    with_asked_sizes(s, blinded(shape(2, 20, 1, 2, 2, 2), 17));
+    with_asked_sizes(s, blinded(shape(2, 49, 1, 2, 2, 2), 16));
+    with_asked_sizes(s, largest());
+    with_question_cut(15);
+    with_blind_count(sound(), 1);
+    with_blind_count(s, 0);
+    with_blind_count(s, 2);
+    // Other blinding rows than the commitment's.
+    with_asked_sizes(sound(), blinded(small(), 1));
+    with_asked_sizes(s, blinded(small_blinded(), 0));
+    with_asked_sizes(s, blinded(small_blinded(), 2));
+    with_shorter(s, COEFFICIENTS);
+    with_shorter(s, TAILS);
+    with_shorter(s, TABLE);
+    with_reply_length(s, BLINDED_LENGTH - 1);
+    with_reply_length(s, BLINDED_LENGTH + 1);
+    with_spoiled(s, COEFFICIENTS);
+    with_spoiled(s, TAILS);
+    with_spoiled(s, BLINDS);
+    with_spoiled(s, MASKS);
+    with_spoiled(s, TABLE);
+    // Nothing wrong: accepted, and changed.
+    print_attempt(s);
 }

@@ -3,6 +3,9 @@
 // The field's modulus, the least word that is no element.
 pub const Q: u32 = 4294967291;
 
+// The largest word.
+pub const LARGEST: u32 = 4294967295;
+
 // What is lent and asked, by the tags that the rules take.
 pub const COEFFICIENTS: usize = 1;
 
@@ -24,6 +27,8 @@ pub const TREE: usize = 8;
 pub const REPLY: usize = 9;
 
 pub const VALUES: usize = 10;
+
+pub const BLINDS: usize = 11;
 
 // ---- the rules
 
@@ -72,7 +77,7 @@ pub fn filled_points() -> [u32; 8] {
 
 // ---- buffers of zeros
 
-// For coefficients, tails or masks.
+// For coefficients, tails, blinds or masks.
 pub fn blank_words() -> [u32; 16384] {
     [0u32; 16384]
 }

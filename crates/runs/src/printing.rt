@@ -47,6 +47,7 @@ pub fn print_sizes(s: Shape) {
     print_number(b" w ", s.w as u64);
     print_number(b" l ", s.l as u64);
     print_number(b" eta ", s.eta as u64);
+    print_number(b" beta ", s.beta as u64);
 }
 
 pub fn print_digest(name: &[u8], bytes: &[u8]) {

@@ -7,12 +7,15 @@ use super::sizes::product;
 use codec::put_bytes;
 use codec::put_words;
 use commitment::Shape;
+use commitment::challenges_at;
+use commitment::root_at;
 
-// Where header and root end.
-pub const WORDS_AT: usize = 46;
+// The version that is not refused.
+pub const VERSION: usize = 2;
 
-// The number of points; challenges and points, of which a question holds the first ones; the indices first, first + step, first + 2 step, ..
+// The version, and the number of points; challenges and points, of which a question holds the first ones; the indices first, first + step, first + 2 step, ..
 pub struct Asked {
+    pub version: usize,
     pub m: u32,
     pub challenges: [u32; 4],
     pub points: [u32; 8],
@@ -23,6 +26,7 @@ pub struct Asked {
 // With challenges and points by the rules.
 pub fn filled_question(m: u32, first: usize, step: usize) -> Asked {
     Asked {
+        version: VERSION,
         m: m,
         challenges: filled_challenges(),
         points: filled_points(),
@@ -40,15 +44,15 @@ fn put_indices(first: usize, step: usize, out: &mut [u8]) {
     }
 }
 
-fn header(s: Shape, m: u32) -> [u8; 14] {
+fn header(version: usize, s: Shape, m: u32) -> [u8; 15] {
     let nu = s.nu as usize;
     let w = s.w as usize;
     [
         83,
         87,
         81,
-        1,
-        0,
+        low_byte(version),
+        low_byte(version / 256),
         low_byte(s.h as usize),
         low_byte(s.mu as usize),
         low_byte(nu),
@@ -58,23 +62,25 @@ fn header(s: Shape, m: u32) -> [u8; 14] {
         low_byte(s.l as usize),
         low_byte(s.eta as usize),
         low_byte(m as usize),
+        low_byte(s.beta as usize),
     ]
 }
 
 // The question of a proof, header, root and points, to the front of `question`.
-pub fn put_offline_question(s: Shape, m: u32, points: &[u32], tree: &[u8], question: &mut [u8]) {
-    let asked = front_words(points, m as usize);
+pub fn put_offline_question(s: Shape, a: Asked, tree: &[u8], question: &mut [u8]) {
+    let all_points = a.points;
+    let points = front_words(&all_points, a.m as usize);
     if tree.len() < 32 {
         return;
     }
-    if question.len() < WORDS_AT + 4 * asked.len() {
+    if question.len() < challenges_at() + 4 * points.len() {
         return;
     }
-    let head = header(s, m);
-    let root_at = tree.len() - 32;
+    let head = header(a.version, s, a.m);
+    let last = tree.len() - 32;
     put_bytes(question, 0, &head);
-    put_bytes(question, 14, &tree[root_at..]);
-    put_words(question, WORDS_AT, asked);
+    put_bytes(question, root_at(), &tree[last..]);
+    put_words(question, challenges_at(), points);
 }
 
 // A question of these sizes about the root, the last 32 bytes of the tree, to the front of `question`; the rest of it is filled with indices.
@@ -83,7 +89,7 @@ pub fn put_question(s: Shape, a: Asked, tree: &[u8], question: &mut [u8]) {
     let all_points = a.points;
     let challenges = front_words(&all_challenges, s.eta as usize);
     let points = front_words(&all_points, a.m as usize);
-    let points_at = WORDS_AT + 4 * challenges.len();
+    let points_at = challenges_at() + 4 * challenges.len();
     let indices_at = points_at + 4 * points.len();
     if tree.len() < 32 {
         return;
@@ -91,11 +97,11 @@ pub fn put_question(s: Shape, a: Asked, tree: &[u8], question: &mut [u8]) {
     if question.len() < indices_at {
         return;
     }
-    let head = header(s, a.m);
-    let root_at = tree.len() - 32;
+    let head = header(a.version, s, a.m);
+    let last = tree.len() - 32;
     put_bytes(question, 0, &head);
-    put_bytes(question, 14, &tree[root_at..]);
-    put_words(question, WORDS_AT, challenges);
+    put_bytes(question, root_at(), &tree[last..]);
+    put_words(question, challenges_at(), challenges);
     put_words(question, points_at, points);
     put_indices(a.first, a.step, &mut question[indices_at..]);
 }

@@ -1,5 +1,6 @@
 // The sizes at which calls are refused, and inputs for them in which one word can be no element and one byte another.
 use super::calls::commit_front;
+use super::inputs::BLINDS;
 use super::inputs::COEFFICIENTS;
 use super::inputs::MASKS;
 use super::inputs::NONCES;
@@ -9,7 +10,8 @@ use super::inputs::filled_bytes;
 use super::inputs::filled_words;
 use super::printing::print;
 use super::sizes::Lengths;
-use super::sizes::lengths_of;
+use super::sizes::before;
+use super::sizes::blinded;
 use super::sizes::shape;
 use codec::same_bytes;
 use commitment::Shape;
@@ -24,16 +26,17 @@ pub fn small() -> Shape {
     shape(2, 2, 1, 2, 2, 2)
 }
 
-// With one point.
-pub fn small_lengths() -> Lengths {
-    lengths_of(small(), 1)
+// With one blind.
+pub fn small_blinded() -> Shape {
+    blinded(shape(2, 2, 2, 1, 2, 2), 1)
 }
 
-// Makes a word q, if `yes`.
-pub fn spoil(words: &mut [u32], at: usize, yes: bool) {
+// Makes the last of the first n words q, if `yes`.
+pub fn spoil(words: &mut [u32], n: usize, yes: bool) {
+    let last = before(n);
     if yes {
-        if at < words.len() {
-            words[at] = Q;
+        if last < words.len() {
+            words[last] = Q;
         }
     }
 }
@@ -51,23 +54,11 @@ pub fn raise(bytes: &mut [u8], at: usize) {
     }
 }
 
-// Words by the rules; where this is the slice to spoil, the one at `last` is q.
-fn spoiled_words(tag: usize, last: usize, spoiled: usize) -> [u32; 16384] {
+// Words by the rules, of which n are lent; where this is the slice to spoil, the last of these is q.
+pub fn lent_words(tag: usize, n: usize, spoiled: usize) -> [u32; 16384] {
     let mut words = filled_words(tag);
-    spoil(&mut words, last, tag == spoiled);
+    spoil(&mut words, n, tag == spoiled);
     words
-}
-
-pub fn small_coefficients(spoiled: usize) -> [u32; 16384] {
-    spoiled_words(COEFFICIENTS, 3, spoiled)
-}
-
-pub fn small_tails(spoiled: usize) -> [u32; 16384] {
-    spoiled_words(TAILS, 3, spoiled)
-}
-
-pub fn small_masks(spoiled: usize) -> [u32; 16384] {
-    spoiled_words(MASKS, 7, spoiled)
 }
 
 // Commits with the last word of one slice made q.
@@ -78,11 +69,22 @@ pub fn commit_small(
     table: &mut [u32],
     tree: &mut [u8],
 ) -> u32 {
-    let coefficients = small_coefficients(spoiled);
-    let tails = small_tails(spoiled);
-    let masks = small_masks(spoiled);
+    let coefficients = lent_words(COEFFICIENTS, n.coefficients, spoiled);
+    let tails = lent_words(TAILS, n.tails, spoiled);
+    let blinds = lent_words(BLINDS, n.blinds, spoiled);
+    let masks = lent_words(MASKS, n.masks, spoiled);
     let nonces = filled_bytes(NONCES);
-    commit_front(s, n, &coefficients, &tails, &masks, &nonces, table, tree)
+    commit_front(
+        s,
+        n,
+        &coefficients,
+        &tails,
+        &blinds,
+        &masks,
+        &nonces,
+        table,
+        tree,
+    )
 }
 
 // Whether what may be written is as before, by digests.
