@@ -18,25 +18,29 @@
 #include "smallwood.h"
 
 /*
- * Two polynomials of six coefficients, in two columns each; eight leaves, two of them opened; two repetitions, two points.
- * M is below MU: each point shows one equation on the MU coefficients of each column. The sizes are for show: no security.
+ * Two polynomials of eight coefficients, in two columns each; eight leaves, two of them opened; two repetitions, two points.
+ * BETA is M: each point shows a value of every column, and each column but a polynomial's last has a blind for each of them.
+ * The sizes are for show: no security.
  */
-enum { H = 3, MU = 3, NU = 2, W = 2, L = 2, ETA = 2, M = 2 };
+enum { H = 3, MU = 3, NU = 2, W = 2, L = 2, ETA = 2, M = 2, BETA = 2 };
 
 enum {
     N = 1 << H,
     WIDTH = W * NU + L,
-    COEFFICIENTS = W * MU * NU,
-    TAILS = MU * L,
+    ROWS = MU + BETA,
+    EACH = MU * NU + BETA, /* coefficients of a polynomial */
+    COEFFICIENTS = W * EACH,
+    TAILS = ROWS * L,
+    BLINDS = W * (NU - 1) * BETA,
     MASKS = ETA * WIDTH,
     NONCES = 32 * N,
-    TABLE = N * (MU + ETA),
+    TABLE = N * (ROWS + ETA),
     TREE = 32 * (2 * N - 1),
-    QUESTION = 14 + 32 + 4 * ETA + 4 * M + 2 * L,
+    QUESTION = 15 + 32 + 4 * ETA + 4 * M + 2 * L,
     BATCHING = 4 * WIDTH * ETA, /* a reply begins with the batching answers */
     EVALUATION = 4 * WIDTH * M, /* then come the evaluation answers */
     ANSWERS = BATCHING + EVALUATION,
-    REPLY_BOUND = ANSWERS + L * (4 * (MU + ETA) + 32) + 32 * L * H, /* what no reply exceeds */
+    REPLY_BOUND = ANSWERS + L * (4 * (ROWS + ETA) + 32) + 32 * L * H, /* what no reply exceeds */
     VALUES = 4 * W * M
 };
 
@@ -124,7 +128,7 @@ struct asked {
 static void write_question(uint8_t *to, const uint8_t *root, const struct asked *asked)
 {
     memcpy(to, "SWQ", 3);
-    put_half(to + 3, 1);
+    put_half(to + 3, 2);
     to[5] = H;
     to[6] = MU;
     put_half(to + 7, NU);
@@ -132,18 +136,19 @@ static void write_question(uint8_t *to, const uint8_t *root, const struct asked 
     to[11] = L;
     to[12] = ETA;
     to[13] = M;
-    memcpy(to + 14, root, 32);
+    to[14] = BETA;
+    memcpy(to + 15, root, 32);
     for (int k = 0; k < ETA; k++)
-        put_word(to + 46 + 4 * k, asked->challenges[k]);
+        put_word(to + 47 + 4 * k, asked->challenges[k]);
     for (int p = 0; p < M; p++)
-        put_word(to + 46 + 4 * ETA + 4 * p, asked->points[p]);
+        put_word(to + 47 + 4 * ETA + 4 * p, asked->points[p]);
     for (int a = 0; a < L; a++)
-        put_half(to + 46 + 4 * ETA + 4 * M + 2 * a, asked->indices[a]);
+        put_half(to + 47 + 4 * ETA + 4 * M + 2 * a, asked->indices[a]);
 }
 
 /* ---- The badge. Only its root, its answers and one reply leave it. */
 
-static uint32_t badge_coefficients[COEFFICIENTS], badge_tails[TAILS], badge_masks[MASKS], badge_table[TABLE];
+static uint32_t badge_coefficients[COEFFICIENTS], badge_tails[TAILS], badge_blinds[BLINDS], badge_masks[MASKS], badge_table[TABLE];
 static uint8_t badge_nonces[NONCES], badge_tree[TREE];
 
 /* What it was asked. The points and leaves are stand-ins until the reader sends his. */
@@ -169,8 +174,8 @@ __attribute__((noinline)) static void wipe_stack(void)
 
 static uint32_t badge_commit(uint32_t l, uint8_t *root)
 {
-    uint32_t number = smallwood_commit(H, MU, NU, W, l, ETA, badge_coefficients, COEFFICIENTS, badge_tails, TAILS, badge_masks, MASKS,
-                                       badge_nonces, NONCES, badge_table, TABLE, badge_tree, TREE);
+    uint32_t number = smallwood_commit(H, MU, NU, W, l, ETA, BETA, badge_coefficients, COEFFICIENTS, badge_tails, TAILS, badge_blinds, BLINDS,
+                                       badge_masks, MASKS, badge_nonces, NONCES, badge_table, TABLE, badge_tree, TREE);
     wipe_stack();
     if (number == 0)
         memcpy(root, badge_tree + TREE - 32, 32);
@@ -179,8 +184,8 @@ static uint32_t badge_commit(uint32_t l, uint8_t *root)
 
 static uint32_t badge_open(const uint8_t *question, uint8_t *reply, size_t size, uint64_t *length)
 {
-    uint32_t number = smallwood_open(question, QUESTION, badge_coefficients, COEFFICIENTS, badge_tails, TAILS, badge_masks, MASKS,
-                                     badge_table, TABLE, badge_nonces, NONCES, badge_tree, TREE, reply, size, length);
+    uint32_t number = smallwood_open(question, QUESTION, badge_coefficients, COEFFICIENTS, badge_tails, TAILS, badge_blinds, BLINDS, badge_masks,
+                                     MASKS, badge_table, TABLE, badge_nonces, NONCES, badge_tree, TREE, reply, size, length);
     wipe_stack();
     return number;
 }
@@ -190,6 +195,7 @@ static void badge_begins(uint8_t *root)
     for (uint32_t i = 0; i < COEFFICIENTS; i++)
         badge_coefficients[i] = i + 1; /* its secret; a real one has better */
     draw_elements(badge_tails, TAILS);
+    draw_elements(badge_blinds, BLINDS); /* each as likely as any other, or columns would show coefficients after all */
     draw_elements(badge_masks, MASKS);
     draw_bytes(badge_nonces, NONCES);
     for (uint32_t a = 0; a < L; a++)
@@ -258,6 +264,7 @@ static void badge_ends(void)
 {
     wipe(badge_coefficients, sizeof badge_coefficients);
     wipe(badge_tails, sizeof badge_tails);
+    wipe(badge_blinds, sizeof badge_blinds);
     wipe(badge_masks, sizeof badge_masks);
     wipe(badge_nonces, sizeof badge_nonces);
     wipe(badge_table, sizeof badge_table);
@@ -343,7 +350,7 @@ int main(void)
         for (int i = 0; i < W; i++) {
             uint32_t z = reader_asked.points[p], value = word_at(reader_values + 4 * (p * W + i));
             printf("polynomial %d at %u is %u\n", i + 1, z, value);
-            expect(value == evaluate(badge_coefficients + i * MU * NU, MU * NU, z), "the value is the polynomial's");
+            expect(value == evaluate(badge_coefficients + i * EACH, EACH, z), "the value is the polynomial's");
         }
 
     expect(!badge_takes_challenges(reader_asked.challenges, reader_answers), "the badge takes no second question");

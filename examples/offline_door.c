@@ -18,27 +18,30 @@
 #include "smallwood.h"
 
 /*
- * Four polynomials of 32 coefficients, in four columns each; 256 leaves, 26 of them opened; four repetitions, two points. M is below MU:
- * each point shows one equation on the MU coefficients of each column. Who draws for himself tries draws: one fits false answers with a
- * probability of 2^-81.8, and KAPPA makes it 2^-89.8.
+ * Four polynomials of 34 coefficients, in four columns each; 256 leaves, 26 of them opened; four repetitions, two points. BETA is M: each
+ * point shows a value of every column, and each column but a polynomial's last has a blind for each of them. Who draws for himself tries
+ * draws: one fits false answers with a probability of 2^-81.8, and KAPPA makes it 2^-89.8.
  */
-enum { H = 8, MU = 8, NU = 4, W = 4, L = 26, ETA = 4, M = 2, KAPPA = 8 };
+enum { H = 8, MU = 8, NU = 4, W = 4, L = 26, ETA = 4, M = 2, BETA = 2, KAPPA = 8 };
 
 enum {
     N = 1 << H,
     WIDTH = W * NU + L,
-    COEFFICIENTS = W * MU * NU,
-    TAILS = MU * L,
+    ROWS = MU + BETA,
+    EACH = MU * NU + BETA, /* coefficients of a polynomial */
+    COEFFICIENTS = W * EACH,
+    TAILS = ROWS * L,
+    BLINDS = W * (NU - 1) * BETA,
     MASKS = ETA * WIDTH,
     NONCES = 32 * N,
-    TABLE = N * (MU + ETA),
+    TABLE = N * (ROWS + ETA),
     TREE = 32 * (2 * N - 1),
-    HEADER = 14,
+    HEADER = 15,
     NAMED = HEADER + 32, /* header and root */
     QUESTION = NAMED + 4 * M,
     COUNTER = 4,
     ANSWERS = 4 * WIDTH * (ETA + M), /* they follow the counter */
-    RECORDS = L * (4 * (MU + ETA) + 32),
+    RECORDS = L * (4 * (ROWS + ETA) + 32),
     PROOF_ROOM = COUNTER + ANSWERS + RECORDS + 32 * L * H, /* the prover's buffer: no proof is longer */
     VALUES = 4 * W * M
 };
@@ -108,7 +111,7 @@ static uint32_t word_at(const uint8_t *from)
 static void write_named(uint8_t *to, const uint8_t *root)
 {
     memcpy(to, "SWQ", 3);
-    put_half(to + 3, 1);
+    put_half(to + 3, 2);
     to[5] = H;
     to[6] = MU;
     put_half(to + 7, NU);
@@ -116,12 +119,13 @@ static void write_named(uint8_t *to, const uint8_t *root)
     to[11] = L;
     to[12] = ETA;
     to[13] = M;
+    to[14] = BETA;
     memcpy(to + HEADER, root, 32);
 }
 
 /* ---- The badge. Only its root and one proof leave it. */
 
-static uint32_t badge_coefficients[COEFFICIENTS], badge_tails[TAILS], badge_masks[MASKS], badge_table[TABLE];
+static uint32_t badge_coefficients[COEFFICIENTS], badge_tails[TAILS], badge_blinds[BLINDS], badge_masks[MASKS], badge_table[TABLE];
 static uint8_t badge_nonces[NONCES], badge_tree[TREE], badge_named[NAMED];
 static bool badge_used;
 
@@ -150,10 +154,11 @@ static void badge_begins(uint8_t *root)
     for (uint32_t i = 0; i < COEFFICIENTS; i++)
         badge_coefficients[i] = i + 1; /* its secret; a real one has better */
     draw_elements(badge_tails, TAILS);
+    draw_elements(badge_blinds, BLINDS); /* each as likely as any other, or columns would show coefficients after all */
     draw_elements(badge_masks, MASKS);
     draw_bytes(badge_nonces, NONCES);
-    number = smallwood_commit(H, MU, NU, W, L, ETA, badge_coefficients, COEFFICIENTS, badge_tails, TAILS, badge_masks, MASKS, badge_nonces,
-                              NONCES, badge_table, TABLE, badge_tree, TREE);
+    number = smallwood_commit(H, MU, NU, W, L, ETA, BETA, badge_coefficients, COEFFICIENTS, badge_tails, TAILS, badge_blinds, BLINDS, badge_masks,
+                              MASKS, badge_nonces, NONCES, badge_table, TABLE, badge_tree, TREE);
     wipe_stack();
     must(number == 0, "the badge commits");
     memcpy(root, badge_tree + TREE - 32, 32);
@@ -164,8 +169,8 @@ static void badge_begins(uint8_t *root)
 static uint32_t badge_prove(const uint8_t *question, size_t size, uint32_t kappa, uint32_t limit, uint8_t *proof, size_t room,
                             uint64_t *length)
 {
-    uint32_t number = smallwood_prove(question, size, kappa, limit, badge_coefficients, COEFFICIENTS, badge_tails, TAILS, badge_masks,
-                                      MASKS, badge_table, TABLE, badge_nonces, NONCES, badge_tree, TREE, proof, room, length);
+    uint32_t number = smallwood_prove(question, size, kappa, limit, badge_coefficients, COEFFICIENTS, badge_tails, TAILS, badge_blinds, BLINDS,
+                                      badge_masks, MASKS, badge_table, TABLE, badge_nonces, NONCES, badge_tree, TREE, proof, room, length);
     wipe_stack();
     return number;
 }
@@ -201,6 +206,7 @@ static void badge_ends(void)
 {
     wipe(badge_coefficients, sizeof badge_coefficients);
     wipe(badge_tails, sizeof badge_tails);
+    wipe(badge_blinds, sizeof badge_blinds);
     wipe(badge_masks, sizeof badge_masks);
     wipe(badge_nonces, sizeof badge_nonces);
     wipe(badge_table, sizeof badge_table);
@@ -279,7 +285,7 @@ static void show_values(void)
         for (int i = 0; i < W; i++) {
             uint32_t z = door_points[p], value = word_at(door_values + 4 * (p * W + i));
             printf("polynomial %d at %u is %u\n", i + 1, z, value);
-            expect(value == evaluate(badge_coefficients + i * MU * NU, MU * NU, z), "the value is the polynomial's");
+            expect(value == evaluate(badge_coefficients + i * EACH, EACH, z), "the value is the polynomial's");
         }
 }
 

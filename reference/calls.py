@@ -11,30 +11,33 @@ from drafts import (
     LAST_WORD, Draft, Lent, Source, allowed, ask, border_sizes, case_p, committed, drawn_question, leaf_sizes, lend,
     name, outputs, prefill, random_commitment, reply_buffer, small_drafts, true_values,
 )  # fmt: skip
-from faults import QUESTION_STAGES, faulty, spoil, turn
+from faults import BAD_SIZES, QUESTION_STAGES, faulty, spoil, turn
 from smallwood import Q, Question, Reply, Sizes
 
 # Committing: the sizes, what is lent, and table and tree before and after. Where a size exceeds 65535, or
 # 255 for one that a question holds in one byte, the label begins with "wide".
 CommitCall = namedtuple(
     "CommitCall",
-    "label h mu nu w l eta coefficients tails masks nonces table tree number table_after tree_after",
+    "label h mu nu w l eta beta coefficients tails blinds masks nonces table tree number table_after tree_after",
 )
 
 # Opening: what is lent, and the reply buffer before and after; length is None after a refusal.
 OpenCall = namedtuple(
     "OpenCall",
-    "label question coefficients tails masks nonces table tree buffer number length buffer_after",
+    "label question coefficients tails blinds masks nonces table tree buffer number length buffer_after",
 )
 
 # The reply's length of a question; length is None after a refusal.
 LengthCall = namedtuple("LengthCall", "label question number length")
 
-WORDS = ("coefficients", "tails", "masks")
+WORDS = ("coefficients", "tails", "blinds", "masks")
+COMMIT_SIZES = ("h", "mu", "nu", "w", "l", "eta", "beta")
 
 
 def off_by(sequence, step):
-    """The slice longer or shorter by some items."""
+    """The slice longer or shorter by some items; an empty one is longer."""
+    if step <= 0 and len(sequence) == 0:
+        step = 1
     if step < 0:
         return sequence[:step]
     return sequence + (bytes(step) if isinstance(sequence, bytes) else [0] * step)
@@ -51,21 +54,53 @@ def faulty_question(q, faults, v):
     return faulty(Draft(q, Reply([], [], [], [])), faults, v)[0]
 
 
+def blinded_sizes():
+    """Blinding rows: none, one, as many as others, 16, with mu + beta up to 64; one or more columns and polynomials."""
+    for mu, beta in (
+        (1, 0), (1, 1), (2, 1), (2, 2), (3, 2), (16, 16), (17, 16), (47, 16), (48, 16), (60, 4), (63, 1), (64, 0),
+    ):  # fmt: skip
+        for nu, w in ((1, 1), (1, 3), (2, 1), (3, 2)):
+            yield Sizes(4, mu, nu, w, 3, 2, 2, beta)
+
+
+def mistaken_lengths(s):
+    """(label, slice, number of words) that other readings of the layout would take."""
+    counts = {
+        "coefficients": (s.w * s.mu * s.nu, s.w * s.mu * s.nu + s.beta, s.w * s.rows * s.nu),
+        "tails": (s.mu * s.l, (s.mu + 2 * s.beta) * s.l),
+        "blinds": (
+            s.w * s.nu * s.beta, (s.w * s.nu - 1) * s.beta, (s.nu - 1) * s.beta, s.w * (s.nu - 1) * s.mu,
+            s.w * (s.nu - 1), s.w * s.beta, s.beta, 1, 0,
+        ),
+    }  # fmt: skip
+    right = {"coefficients": s.w * s.each, "tails": s.rows * s.l, "blinds": s.w * s.blinds_each}
+    for part in counts:
+        for count in sorted(set(counts[part]) - {right[part]}):
+            yield "%d words of %s, not %d" % (count, part, right[part]), part, count
+
+
+def version_1(question):
+    """A question as version 1 had it: without its byte 14."""
+    return question[:3] + b"\1\0" + question[5:14] + question[15:]
+
+
 # ---- Committing -------------------------------------------------------------------------------------
 
 
+def commit_label(label, s):
+    return "%s [h%d mu%d nu%d w%d l%d eta%d beta%d]" % (label, *s.of_commitment)
+
+
 def commit_call(label, s, lent, table, tree, number):
-    found, table_after, tree_after = S.commit(*s[:6], *lent, table, tree)
+    found, table_after, tree_after = S.commit(*s.of_commitment, *lent, table, tree)
     assert found == number, (label, found, number)
     assert found == 0 or (table_after, tree_after) == (table, tree), label
-    label = "%s [h%d mu%d nu%d w%d l%d eta%d]" % (label, *s[:6])
-    return CommitCall(label, *s[:6], *lent, table, tree, found, table_after, tree_after)
+    return CommitCall(commit_label(label, s), *s.of_commitment, *lent, table, tree, found, table_after, tree_after)
 
 
 def committed_call(label, s):
     c = random_commitment(s)
-    label = "%s [h%d mu%d nu%d w%d l%d eta%d]" % (label, *s[:6])
-    return CommitCall(label, *s[:6], *c.lent, *outputs(s), 0, c.table, c.tree)
+    return CommitCall(commit_label(label, s), *s.of_commitment, *c.lent, *outputs(s), 0, c.table, c.tree)
 
 
 def accepted_commits():
@@ -82,16 +117,51 @@ def accepted_commits():
         Sizes(9, 1, 256, 1, 64, 1, 8),
         Sizes(9, 1, 1, 256, 64, 4, 2),
         Sizes(12, 1, 1, 1, 1, 1, 1),
-        Sizes(12, 64, 256, 1, 64, 4, 8),
+        Sizes(12, 48, 256, 1, 64, 4, 8, 16),
+        Sizes(9, 1, 256, 1, 64, 1, 8, 1),
+        Sizes(9, 16, 1, 256, 64, 4, 2, 16),
     ):
         yield committed_call("commit: extreme", s)
     for s in leaf_sizes():
         yield committed_call("commit: leaves of %d values" % s.record, s)
 
 
+def blinded_commits():
+    """Blinding rows at their borders, and each blind with another word."""
+    for s in blinded_sizes():
+        yield committed_call("commit: blinds", s)
+    s = Sizes(3, 3, 3, 2, 2, 1, 1, 2)
+    c = random_commitment(s)
+    for at in range(len(c.lent.blinds)):
+        changed = c.lent._replace(blinds=with_word(c.lent.blinds, at, c.lent.blinds[at] ^ 1))
+        call = commit_call("commit: blind %d another" % at, s, changed, *outputs(s), 0)
+        differ = [place for place, (a, b) in enumerate(zip(call.table_after, c.table)) if a != b]
+        assert {place % s.record for place in differ} == {at % 2, s.mu + at % 2}, at  # one row of each kind
+        yield call
+    for s in (s, Sizes(3, 3, 1, 2, 2, 1, 1, 2), Sizes(3, 3, 3, 1, 2, 1, 1), Sizes(4, 2, 2, 3, 2, 1, 1, 1)):
+        src = Source("lengths of blinds")
+        lent, (table, tree) = lend(src, s, src.elements), outputs(s)
+        for label, part, count in mistaken_lengths(s):
+            changed = lent._replace(**{part: src.elements(count)})
+            yield commit_call("commit: %s" % label, s, changed, table, tree, 2)
+        for count in sorted({s.leaves * (s.mu + s.eta), s.leaves * (s.mu + 2 * s.beta + s.eta)} - {len(table)}):
+            yield commit_call("commit: table of %d words" % count, s, lent, src.elements(count), tree, 2)
+        for beta in range(s.mu + 2):
+            if beta != s.beta:
+                t = s._replace(beta=beta)
+                number = 2 if allowed(t) else 1
+                yield commit_call("commit: lent for beta %d" % s.beta, t, lent, table, tree, number)
+
+
 def commit_calls():
     yield from accepted_commits()
-    s = Sizes(2, 2, 1, 2, 2, 2, 1)
+    yield from blinded_commits()
+    yield from refused_commits(Sizes(2, 2, 1, 2, 2, 2, 1))
+    yield from refused_commits(Sizes(3, 2, 2, 3, 2, 2, 1, 1))
+
+
+def refused_commits(s):
+    """Refusals by each test, at sizes with w nu + l = N."""
     src = Source("commit refusals")
     lent, (table, tree) = lend(src, s, src.elements), outputs(s)
     for word in (0, Q - 1):
@@ -101,15 +171,18 @@ def commit_calls():
     for t in dict.fromkeys(t._replace(m=1) for t in border_sizes()):
         if not allowed(t):
             yield commit_call("commit: sizes", t, lent, table, tree, 1)
-    for field in ("h", "mu", "nu", "w", "l", "eta"):
-        narrow = (65537, 65538) if field in ("nu", "w") else (257, 258, 65537)
+    for field in COMMIT_SIZES:
+        narrow = (65537, 65538) if field in ("nu", "w") else (256, 257, 258, 65536, 65537)
         for number in narrow + (2**31, 2**32 - 1):
             t = s._replace(**{field: number})
             yield commit_call("wide commit: sizes", t, lent, table, tree, 1)
     yield commit_call("wide commit: product 0", s._replace(w=65536, nu=65536), lent, table, tree, 1)
+    for mu, beta in ((2**32 - 1, 1), (2**32 - 16, 16), (2**32 - 1, 2**32 - 1), (2**31, 2**31), (2, 2**32 - 2)):
+        yield commit_call("wide commit: mu + beta small", s._replace(mu=mu, beta=beta), lent, table, tree, 1)
+    yield commit_call("wide commit: all", Sizes(*[2**32 - 1] * 8), lent, table, tree, 1)
     for part in Lent._fields:
         whole = getattr(lent, part)
-        for step in (-1, 1, -len(whole), len(whole), 32):
+        for step in sorted({-1, 1, -len(whole), len(whole), 32} - {0}):
             changed = lent._replace(**{part: off_by(whole, step)})
             yield commit_call("commit: %s off by %d" % (part, step), s, changed, table, tree, 2)
     for step in (-1, 1, -len(table), len(table)):
@@ -124,7 +197,9 @@ def commit_calls():
                 changed = lent._replace(**{part: with_word(whole, at, word)})
                 yield commit_call(label, s, changed, table, tree, 3)
                 yield commit_call(label + ", tree off by 1", s, changed, table, off_by(tree, 1), 2)
+        changed = lent._replace(**{part: [Q] * max(1, len(whole))})
         yield commit_call("commit: sizes, %s element" % part, s._replace(l=3), changed, table, tree, 1)
+        yield commit_call("commit: beta, %s element" % part, s._replace(beta=3), changed, table, tree, 1)
         shorter = lent._replace(**{part: off_by(whole, -1)})
         yield commit_call("commit: sizes, %s length" % part, s._replace(mu=0), shorter, table, tree, 1)
 
@@ -165,13 +240,49 @@ def accepted_opens():
         Sizes(9, 1, 256, 1, 64, 1, 8),
         Sizes(9, 1, 1, 256, 64, 4, 2),
         Sizes(12, 1, 1, 1, 1, 1, 1),
-        Sizes(12, 64, 256, 1, 64, 4, 8),
+        Sizes(12, 48, 256, 1, 64, 4, 8, 16),
+        Sizes(9, 1, 256, 1, 64, 1, 8, 1),
+        Sizes(9, 16, 1, 256, 64, 4, 2, 16),
     ):
         src, c = Source("open " + name(s)), random_commitment(s)
         spread = [s.leaves // s.l * b for b in range(s.l)]
         yield accepted_open("open: extreme, first leaves", c, ask(src, c, indices=list(range(s.l))))
         yield accepted_open("open: extreme, spread leaves", c, ask(src, c, indices=spread))
         yield accepted_open("open: extreme, drawn leaves", c, ask(src, c))
+    for s in blinded_sizes():
+        c = random_commitment(s)
+        yield accepted_open("open: blinds", c, ask(Source("open " + name(s)), c, points=[0, 10]))
+
+
+def blinded_opens():
+    """Other blinds than the committed ones, blinds of other lengths, and questions that name another beta."""
+    for s in (Sizes(4, 3, 3, 2, 2, 2, 2, 2), Sizes(3, 2, 1, 3, 2, 1, 1, 2), Sizes(3, 2, 2, 2, 2, 1, 2)):
+        src, c = Source("open blinds"), random_commitment(s)
+        for more, challenges, number in (("", None, 9), (", challenges 0", [0] * s.eta, 10)):
+            q = ask(src, c, challenges=challenges, points=[10, Q - 1][: s.m])
+            question = S.write_question(q)
+            for at in range(len(c.lent.blinds)):
+                lent = c.lent._replace(blinds=with_word(c.lent.blinds, at, c.lent.blinds[at] ^ 1))
+                label = "open: blind %d another%s" % (at, more)
+                call = open_call(label, question, lent, c.table, c.tree, reply_buffer(question), 0)
+                assert S.check(question, call.buffer_after, [0] * (s.w * s.m))[0] == number, label
+                yield call
+        buffer = reply_buffer(question)
+        for label, part, count in mistaken_lengths(s):
+            lent = c.lent._replace(**{part: src.elements(count)})
+            yield open_call("open: %s" % label, question, lent, c.table, c.tree, buffer, 2)
+        for beta in range(20):
+            other = S.write_question(q._replace(sizes=s._replace(beta=beta)))
+            number = 0 if beta == s.beta else 2 if allowed(s._replace(beta=beta)) else 1
+            room = buffer if number else reply_buffer(other)
+            yield open_call("open: beta %d for %d" % (beta, s.beta), other, c.lent, c.table, c.tree, room, number)
+        for other, number in ((version_1(question), 5), (question[:3] + b"\1\0" + question[5:], 5), (question[:14], 6)):
+            yield open_call("open: question of %d bytes" % len(other), other, c.lent, c.table, c.tree, buffer, number)
+    for beta in range(3):  # one column: which rows are blinding makes no difference
+        c = random_commitment(Sizes(3, 4, 1, 2, 2, 1, 1, 2))
+        t = c.sizes._replace(mu=6 - beta, beta=beta)
+        q = drawn_question(Source("one column"), t, c.tree[-32:], indices=[2, 5], points=[9], challenges=[4])
+        yield accepted_open("open: one column", c._replace(sizes=t), q)
 
 
 def believed_opens(src, c, q):
@@ -190,8 +301,9 @@ def believed_opens(src, c, q):
     for part in WORDS:
         drawn = src.elements(len(getattr(c.lent, part)))
         yield call("other %s" % part, lent=c.lent._replace(**{part: drawn}))
-    exchanged = q.sizes._replace(w=q.sizes.nu, nu=q.sizes.w)
-    yield call("w and nu exchanged", question=S.write_question(q._replace(sizes=exchanged)))
+    if q.sizes.beta == 0:
+        exchanged = q.sizes._replace(w=q.sizes.nu, nu=q.sizes.w)
+        yield call("w and nu exchanged", question=S.write_question(q._replace(sizes=exchanged)))
 
 
 def buffer_opens(c, q):
@@ -212,11 +324,11 @@ def faulty_open(c, q, faults, v):
     if "lent root" in faults:
         slices["tree"] = spoil(c.tree, turn((-1, -32, -7), v))
     if "lent element" in faults:
-        part = turn(WORDS + ("table",), v)
-        slices[part] = with_word(slices[part], turn((0, -1), v // 4), turn((Q, LAST_WORD), v))
+        part = turn([part for part in WORDS + ("table",) if slices[part]], v)
+        slices[part] = with_word(slices[part], turn((0, -1), v // 5), turn((Q, LAST_WORD), v))
     if "lent length" in faults:
         part = turn(list(slices), v)
-        slices[part] = off_by(slices[part], turn((-1, 1), v // 7))
+        slices[part] = off_by(slices[part], turn((-1, 1), v // 8))
     *lent, table, tree, buffer = slices.values()
     label = "open faults: %s; variant %d" % (", ".join(faults), v)
     return open_call(label, question, Lent(*lent), table, tree, buffer, number)
@@ -224,7 +336,13 @@ def faulty_open(c, q, faults, v):
 
 def open_calls():
     yield from accepted_opens()
-    s = Sizes(3, 2, 2, 1, 3, 2, 2)
+    yield from blinded_opens()
+    yield from refused_opens(Sizes(3, 2, 2, 1, 3, 2, 2))
+    yield from refused_opens(Sizes(4, 2, 2, 2, 3, 2, 2, 1))
+
+
+def refused_opens(s):
+    """Refusals by each test, and what is not tested."""
     src, c = Source("open faults"), random_commitment(s)
     q = ask(src, c)
     question = S.write_question(q)
@@ -233,7 +351,7 @@ def open_calls():
     for m in range(1, 9):
         yield accepted_open("open: m %d" % m, c, ask(src, c, m))
     for word, number in ((Q - 1, 0), (Q, 3), (LAST_WORD, 3)):
-        for part in WORDS:
+        for part in filter(lambda part: getattr(c.lent, part), WORDS):
             for at in (0, -1):
                 label = "open: %s %d is %d" % (part, at, word)
                 lent = c.lent._replace(**{part: with_word(getattr(c.lent, part), at, word)})
@@ -246,9 +364,9 @@ def open_calls():
         yield open_call("open: root byte %d" % at, question, c.lent, c.table, tree, buffer, 8)
     for indices in ([0, 1, 2], [0, 3, 6], q.indices):
         yield from buffer_opens(c, q._replace(indices=indices))
-    for t in (Sizes(1, 1, 1, 1, 1, 1, 1), Sizes(5, 2, 3, 2, 9, 3, 4)):
+    for t in (Sizes(1, 1, 1, 1, 1, 1, 1), Sizes(5, 2, 3, 2, 9, 3, 4, 2)):
         yield from buffer_opens(random_commitment(t), ask(src, random_commitment(t)))
-    for field in ("h", "mu", "nu", "w", "l", "eta"):  # other sizes than the committed ones
+    for field in COMMIT_SIZES:  # other sizes than the committed ones
         t = s._replace(**{field: getattr(s, field) + 1})
         other = S.write_question(Question(t, q.root, [1] * t.eta, [1] * t.m, list(range(t.l))))
         label = "open: %s more by 1" % field
@@ -258,7 +376,7 @@ def open_calls():
         yield open_call(label, question[:cut], c.lent, c.table, c.tree, buffer, 6)
     stages = [stage for stage, _ in OPEN_STAGES]
     for stage in stages:
-        for v in range(14):
+        for v in range(len(BAD_SIZES)):
             yield faulty_open(c, q, [stage], v)
     for v, pair in enumerate(combinations(stages, 2)):
         for step in range(3):
@@ -294,11 +412,11 @@ def good_lengths():
     src = Source("lengths")
     for l in range(1, 8):  # every set that can be opened of 8 leaves
         for indices in combinations(range(8), l):
-            q = drawn_question(src, Sizes(3, 1, 1, 1, l, 1, 1), bytes(32), indices=list(indices))
+            q = drawn_question(src, Sizes(3, 1, 1, 1, l, 1, 1, l % 2), bytes(32), indices=list(indices))
             yield good_length("leaves %s" % (indices,), q)
     for h in range(1, 13):
         for l in sorted({min(l, 2**h - 1) for l in (1, 2, 3, 64)}):
-            s = Sizes(h, 64, 1, 1, l, 4, 8)
+            s = Sizes(h, 64 - h, 1, 1, l, 4, 8, h)
             spread = [s.leaves // l * b for b in range(l)]
             last = list(range(s.leaves - l, s.leaves))
             for label, indices in (("first", list(range(l))), ("last", last), ("spread", spread)):
@@ -324,11 +442,13 @@ def refused_lengths():
             yield length_call("%d bytes more [%s]" % (more, shown), question + question[:more], 6)
         for at in range(len(question)):
             yield length_call("byte %d changed [%s]" % (at, shown), spoil(question, at))
+        yield length_call("version 1 [%s]" % shown, version_1(question), 5)
+        yield length_call("without byte 14 [%s]" % shown, question[:14] + question[15:])
     for d in (case_p(), small_drafts()[4]):
         for count in range(1, len(QUESTION_STAGES) + 1):
             for chosen in combinations(QUESTION_STAGES, count):
                 faults, number = [stage for stage, _ in chosen], chosen[0][1]
-                for v in range(14 if count == 1 else 4):
+                for v in range(len(BAD_SIZES) if count == 1 else 4):
                     label = "faults: %s; variant %d [%s]" % (", ".join(faults), v, name(d.sizes))
                     yield length_call(label, faulty_question(d.parts()[0], faults, v), number)
 

@@ -14,13 +14,15 @@ from hashlib import shake_256
 from itertools import combinations
 
 import smallwood as S
-from calls import commit_calls, length_calls, open_calls
+from calls import blinded_sizes, commit_calls, length_calls, open_calls, version_1
 from drafts import (
     LAST_WORD, Lent, Source, allowed, ask, border_sizes, case_p, committed, ends, honest, large_drafts,
     leaf_sizes, lend, name, prefill, product, random_commitment, simulated, small_drafts, small_proofs, true_values,
     vanishing,
 )  # fmt: skip
-from faults import STAGES, faulty, levels_with, place_faults, spoil, wrong_batchings, wrong_strings
+from faults import (
+    BAD_SIZES, STAGES, faulty, levels_with, place_faults, spoil, wrong_batchings, wrong_lines, wrong_strings,
+)  # fmt: skip
 from proofs import PROOF_GROUPS, prove_calls
 from smallwood import Q, Sizes
 
@@ -71,6 +73,12 @@ EXTREMES = (
     Sizes(12, 1, 1, 1, 1, 1, 1),
     Sizes(12, 1, 1, 256, 64, 1, 1),
     Sizes(12, 64, 256, 1, 64, 4, 8),
+    Sizes(1, 1, 1, 1, 1, 1, 8, 1),
+    Sizes(2, 32, 1, 3, 1, 4, 1, 16),
+    Sizes(6, 48, 63, 1, 1, 4, 8, 16),
+    Sizes(8, 2, 192, 1, 64, 3, 2, 2),
+    Sizes(8, 1, 5, 51, 1, 1, 8, 1),
+    Sizes(9, 16, 1, 256, 64, 4, 2, 16),
 )
 
 
@@ -146,7 +154,7 @@ def fault_cases():
     stages = [stage for stage, _ in STAGES]
     for n, d in enumerate(small_drafts()):
         for stage in stages:
-            for v in range(14 if n in (0, 5) else 4):
+            for v in range(len(BAD_SIZES) if n in (0, 5) else 4):
                 yield fault_case(d, [stage], v)
         for v, pair in enumerate(combinations(stages, 2)):
             yield fault_case(d, pair, v + n)
@@ -167,7 +175,7 @@ def second_encodings():
     src = Source("second encoding")
     for word in (0, 1):
         label = "second encoding: word %d, " % word
-        lent = Lent([word] * 2, [word] * 2, [2, 0, 0, 0, 1, 0, 0, 0], src.bytes(256))
+        lent = Lent([word] * 2, [word] * 2, [], [2, 0, 0, 0, 1, 0, 0, 0], src.bytes(256))
         c = committed(s, lent)
         d = honest(c, ask(src, c, challenges=[1, 0], points=[0, 1], indices=[2, 7]))
         yield draft_case(label + "none", d, 0)
@@ -308,6 +316,61 @@ def sibling_cases():
         yield draft_case("sibling: %s, root listed" % indices, d, 7)
 
 
+def blinded_cases():
+    """Blinding rows at their borders; replies with mistakes in the columns; headers with another beta."""
+    for s in blinded_sizes():
+        src, c = Source("blinds " + name(s)), random_commitment(s)
+        yield honest_case("blinds", c, ask(src, c))
+        yield honest_case("blinds", c, ask(src, c, points=[0, 10], challenges=[0, Q - 1]))
+    s = Sizes(3, 2, 2, 1, 2, 1, 2, 1)
+    src = Source("small instance")
+    c = committed(s, Lent([1, 2, 3, 4, 5], src.elements(6), [7], src.elements(4), src.bytes(256)))
+    d = honest(c, ask(src, c, points=[10, 0]))
+    assert [answer[:2] for answer in d.answers] == [[721, 536], [1, Q - 4]] and d.values() == [54321, 1]
+    yield draft_case("blinds: 1 to 5 with blind 7", d, 0)
+    for s in (
+        Sizes(4, 3, 3, 2, 2, 2, 2, 2),
+        Sizes(4, 2, 2, 3, 4, 1, 3, 1),
+        Sizes(4, 4, 1, 3, 2, 2, 1, 4),
+        Sizes(3, 3, 2, 2, 2, 1, 1, 3),
+    ):
+        src, c = Source("wrong lines " + name(s)), random_commitment(s)
+        q = ask(src, c)
+        d = honest(c, q)
+        for label, lines in wrong_lines(c):
+            batchings = [S.batching_of(s, lines, S.mask_of(s, c.lent.masks, k), q.challenges[k]) for k in range(s.eta)]
+            answers = [S.answer_of(lines, z) for z in q.points]
+            for part, words, number in (("batchings", batchings, 9), ("answers", answers, 10)):
+                e = d.copy()
+                same = getattr(e, part) == words
+                setattr(e, part, words)
+                yield draft_case("blinds: %s, in the %s" % (label, part), e, 0 if same else number)
+        for beta in range(20):
+            e = d.copy()
+            e.sizes = s._replace(beta=beta)
+            number = 0 if beta == s.beta else 7 if allowed(e.sizes) else 1
+            yield check_case("blinds: beta %d for %d [%s]" % (beta, s.beta, name(s)), e.question(), d.reply(), number)
+        for beta in range(s.rows):  # the same rows, of which others are blinding: the powers z^(t mu) are others
+            e = d.copy()
+            e.sizes = s._replace(mu=s.rows - beta, beta=beta)
+            if allowed(e.sizes):
+                yield draft_case("blinds: others of the rows blinding", e, 0)
+
+
+def version_cases():
+    """Questions of version 1, and headers without their last byte."""
+    for d in small_drafts():
+        question, reply, shown = d.question(), d.reply(), name(d.sizes)
+        older = version_1(question)
+        yield check_case("version 1 [%s]" % shown, older, reply, 5)
+        yield check_case("version 1, 15 bytes of header [%s]" % shown, question[:3] + b"\1\0" + question[5:], reply, 5)
+        yield check_case("version 1, header alone [%s]" % shown, older[:14], reply, 6)
+        yield check_case("version 1, header of 15 bytes alone [%s]" % shown, older[:14] + b"\0", reply, 5)
+        yield check_case("version 2, without byte 14 [%s]" % shown, question[:14] + question[15:], reply)
+        yield check_case("version 2, 14 bytes [%s]" % shown, question[:14], reply, 6)
+        yield check_case("version 2, 15 bytes [%s]" % shown, question[:15], reply, 6)
+
+
 def forged_cases():
     yield from second_encodings()
     yield from unseen_cases()
@@ -317,6 +380,7 @@ def forged_cases():
         Sizes(4, 5, 1, 3, 4, 3, 2),
         Sizes(3, 4, 4, 1, 4, 4, 1),
         Sizes(5, 9, 2, 2, 3, 2, 4),
+        Sizes(4, 3, 3, 2, 4, 3, 2, 2),
     ):
         src, c = Source("forged " + name(s)), random_commitment(s)
         q = ask(src, c)
@@ -339,7 +403,7 @@ def length_cases():
     for n, d in enumerate(small_drafts()):
         question, reply, s = d.question(), d.reply(), d.sizes
         full, whole = len(question), len(reply)
-        for length in range(2 * full) if n == 0 else around([0, 14, 46, full]):
+        for length in range(2 * full) if n == 0 else around([0, 15, 47, full]):
             label = "length: question of %d bytes [%s]" % (length, name(s))
             yield check_case(label, (question * 2)[:length], reply, 6 if length != full else 0)
         records = [0, 4 * s.width * s.eta, 4 * s.width * (s.eta + s.m), whole - 32 * len(d.nodes), whole]
@@ -373,7 +437,7 @@ def element_cases():
         def with_word(data, at, word):
             return data[:at] + S.to_bytes([word]) + data[at + 4 :]
 
-        for at in range(46, 46 + 4 * (s.eta + s.m), 4):
+        for at in range(47, 47 + 4 * (s.eta + s.m), 4):
             for word in (Q - 1, Q, LAST_WORD):
                 label = "element: %d at byte %d of question [%s]" % (word, at, name(s))
                 yield check_case(label, with_word(question, at, word), reply, None if word < Q else 3)
@@ -442,11 +506,12 @@ def mark_cases():
                 changed = question[:at] + bytes([byte]) + question[at + 1 :]
                 label = "mark: byte %d is %d [%s]" % (at, byte, name(d.sizes))
                 yield check_case(label, changed, reply, 5 if changed != question else 0)
-        for start in (b"QWS\1\0", b"SWQ\0\1", b"SWF\1\0", b"SWQ\0\0", b"WQS\1\0"):
-            for end in (question[5:], b"", bytes(8), bytes(9), b"\xff" * 9):
+        for start in (b"QWS\2\0", b"SWQ\0\2", b"SWF\2\0", b"SWQ\0\0", b"WQS\2\0", b"SWQ\1\0", b"SWQ\3\0"):
+            ends_with = question[5:], b"", bytes(9), bytes(10), b"\xff" * 10, question[5:14], version_1(question)[5:]
+            for end in ends_with:
                 shown = start.hex(), len(end), end[:2].hex(), name(d.sizes)
                 label = "mark: %s before %d bytes %s [%s]" % shown
-                yield check_case(label, start + end, reply, 5 if len(end) >= 9 else 6)
+                yield check_case(label, start + end, reply, 5 if len(end) >= 10 else 6)
 
 
 def buffer_cases():
@@ -501,6 +566,8 @@ CHECK_GROUPS = (
     place_cases,
     fault_cases,
     forged_cases,
+    blinded_cases,
+    version_cases,
     length_cases,
     size_cases,
     element_cases,
@@ -532,7 +599,7 @@ def program_borders():
     data = case_p().question() + case_p().reply()
     yield program_case("program: empty", b"", b"verdict 6\n")
     for length in range(len(data) + 3):
-        output = b"verdict 6\n" if length < 56 else b"verdict 7\n" if length != 144 else b"verdict 0\n1 1 5\n"
+        output = b"verdict 6\n" if length < 57 else b"verdict 7\n" if length != 145 else b"verdict 0\n1 1 5\n"
         yield program_case("program: case P, %d bytes" % length, (data + bytes(3))[:length], output)
     for d in [case_p()] + large_drafts():
         data = d.question() + d.reply()
@@ -540,8 +607,8 @@ def program_borders():
             padded = data + bytes(length - len(data))
             label = "program: padded to %d bytes [%s]" % (length, name(d.sizes))
             yield program_case(label, padded, b"verdict 7\n")
-    for length in (13, 14, 65536, 65537, 200000):
-        output = b"verdict 6\n" if length < 14 else b"verdict 5\n"
+    for length in (13, 14, 15, 65536, 65537, 200000):
+        output = b"verdict 6\n" if length < 15 else b"verdict 5\n"
         yield program_case("program: %d zero bytes" % length, bytes(length), output)
 
 

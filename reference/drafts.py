@@ -59,7 +59,13 @@ class Source:
         columns = min(width - l, 256)
         w = self.between(1, columns)
         nu = self.between(1, columns // w)
-        return Sizes(h, self.between(1, max_mu), nu, w, l, self.between(1, 4), self.between(1, 8))
+        s = Sizes(h, self.between(1, max_mu), nu, w, l, self.between(1, 4), self.between(1, 8))
+        return s._replace(beta=self.beta(s.mu))
+
+    def beta(self, mu):
+        """A number of blinding rows for so many others: none, one, most, any."""
+        most = min(mu, 16, 64 - mu)
+        return self.pick((0, min(1, most), most, self.between(0, most)))
 
 
 def prefill(count):
@@ -73,25 +79,33 @@ def ends(count):
 
 
 def name(s):
-    return "h%d mu%d nu%d w%d l%d eta%d m%d" % s
+    """The sizes in short; beta stands there only where there are blinding rows."""
+    return "h%d mu%d nu%d w%d l%d eta%d m%d" % s[:7] + (" beta%d" % s.beta if s.beta else "")
 
 
 def leaf_sizes():
-    """A leaf of every number of values, and so a leaf's string of every length: 43 to 307 bytes."""
+    """A leaf of every number of values, and so a leaf's string of every length: 43 to 307 bytes.
+
+    Each once without blinding rows, and once with as many of the rows blinding as can be.
+    """
     for values in range(2, 69):
         eta = min(4, values - 1)
-        yield Sizes(2, values - eta, 1, 1, 1, eta, 1)
+        rows = values - eta
+        beta = min(16, rows // 2)
+        yield Sizes(2, rows, 1, 1, 1, eta, 1)
+        if beta > 0:
+            yield Sizes(2, rows - beta, 2, 1, 1, eta, 1, beta)
 
 
 # ---- Commitments, drafts of a question with its reply -----------------------------------------------
 
-Lent = namedtuple("Lent", "coefficients tails masks nonces")
+Lent = namedtuple("Lent", "coefficients tails blinds masks nonces")
 Commitment = namedtuple("Commitment", "sizes lent table tree")
 
 
 def lend(src, s, fill):
-    words = fill(s.w * s.mu * s.nu), fill(s.mu * s.l), fill(s.eta * s.width)
-    return Lent(*words, src.bytes(32 * s.leaves))
+    counts = s.w * s.each, s.rows * s.l, s.w * s.blinds_each, s.eta * s.width
+    return Lent(*map(fill, counts), src.bytes(32 * s.leaves))
 
 
 def outputs(s):
@@ -100,7 +114,7 @@ def outputs(s):
 
 
 def committed(s, lent):
-    number, table, tree = S.commit(*s[:6], *lent, *outputs(s))
+    number, table, tree = S.commit(*s.of_commitment, *lent, *outputs(s))
     assert number == 0, s
     return Commitment(s, lent, table, tree)
 
@@ -195,7 +209,7 @@ class Draft:
         self.change_value(b, row, difference)
         for k in repetitions:
             hidden = -pow(self.challenges[k], row + 1, Q) * difference
-            self.change_value(b, self.sizes.mu + k, hidden)
+            self.change_value(b, self.sizes.rows + k, hidden)
         return self
 
     def others(self, b):
@@ -241,6 +255,11 @@ def proof_question(src, c, m=None, points=None):
     return ProofQuestion(s, c.tree[-32:], points or src.elements(s.m))
 
 
+def answers_of(c, s, challenges, points):
+    """Batching and evaluation answers of a commitment; s may have another m."""
+    return S.answers_to(s, challenges, points, *c.lent[:-1])
+
+
 def proof_buffer(s):
     """The buffer in which the prover writes."""
     return prefill(S.proof_bound(s))
@@ -251,10 +270,7 @@ class ProofDraft:
 
     def __init__(self, c, p, parts=None):
         self.commitment, self.question_parts, self.sizes = c, p, p.sizes
-        lent = c.lent
-        batchings, answers = parts or S.answers_to(
-            p.sizes, S.draw_challenges(p), p.points, lent.coefficients, lent.tails, lent.masks
-        )
+        batchings, answers = parts or answers_of(c, p.sizes, S.draw_challenges(p), p.points)
         self.batchings, self.answers = [list(x) for x in batchings], [list(x) for x in answers]
 
     def copy(self):
@@ -320,7 +336,7 @@ def small_proofs():
 
 def true_values(c, q):
     """The polynomials' values, straight from the coefficients."""
-    each = c.sizes.mu * c.sizes.nu
+    each = c.sizes.each
     return [
         power_sum(c.lent.coefficients[i * each : (i + 1) * each], z)
         for z in q.points
@@ -341,10 +357,10 @@ def simulated(src, s, **given):
         return add(product(zero, src.elements(s.columns)), S.interpolate(q.indices, values))
 
     def opened(k, values):
-        return values[s.mu + k] + q.challenges[k] * power_sum(values[: s.mu], q.challenges[k])
+        return values[s.rows + k] + q.challenges[k] * power_sum(values[: s.rows], q.challenges[k])
 
     batchings = [through([opened(k, v) for v, _ in leaves]) for k in range(s.eta)]
-    polynomials = [through([power_sum(v[: s.mu], z) for v, _ in leaves]) for z in q.points]
+    polynomials = [through([power_sum(v[: s.rows], z) for v, _ in leaves]) for z in q.points]
     answers = [[S.evaluate(t, x) for x in S.grid_points(s)] for t in polynomials]
     nodes = [src.bytes(32) for _ in S.missing_nodes(s.h, q.indices)]
     return Draft(q, Reply(batchings, answers, leaves, nodes)).rehash()
@@ -352,7 +368,7 @@ def simulated(src, s, **given):
 
 @lru_cache(maxsize=None)
 def case_p_commitment():
-    return committed(Sizes(1, 1, 1, 1, 1, 1, 1), Lent([5], [9], [7, 2], bytes(64)))
+    return committed(Sizes(1, 1, 1, 1, 1, 1, 1), Lent([5], [9], [], [7, 2], bytes(64)))
 
 
 @lru_cache(maxsize=None)
@@ -363,16 +379,16 @@ def case_p():
 
 @lru_cache(maxsize=None)
 def small_drafts():
-    """Case P and honest drafts of different shapes; eta and m differ in most."""
+    """Case P and honest drafts of different shapes; eta and m differ in most, every second one has blinding rows."""
     drafts = [case_p()]
     for s in (
-        Sizes(1, 3, 1, 1, 1, 4, 2),
+        Sizes(1, 3, 1, 1, 1, 4, 2, 2),
         Sizes(2, 1, 1, 3, 1, 2, 1),
-        Sizes(3, 2, 2, 1, 4, 1, 3),
+        Sizes(3, 2, 2, 1, 4, 1, 3, 1),
         Sizes(3, 2, 1, 2, 3, 3, 2),
-        Sizes(4, 5, 3, 2, 5, 2, 8),
+        Sizes(4, 5, 3, 2, 5, 2, 8, 3),
         Sizes(4, 7, 2, 3, 10, 4, 2),
-        Sizes(5, 12, 4, 4, 6, 3, 1),
+        Sizes(5, 12, 4, 4, 6, 3, 1, 12),
     ):
         c = random_commitment(s)
         drafts.append(honest(c, ask(Source("small " + name(s)), c)))
@@ -384,19 +400,20 @@ def large_drafts():
     """Simulated drafts at the far ends of the sizes."""
     return [
         simulated(Source("large " + name(s)), s)
-        for s in (Sizes(12, 64, 1, 256, 64, 4, 8), Sizes(12, 64, 256, 1, 64, 4, 8))
+        for s in (Sizes(12, 64, 1, 256, 64, 4, 8), Sizes(12, 48, 256, 1, 64, 4, 8, 16))
     ]
 
 
 # ---- Sizes at their borders -------------------------------------------------------------------------
 
-RANGES = dict(h=(1, 12), mu=(1, 64), nu=(1, 256), w=(1, 256), l=(1, 64), eta=(1, 4), m=(1, 8))
+RANGES = dict(h=(1, 12), mu=(1, 64), nu=(1, 256), w=(1, 256), l=(1, 64), eta=(1, 4), m=(1, 8), beta=(0, 16))
 
 
 def allowed(s):
     """Test 1, written a second time."""
     single = all(low <= getattr(s, field) <= high for field, (low, high) in RANGES.items())
-    return single and s.w * s.nu <= 256 and s.w * s.nu + s.l <= 2**s.h
+    blinding = s.beta <= s.mu <= 64 - s.beta
+    return single and blinding and s.w * s.nu <= 256 and s.w * s.nu + s.l <= 2**s.h
 
 
 def border_sizes():
@@ -405,8 +422,13 @@ def border_sizes():
     for field, (low, high) in RANGES.items():
         top = 65535 if field in ("nu", "w") else 255
         for number in sorted({0, low, low + 1, high - 1, high, high + 1, 2 * high, 128, top - 1, top}):
-            yield base._replace(**{field: number})
-            yield Sizes(9, 2, 2, 2, 3, 2, 2)._replace(**{field: number})
+            for s in (base, Sizes(9, 2, 2, 2, 3, 2, 2), Sizes(9, 20, 2, 2, 3, 2, 2, 3)):
+                yield s._replace(**{field: number})
+    for beta in (1, 2, 15, 16, 17, 32, 255):
+        for mu in (beta - 1, beta, beta + 1, 63 - beta, 64 - beta, 65 - beta, 64, 256 - beta):
+            if 0 <= mu <= 255:  # at most mu, and 64 with it; a sum of 256 is 0 in 8 bits
+                yield base._replace(mu=mu, beta=beta)
+                yield base._replace(mu=mu, beta=beta, nu=3, w=2)
     for w, nu in (
         (2, 128), (128, 2), (3, 85), (16, 16), (15, 17),  # taken
         (2, 129), (129, 2), (3, 86), (86, 3), (16, 17), (17, 16), (256, 2), (2, 256), (256, 255),

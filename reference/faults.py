@@ -38,7 +38,7 @@ def evaluation_faults(src, d):
         for b in ends(s.l):
             e = d.copy().shift_answer(p, product([src.nonzero()], d.others(b)))
             yield "answer %d wrong at opened leaf %d only" % (p, b), e, 10
-        if s.mu > 1:
+        if s.rows > 1:
             e = d.copy()
             e.points[p] = (e.points[p] + 1) % Q
             yield "point %d" % p, e, 10
@@ -47,11 +47,11 @@ def evaluation_faults(src, d):
 def leaf_faults(src, d):
     s = d.sizes
     for b in ends(s.l):
-        for v in sorted({0, s.mu - 1, s.mu, s.record - 1}):
+        for v in sorted({0, s.mu - 1, s.mu, s.rows - 1, s.rows, s.record - 1}):
             e = d.copy().change_value(b, v, src.nonzero())
             yield "value %d of opened leaf %d" % (v, b), e, 8
             yield "value %d of opened leaf %d, rehashed" % (v, b), e.copy().rehash(), 9
-        for j in ends(s.mu):
+        for j in sorted({0, s.mu - 1, s.rows - 1}):
             change = src.nonzero()
             e = d.copy().compensate(b, j, change, range(s.eta)).rehash()
             yield "row %d of opened leaf %d, masks to fit" % (j, b), e, 10
@@ -60,7 +60,7 @@ def leaf_faults(src, d):
                 e = d.copy().compensate(b, j, change, fitted).rehash()
                 yield "row %d of opened leaf %d, seen in repetition %d only" % (j, b, k), e, 9
         different = set(d.points[:-1])
-        if d.points[-1] not in different and len(different) < s.mu:
+        if d.points[-1] not in different and len(different) < s.rows:
             e = d.copy()  # row differences whose power sum vanishes at all points but the last
             for j, change in enumerate(vanishing(sorted(different))):
                 e.compensate(b, j, change, range(s.eta))
@@ -86,7 +86,7 @@ def tree_faults(d):
 
 
 def order_faults(d):
-    answers = 10 if d.sizes.mu > 1 else 0  # one row: the power sum is the same at every point
+    answers = 10 if d.sizes.rows > 1 else 0  # one row: the power sum is the same at every point
     for part, number in (("batchings", 9), ("answers", answers), ("leaves", 8), ("nodes", 8)):
         e = d.copy()
         sequence = getattr(e, part)
@@ -109,7 +109,7 @@ def place_faults(src, d):
 
 # The check's tests in their order, each with its number.
 STAGES = (
-    ("under 14 bytes", 6),
+    ("under 15 bytes", 6),
     ("mark", 5),
     ("sizes", 1),
     ("question length", 6),
@@ -129,9 +129,10 @@ QUESTION_STAGES = STAGES[:6]  # in common with the opener and the reply's length
 BAD_SIZES = (
     (5, b"\0"), (5, b"\x0d"), (6, b"\0"), (6, b"\x41"), (7, b"\0\0"), (8, b"\2"), (9, b"\0\0"),
     (10, b"\2"), (11, b"\0"), (11, b"\x41"), (12, b"\0"), (12, b"\5"), (13, b"\0"), (13, b"\x09"),
+    (14, b"\x11"), (14, b"\xff"),
 )  # fmt: skip
 
-BAD_MARKS = (b"SWF\1\0", b"swq\1\0", b"SWQ\0\1", b"SWQ\2\0", b"\0\0\0\1\0", b"SWQ\1\1")
+BAD_MARKS = (b"SWF\2\0", b"swq\2\0", b"SWQ\0\2", b"SWQ\1\0", b"SWQ\3\0", b"\0\0\0\2\0", b"SWQ\2\1")
 
 
 def turn(choices, v):
@@ -176,14 +177,14 @@ def faulty_bytes(question, faults, v):
     """A question's bytes with those of the faults that are not in its elements or indices."""
     if "question length" in faults:
         longer, shorter = [question + bytes(n) for n in (1, 4)], [question[:-n] for n in (1, 2)]
-        question = turn(longer + shorter + [question[:14]], v)
+        question = turn(longer + shorter + [question[:15]], v)
     if "sizes" in faults:
         at, part = turn(BAD_SIZES, v)
         question = question[:at] + part + question[at + len(part) :]
     if "mark" in faults:
         question = turn(BAD_MARKS, v) + question[5:]
-    if "under 14 bytes" in faults:
-        question = question[: turn((13, 0, 5, 1), v)]
+    if "under 15 bytes" in faults:
+        question = question[: turn((14, 0, 5, 1), v)]
     return question
 
 
@@ -191,7 +192,7 @@ def faulty_bytes(question, faults, v):
 
 # The tests of a proof's question in their order, each with its number.
 PROOF_QUESTION_STAGES = (
-    ("under 14 bytes", 6),
+    ("under 15 bytes", 6),
     ("mark", 5),
     ("sizes", 1),
     ("kappa", 1),
@@ -217,7 +218,7 @@ BAD_KAPPAS = (17, 18, 24, 32, 255, 256, 65536, 2**31, LAST_WORD)
 def faulty_proof_question(question, kappa, faults, v):
     """Bytes of a proof's question, and kappa, with these faults."""
     if "question element" in faults:
-        at = turn((46, len(question) - 4), v)
+        at = turn((47, len(question) - 4), v)
         question = question[:at] + S.to_bytes([turn((Q, LAST_WORD), v // 2)]) + question[at + 4 :]
     return faulty_bytes(question, faults, v), turn(BAD_KAPPAS, v) if "kappa" in faults else kappa
 
@@ -300,10 +301,50 @@ def levels_with(c, leaf, node):
     return levels
 
 
+def wrong_lines(c):
+    """(label, lines that take the grid points) by mistakes in the columns; not all differ from the right ones."""
+    s, blinds = c.sizes, c.lent.blinds
+    right = S.lines_of(s, *c.lent[:3])
+
+    def changed(entry):
+        """The lines with entry(line, i, t, j) in place of what stands in row j, column t of polynomial i."""
+        lines = [list(line) for line in right]
+        for j, line in enumerate(lines):
+            for i in range(s.w):
+                for t in range(s.nu):
+                    line[i * s.nu + t] = entry(line[i * s.nu + t], i, t, j) % Q
+        return lines
+
+    def blind(i, t, b):
+        """Blind b of column t of polynomial i; none before the first column or in the last."""
+        if not (0 <= t < s.nu - 1 and 0 <= b < s.beta):
+            return 0
+        return blinds[i % s.w * s.blinds_each + t * s.beta + b]
+
+    def raised(entry, i, t, j):
+        return entry + (blind(i, t - 1, j) if j < s.mu else 0)
+
+    def without_top(entry, i, t, j):
+        return 0 if j >= s.mu and t == s.nu - 1 else entry
+
+    def lowered_by(other):
+        return lambda entry, i, t, j: raised(entry, i, t, j) - (other(i, t, j) if j < s.mu else 0)
+
+    yield "blinds not taken off", changed(raised)
+    yield "blinds taken off their own column", changed(lowered_by(lambda i, t, j: blind(i, t, j)))
+    yield "blinds taken off twice", changed(lowered_by(lambda i, t, j: 2 * blind(i, t - 1, j)))
+    yield "blinds added", changed(lowered_by(lambda i, t, j: -blind(i, t - 1, j)))
+    yield "blinds of the next polynomial", changed(lowered_by(lambda i, t, j: blind(i + 1, t - 1, j)))
+    yield "blinds taken off in reverse", changed(lowered_by(lambda i, t, j: blind(i, t - 1, s.beta - 1 - j)))
+    yield "blinds taken off the last rows", changed(lowered_by(lambda i, t, j: blind(i, t - 1, j - s.mu + s.beta)))
+    yield "no top coefficients", changed(without_top)
+    yield "no blinding rows", right[: s.mu]
+
+
 def wrong_batchings(c, q):
     """(label, for each repetition an R) by mistakes in the batching formula."""
     s = c.sizes
-    lines = S.lines_of(s, c.lent.coefficients, c.lent.tails)
+    lines = S.lines_of(s, c.lent.coefficients, c.lent.tails, c.lent.blinds)
     rows = [S.interpolate(S.grid_points(s), line) for line in lines]
     masks = [S.mask_of(s, c.lent.masks, k) for k in range(s.eta)]
 
@@ -314,13 +355,14 @@ def wrong_batchings(c, q):
         return total
 
     def powers(k, first):
-        return [pow(q.challenges[k], first + j, Q) for j in range(s.mu)]
+        return [pow(q.challenges[k], first + j, Q) for j in range(s.rows)]
 
     every = range(s.eta)
     yield "batching from power 0", [batch(masks[k], powers(k, 0)) for k in every]
     yield "batching from power 2", [batch(masks[k], powers(k, 2)) for k in every]
     yield "batching without mask", [batch([0] * s.width, powers(k, 1)) for k in every]
     yield "batching without the last row", [batch(masks[k], powers(k, 1)[:-1]) for k in every]
+    yield "batching without the blinding rows", [batch(masks[k], powers(k, 1)[: s.mu]) for k in every]
     yield "batching with rows reversed", [batch(masks[k], powers(k, 1)[::-1]) for k in every]
     yield "batching with mask 0 everywhere", [batch(masks[0], powers(k, 1)) for k in every]
     yield "batching with challenge 0 everywhere", [batch(masks[k], powers(0, 1)) for k in every]

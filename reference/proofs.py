@@ -8,20 +8,21 @@ from hashlib import shake_256
 from itertools import combinations, permutations, product
 
 import smallwood as S
-from calls import WORDS, off_by, with_word
+from calls import COMMIT_SIZES, WORDS, blinded_sizes, mistaken_lengths, off_by, version_1, with_word
 from drafts import (
-    LAST_WORD, Lent, ProofDraft, Source, add, allowed, border_sizes, case_p_commitment, committed, ends, leading_zeros,
-    lend, name, prefill, proof_buffer, proof_question, random_commitment, small_proofs, true_values, vanishing,
+    LAST_WORD, Lent, ProofDraft, Source, add, allowed, answers_of, border_sizes, case_p_commitment, committed, ends,
+    leading_zeros, lend, name, prefill, proof_buffer, proof_question, random_commitment, small_proofs, true_values,
+    vanishing,
 )  # fmt: skip
 from faults import (
-    BAD_KAPPAS, PROOF_QUESTION_STAGES, PROOF_STAGES, faulty_proof, faulty_proof_question, spoil, turn,
+    BAD_KAPPAS, BAD_SIZES, PROOF_QUESTION_STAGES, PROOF_STAGES, faulty_proof, faulty_proof_question, spoil, turn,
 )  # fmt: skip
 from smallwood import Q, Question, Sizes
 
 # Proving: what is lent, and the proof's buffer before and after; length is None after a refusal.
 ProveCall = namedtuple(
     "ProveCall",
-    "label question kappa limit coefficients tails masks nonces table tree buffer number length buffer_after",
+    "label question kappa limit coefficients tails blinds masks nonces table tree buffer number length buffer_after",
 )
 
 # Checking a proof. The value buffer is given in bytes; the entry on words is meant too whenever 4 divides its length.
@@ -34,7 +35,8 @@ EXTREMES = (
     Sizes(9, 1, 256, 1, 64, 1, 8),
     Sizes(9, 1, 1, 256, 64, 4, 2),
     Sizes(12, 1, 1, 1, 1, 1, 1),
-    Sizes(12, 64, 256, 1, 64, 4, 8),
+    Sizes(12, 48, 256, 1, 64, 4, 8, 16),
+    Sizes(9, 1, 256, 1, 64, 1, 8, 1),
 )
 
 
@@ -77,7 +79,7 @@ def draw_drafts():
     """Strings of every length at which a draw's counter can end in its block, and every number of drawn words."""
     sizes = [Sizes(6, 1, width - 1, 1, 1, 2, 1) for width in range(2, 36)]
     before = {(1 + S.proof_question_bytes(s) + S.answer_bytes(s)) % 136 for s in sizes}
-    assert before == set(range(3, 136, 4))
+    assert before == set(range(0, 136, 4))
     sizes += [Sizes(7, 1, 1, 1, l, 1, 1) for l in range(1, 65)]
     for s in sizes:
         c = random_commitment(s)
@@ -133,7 +135,7 @@ def kappa_proofs():
         yield proof_case("kappa too great", question, kappa, proof, 1)
         yield proof_case("kappa too great, and a length", question[:-1], kappa, proof, 1)
         yield proof_case("kappa too great, and a mark", b"swq" + question[3:], kappa, proof, 5)
-        yield proof_case("kappa too great, and 13 bytes", question[:13], kappa, proof, 6)
+        yield proof_case("kappa too great, and 14 bytes", question[:14], kappa, proof, 6)
         yield proof_case("kappa too great, all else empty", question, kappa, b"", 1, None, 0)
 
 
@@ -230,7 +232,7 @@ def answer_proofs():
                 seen = number == 10 or "coefficient 0" in label or any(e.indices(counter))
                 yield made_case("altered " + label, e, kappa, counter, number if seen else 0)
             yield made_case("altered " + label, e, 3, next(e.others(3)), 12)
-        for part, number in (("batchings", 9), ("answers", 10 if d.sizes.mu > 1 else 0)):
+        for part, number in (("batchings", 9), ("answers", 10 if d.sizes.rows > 1 else 0)):
             e = d.copy()
             getattr(e, part).reverse()
             if getattr(e, part) != getattr(d, part):
@@ -272,9 +274,9 @@ def wrong_draws(d):
     yield "no batching answers", string(answered=answers[len(batchings) :]), right
     yield "no evaluation answers", string(answered=batchings), right
     yield "evaluation answers first", string(answered=answers[len(batchings) :] + batchings), right
-    yield "no points", string(asked=question[:46]), right
-    yield "no header", string(asked=question[14:]), right
-    yield "no root", string(asked=question[:14] + question[46:]), right
+    yield "no points", string(asked=question[:47]), right
+    yield "no header", string(asked=question[15:]), right
+    yield "no root", string(asked=question[:15] + question[47:]), right
     yield "the conversation's question", string(asked=S.write_question(d.opened(0).parts()[0])), right
     yield "words from byte 0", string(), lambda draw: S.choose(s.leaves, S.to_long_words(draw[: 8 * s.l]))
     yield "words from byte 8", string(), lambda draw: S.choose(s.leaves, S.to_long_words(draw[8 : 8 + 8 * s.l]))
@@ -302,8 +304,7 @@ def mistaken_proofs():
             assert case.number in (7, 8, 12), case
             yield case
         for label, challenges in wrong_challenges(p):
-            parts = S.answers_to(s, challenges, p.points, c.lent.coefficients, c.lent.tails, c.lent.masks)
-            e = ProofDraft(c, p, parts)
+            e = ProofDraft(c, p, answers_of(c, s, challenges, p.points))
             yield made_case("mistaken: " + label, e, 2, e.least(2), 9)
         counter = d.least(2)
         e = d.opened(counter)
@@ -327,7 +328,7 @@ def wrong_challenges(p):
     yield "challenges after first byte 3", words(b"\x03" + head, 0, eta, 8)
     yield "challenges with points", words(b"\x02" + head + S.to_bytes(p.points), 0, eta, 8)
     yield "challenges without header", words(b"\x02" + p.root, 0, eta, 8)
-    yield "challenges without root", words(b"\x02" + head[:14], 0, eta, 8)
+    yield "challenges without root", words(b"\x02" + head[:15], 0, eta, 8)
     yield "challenges of 4 bytes", words(b"\x02" + head, 0, eta, 4)
     yield "challenges from the second word on", words(b"\x02" + head, 8, eta, 8)
     yield "one challenge plus 1", [(x + (k == eta - 1)) % Q for k, x in enumerate(S.draw_challenges(p))]
@@ -338,7 +339,7 @@ def wrong_challenges(p):
 
 def proof_records(s, length):
     """(name, first byte, byte after the last) of what a proof of this length is made of."""
-    answer, value = 4 * s.width, 4 * s.mu
+    answer, value = 4 * s.width, 4 * s.rows
     batchings, answers = 4 + s.eta * answer, 4 + S.answer_bytes(s)
     record = 4 * s.record + 32
     yield "counter", 0, 4
@@ -410,7 +411,7 @@ def element_proofs():
                         if word == Q:
                             yield made_case(label, e, 2, next(e.others(2)), number)
         for b in ends(s.l):
-            for at in sorted({0, s.mu - 1, s.mu, s.record - 1}):
+            for at in sorted({0, s.mu - 1, s.mu, s.rows - 1, s.rows, s.record - 1}):
                 for word in (Q - 1, Q, LAST_WORD):
                     for kappa, counter in ((2, d.least(2)), (2, next(d.others(2)))):
                         e = d.opened(counter)
@@ -418,7 +419,7 @@ def element_proofs():
                         proof = S.write_counter(counter) + e.reply()
                         label = "leaf %d value %d is %d" % (b, at, word)
                         yield proof_case(label, d.question(), kappa, proof, None if word < Q else 3)
-        for at in range(46, 46 + 4 * s.m, 4):
+        for at in range(47, 47 + 4 * s.m, 4):
             for word in (Q, LAST_WORD):
                 question = d.question()[:at] + S.to_bytes([word]) + d.question()[at + 4 :]
                 yield proof_case("point at %d is %d" % (at, word), question, 0, d.proof(0), 3)
@@ -452,6 +453,8 @@ def length_proofs():
         yield proof_case("the reply without a counter", question, 0, d.opened(0).reply())
         yield proof_case("exchanged", proof, 0, question, 5)
         full = 4 * s.w * s.m
+        yield proof_case("version 1", version_1(question), 1, proof, 5)
+        yield proof_case("without byte 14", question[:14] + question[15:], 1, proof)
         for size in sorted({0, 1, full - 4, full - 1, full, full + 1, full + 4, 2 * full, 4 * s.w, 4 * s.m}):
             label, number = "%d of %d value bytes" % (size, full), 2 if size != full else 0
             yield proof_case(label, question, 1, proof, number, None, size)
@@ -597,8 +600,37 @@ def believed_proves(d):
     for part in WORDS:
         drawn = src.elements(len(getattr(c.lent, part)))
         yield call("other %s" % part, lent=c.lent._replace(**{part: drawn}))
-    exchanged = d.sizes._replace(w=d.sizes.nu, nu=d.sizes.w)
-    yield call("w and nu exchanged", question=S.write_proof_question(d.question_parts._replace(sizes=exchanged)))
+    if d.sizes.beta == 0:
+        exchanged = d.sizes._replace(w=d.sizes.nu, nu=d.sizes.w)
+        yield call("w and nu exchanged", question=S.write_proof_question(d.question_parts._replace(sizes=exchanged)))
+
+
+def blinded_proves():
+    """Blinding rows at their borders, other blinds than the committed ones, and questions that name another beta."""
+    for n, s in enumerate(blinded_sizes()):
+        c = random_commitment(s)
+        yield accepted_prove("blinds", ProofDraft(c, proof_question(Source("prove " + name(s)), c)), n % 6)
+    for s in (Sizes(4, 3, 3, 2, 2, 2, 2, 2), Sizes(3, 2, 1, 3, 2, 1, 1, 2), Sizes(3, 2, 2, 2, 2, 1, 2)):
+        c = random_commitment(s)
+        d = ProofDraft(c, proof_question(Source("prove blinds"), c))
+        question, buffer = d.question(), proof_buffer(s)
+        for at in range(len(c.lent.blinds)):
+            lent = c.lent._replace(blinds=with_word(c.lent.blinds, at, c.lent.blinds[at] ^ 1))
+            call = prove_call("blind %d another" % at, question, 2, LAST_WORD, lent, c.table, c.tree, buffer, 0)
+            proof = call.buffer_after[: call.length]
+            assert S.check_proof(question, 2, proof, [0] * (s.w * s.m))[0] == 9, at
+            yield call
+        for label, part, count in mistaken_lengths(s):
+            lent = c.lent._replace(**{part: [1] * count})
+            yield prove_call(label, question, 2, LAST_WORD, lent, c.table, c.tree, buffer, 2)
+        for beta in range(20):
+            t = s._replace(beta=beta)
+            other = S.write_proof_question(d.question_parts._replace(sizes=t))
+            number = 0 if beta == s.beta else 2 if allowed(t) else 1
+            room = buffer if number == 1 else proof_buffer(t)
+            label = "beta %d for %d" % (beta, s.beta)
+            yield prove_call(label, other, 2, LAST_WORD, c.lent, c.table, c.tree, room, number)
+        yield prove_call("version 1", version_1(question), 2, LAST_WORD, c.lent, c.table, c.tree, buffer, 5)
 
 
 def buffer_proves(d):
@@ -625,11 +657,11 @@ def faulty_prove(d, kappa, faults, v):
     if "lent root" in faults:
         slices["tree"] = spoil(c.tree, turn((-1, -32, -7), v))
     if "lent element" in faults:
-        part = turn(WORDS + ("table",), v)
-        slices[part] = with_word(slices[part], turn((0, -1), v // 4), turn((Q, LAST_WORD), v))
+        part = turn([part for part in WORDS + ("table",) if slices[part]], v)
+        slices[part] = with_word(slices[part], turn((0, -1), v // 5), turn((Q, LAST_WORD), v))
     if "lent length" in faults:
         part = turn(list(slices), v)
-        slices[part] = off_by(slices[part], turn((-1, 1), v // 7))
+        slices[part] = off_by(slices[part], turn((-1, 1), v // 8))
     *lent, table, tree, buffer = slices.values()
     limit = turn((0, least), v) if "no counter" in faults else least + 1 + v
     label = "faults: %s; variant %d" % (", ".join(faults), v)
@@ -641,7 +673,7 @@ def lent_proves(d):
     c, question, buffer = d.commitment, d.question(), proof_buffer(d.sizes)
     s = d.sizes
     for word, number in ((Q - 1, 0), (Q, 3), (LAST_WORD, 3)):
-        for part in WORDS:
+        for part in filter(lambda part: getattr(c.lent, part), WORDS):
             for at in (0, -1):
                 lent = c.lent._replace(**{part: with_word(getattr(c.lent, part), at, word)})
                 label = "%s %d is %d" % (part, at, word)
@@ -652,7 +684,7 @@ def lent_proves(d):
     for at in range(-32, 0):
         tree = spoil(c.tree, at)
         yield prove_call("root byte %d" % at, question, 0, 0, c.lent, c.table, tree, buffer, 8)
-    for field in ("h", "mu", "nu", "w", "l", "eta"):  # other sizes than the committed ones
+    for field in COMMIT_SIZES:  # other sizes than the committed ones
         t = s._replace(**{field: getattr(s, field) + 1})
         other = S.write_proof_question(d.question_parts._replace(sizes=t))
         label = "%s more by 1" % field
@@ -666,19 +698,22 @@ def lent_proves(d):
 def prove_calls():
     yield from accepted_proves()
     yield from limit_proves()
-    c = random_commitment(Sizes(3, 2, 2, 1, 3, 2, 2))
-    d = ProofDraft(c, proof_question(Source("prove faults"), c))
-    yield from believed_proves(d)
-    yield from lent_proves(d)
-    for e in (d, small_proofs()[0], small_proofs()[6]):
-        yield from buffer_proves(e)
+    yield from blinded_proves()
     stages = [stage for stage, _ in PROVE_STAGES]
-    for stage in stages:
-        for v in range(14):
-            yield faulty_prove(d, 4, [stage], v)
-    for v, pair in enumerate(combinations(stages, 2)):
-        for step in range(3):
-            yield faulty_prove(d, 4, pair, v + 5 * step)
+    for s in (Sizes(3, 2, 2, 1, 3, 2, 2), Sizes(4, 2, 2, 2, 3, 2, 2, 1)):
+        c = random_commitment(s)
+        d = ProofDraft(c, proof_question(Source("prove faults"), c))
+        yield from believed_proves(d)
+        yield from lent_proves(d)
+        yield from buffer_proves(d)
+        for stage in stages:
+            for v in range(len(BAD_SIZES)):
+                yield faulty_prove(d, 4, [stage], v)
+        for v, pair in enumerate(combinations(stages, 2)):
+            for step in range(3):
+                yield faulty_prove(d, 4, pair, v + 5 * step)
+    for e in (small_proofs()[0], small_proofs()[6]):
+        yield from buffer_proves(e)
     for e in (ProofDraft(case_p_commitment(), small_proofs()[0].question_parts), small_proofs()[5]):
         for v, pair in enumerate(permutations(stages, 2)):
             yield faulty_prove(e, 3, pair, v)

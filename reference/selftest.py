@@ -1,11 +1,13 @@
-"""Tests of smallwood.py against the paper's small instances and against naive definitions.
+"""Tests of smallwood.py against the papers' small instances and against naive definitions.
 
     python3 selftest.py
+    python3 selftest.py --before FILE     compares with smallwood.py as it was before the blinding rows, too
 
 Prints a summary; the exit status is 1 when a test fails.
 """
 
 import hashlib
+import importlib.util
 import random
 import sys
 from itertools import product
@@ -63,7 +65,7 @@ def counted_missing(h, indices):
 def naive_length(s, nodes):
     """Bytes of a reply with this many nodes, record by record."""
     answer = 4 * (s.w * s.nu + s.l)
-    return s.eta * answer + s.m * answer + s.l * (4 * s.mu + 4 * s.eta + 32) + 32 * nodes
+    return s.eta * answer + s.m * answer + s.l * (4 * (s.mu + s.beta) + 4 * s.eta + 32) + 32 * nodes
 
 
 def naive_node(digests, level, index):
@@ -73,21 +75,51 @@ def naive_node(digests, level, index):
     return S.shake_256(b"\x01" + children[0] + children[1]).digest(32)
 
 
-def naive_table(s, coefficients, tails, masks):
+def naive_entry(s, coefficients, blinds, i, t, j):
+    """What stands in row j, column t of polynomial i, case by case."""
+
+    def coefficient(e):
+        return coefficients[i * (s.mu * s.nu + s.beta) + e]
+
+    def blind(t, b):
+        return blinds[(i * (s.nu - 1) + t) * s.beta + b]
+
+    if j >= s.mu and t == s.nu - 1:
+        return coefficient(s.mu * s.nu + j - s.mu)
+    if j >= s.mu:
+        return blind(t, j - s.mu)
+    if t > 0 and j < s.beta:
+        return (coefficient(t * s.mu + j) - blind(t - 1, j)) % Q
+    return coefficient(t * s.mu + j)
+
+
+def naive_table(s, coefficients, tails, blinds, masks):
     """Leaf values straight from the three layers."""
     points = list(range(2**s.h, 2**s.h + s.w * s.nu + s.l))
     table = []
     for leaf in range(2**s.h):
-        for j in range(s.mu):
-            row = [0] * (s.w * s.nu)
-            for i in range(s.w):
-                for t in range(s.nu):
-                    row[i * s.nu + t] = coefficients[i * s.mu * s.nu + t * s.mu + j]
+        for j in range(s.mu + s.beta):
+            row = [naive_entry(s, coefficients, blinds, i, t, j) for i in range(s.w) for t in range(s.nu)]
             row += [tails[j * s.l + b] for b in range(s.l)]
             table.append(naive_value(points, row, leaf))
         for k in range(s.eta):
             table.append(naive_polynomial(masks[k * len(points) : (k + 1) * len(points)], leaf))
     return table
+
+
+def held(s, table):
+    """Coefficients of the polynomials that a table's rows hold: sums of X^(t mu + j) times P_j(N + i nu + t).
+
+    Blinding rows stand at exponents that the next column has too: what stands at the same exponent adds up.
+    """
+    leaves = list(range(s.w * s.nu + s.l))  # as many as P_j has coefficients
+    totals = [[0] * (s.mu * s.nu + s.beta) for _ in range(s.w)]
+    for j in range(s.mu + s.beta):
+        row = S.interpolate(leaves, [table[leaf * (s.mu + s.beta + s.eta) + j] for leaf in leaves])
+        for i, total in enumerate(totals):
+            for t in range(s.nu):
+                total[t * s.mu + j] += naive_polynomial(row, 2**s.h + i * s.nu + t)
+    return [x % Q for total in totals for x in total]
 
 
 def naive_bits(data):
@@ -116,7 +148,7 @@ def naive_draw(s, question, proof):
 
     answers = proof[4 : 4 + 4 * (s.eta + s.m) * (s.w * s.nu + s.l)]
     draw = hashlib.shake_256(b"\x03" + question + answers + proof[:4]).digest(32 + 8 * s.l)
-    gammas = words(hashlib.shake_256(b"\x02" + question[:46]).digest(8 * s.eta))
+    gammas = words(hashlib.shake_256(b"\x02" + question[:47]).digest(8 * s.eta))
     return draw[:32], [word % 4294967291 for word in gammas], naive_choose(2**s.h, words(draw[32:]))
 
 
@@ -124,7 +156,7 @@ def naive_question(s, question, proof):
     """The conversation's question that a proof stands for, as bytes."""
     _, gammas, indices = naive_draw(s, question, proof)
     challenges = b"".join(gamma.to_bytes(4, "little") for gamma in gammas)
-    return question[:46] + challenges + question[46:] + b"".join(i.to_bytes(2, "little") for i in indices)
+    return question[:47] + challenges + question[47:] + b"".join(i.to_bytes(2, "little") for i in indices)
 
 
 def naive_qualifies(s, question, proof, kappa):
@@ -135,31 +167,43 @@ def naive_qualifies(s, question, proof, kappa):
 
 
 def lend(s, fill):
-    """Coefficients, tails, masks, with fill(count) giving the words."""
-    return fill(s.w * s.mu * s.nu), fill(s.mu * s.l), fill(s.eta * (s.w * s.nu + s.l))
+    """Coefficients, tails, blinds, masks, with fill(count) giving the words."""
+    coefficients, tails = fill(s.w * (s.mu * s.nu + s.beta)), fill((s.mu + s.beta) * s.l)
+    return coefficients, tails, fill(s.w * (s.nu - 1) * s.beta), fill(s.eta * (s.w * s.nu + s.l))
 
 
 def empty_outputs(s):
-    return [0] * (2**s.h * (s.mu + s.eta)), bytes(32 * (2 * 2**s.h - 1))
+    return [0] * (2**s.h * (s.mu + s.beta + s.eta)), bytes(32 * (2 * 2**s.h - 1))
+
+
+def committing(s):
+    """The sizes that committing is given."""
+    return s.h, s.mu, s.nu, s.w, s.l, s.eta, s.beta
+
+
+def true_values(s, coefficients, points):
+    """The polynomials' values, point by point."""
+    each = s.mu * s.nu + s.beta
+    return [naive_polynomial(coefficients[i * each : (i + 1) * each], z) for z in points for i in range(s.w)]
 
 
 def commit_number(s, fill=lambda count: [0] * count):
-    return S.commit(*s[:6], *lend(s, fill), bytes(32 * 2**s.h), *empty_outputs(s))[0]
+    return S.commit(*committing(s), *lend(s, fill), bytes(32 * 2**s.h), *empty_outputs(s))[0]
 
 
 P_SIZES = Sizes(1, 1, 1, 1, 1, 1, 1)
-P_LENT = [5], [9], [7, 2]
+P_LENT = [5], [9], [], [7, 2]
 
 
 def case_p(nonces):
     """Question and reply of case P, with its table and tree."""
-    number, table, tree = S.commit(*P_SIZES[:6], *P_LENT, nonces, *empty_outputs(P_SIZES))
+    number, table, tree = S.commit(*committing(P_SIZES), *P_LENT, nonces, *empty_outputs(P_SIZES))
     expect("case P is committed", number, 0)
     question = S.write_question(Question(P_SIZES, tree[-32:], [10], [6], [1]))
     expect("reply length of case P", S.reply_length(question), (0, 88))
     number, length, buffer = S.open_reply(question, *P_LENT, nonces, table, tree, b"\xee" * 88)
     expect("case P is opened", (number, length), (0, 88))
-    for size in (0, 56, 87, 89, 120):
+    for size in (0, 57, 87, 89, 120):
         before = b"\xee" * size
         refused = S.open_reply(question, *P_LENT, nonces, table, tree, before)
         expect("buffer of %d bytes" % size, refused, (2, None, before))
@@ -174,7 +218,7 @@ def test_small_instances():
     expect("half of 1", pow(2, -1, Q), 2147483646)
     expect("(q-1)+(q-1)", S.dot([1, 1], [Q - 1, Q - 1]), Q - 2)
 
-    lines = S.lines_of(P_SIZES, [5], [9])
+    lines = S.lines_of(P_SIZES, [5], [9], [])
     expect("P_0(0)", S.dot(S.weights(2, 2, 0), lines[0]), 4294967288)
     expect("P_0(1)", S.dot(S.weights(2, 2, 1), lines[0]), 1)
     batching = S.batching_of(P_SIZES, lines, [7, 2], 10)
@@ -184,9 +228,16 @@ def test_small_instances():
 
     two = Sizes(3, 2, 2, 1, 1, 1, 1)
     for z, columns, value in ((10, [21, 43], 4321), (0, [1, 3], 1)):
-        answer = S.answer_of(S.rows_of(two, [1, 2, 3, 4]), z)
+        answer = S.answer_of(S.rows_of(two, [1, 2, 3, 4], []), z)
         expect("columns at %d" % z, answer, columns)
         expect("value at %d" % z, S.values_of(two, z, answer), [value])
+    blinded = two._replace(beta=1)
+    rows = S.rows_of(blinded, [1, 2, 3, 4, 5], [7])
+    expect("rows with a blind", rows, [[1, Q - 4], [2, 4], [7, 5]])
+    for z, columns, value in ((10, [721, 536], 54321), (0, [1, Q - 4], 1)):
+        answer = S.answer_of(rows, z)
+        expect("columns with a blind at %d" % z, answer, columns)
+        expect("value with a blind at %d" % z, S.values_of(blinded, z, answer), [value])
 
     for indices, missing in (
         ([0, 1], [(1, 1), (2, 1)]),
@@ -214,13 +265,13 @@ def test_case_p():
     for nonces in (bytes(64), bytes(range(64))):
         question, reply, table, tree = case_p(nonces)
         expect("table of case P", table, [4294967288, 7, 1, 9])
-        expect("lengths of case P", (len(question), len(reply)), (56, 88))
+        expect("lengths of case P", (len(question), len(reply)), (57, 88))
         leaves = [b"\x00\x00\x00" + S.to_bytes(table[:2]), b"\x00\x01\x00" + S.to_bytes(table[2:])]
         strings = [leaf + nonces[32 * i : 32 * i + 32] for i, leaf in enumerate(leaves)]
         digests = [S.shake_256(string).digest(32) for string in strings]
         root = S.shake_256(b"\x01" + digests[0] + digests[1]).digest(32)
         expect("tree of case P", tree, digests[0] + digests[1] + root)
-        parts = bytes.fromhex("535751 0100 01 01 0100 0100 01 01 01"), root, S.to_bytes([10, 6]), b"\x01\x00"
+        parts = bytes.fromhex("535751 0200 01 01 0100 0100 01 01 01 00"), root, S.to_bytes([10, 6]), b"\x01\x00"
         expect("question of case P", question, b"".join(parts))
         words = [4294967268, 42, 5, 9, 1, 9]
         expect("reply of case P", reply, S.to_bytes(words) + nonces[32:] + digests[0])
@@ -236,8 +287,13 @@ def test_case_p():
         for size in (1, 3, 5, 7):
             expect("%d bytes" % size, S.check_c(question, reply, bytes(size)), (2, bytes(size)))
     expect("empty input", S.program(b""), b"verdict 6\n")
-    expect("13 bytes", S.program(question[:13]), b"verdict 6\n")
-    expect("a header alone", S.program(question[:14]), b"verdict 6\n")
+    expect("14 bytes", S.program(question[:14]), b"verdict 6\n")
+    expect("a header alone", S.program(question[:15]), b"verdict 6\n")
+    for start in (question[:3] + b"\1\0" + question[5:14], question[:3] + b"\1\0" + question[5:15]):
+        wanted = b"verdict %d\n" % (6 if len(start) < 15 else 5)
+        expect("version 1, %d bytes" % len(start), S.program(start), wanted)
+    expect("version 1", S.program(question[:3] + b"\1\0" + question[5:] + reply), b"verdict 5\n")
+    expect("a question of version 1", S.program(before_question(question) + reply), b"verdict 5\n")
     expect("question alone", S.program(question), b"verdict 7\n")
     expect("input beyond the limit", S.program(question + bytes(70000)), b"verdict 7\n")
 
@@ -279,6 +335,166 @@ def test_interpolation(rng):
         expect("evaluation", S.evaluate(polynomial, x), naive_polynomial(polynomial, x))
 
 
+def test_columns(rng):
+    """Rows with blinds, entry by entry; whatever the blinds are, the columns give the polynomials' values."""
+    for n in range(150):
+        mu = rng.randrange(1, 65)
+        most = min(mu, 16, 64 - mu)
+        beta = rng.choice((0, min(1, most), most, rng.randrange(most + 1)))
+        s = Sizes(9, mu, rng.choice((1, 2, rng.randrange(1, 9))), rng.randrange(1, 5), 1, 1, 1, beta)
+        fill = lambda count: [rng.choice((0, Q - 1, rng.randrange(Q))) for _ in range(count)]
+        coefficients, _, blinds, _ = lend(s, fill)
+        rows = S.rows_of(s, coefficients, blinds)
+        entries = [
+            [naive_entry(s, coefficients, blinds, i, t, j) for i in range(s.w) for t in range(s.nu)]
+            for j in range(s.mu + s.beta)
+        ]
+        expect("rows %s" % (s,), rows, entries)
+        for z in (0, 1, Q - 1, rng.randrange(Q)):
+            columns = [sum(pow(z, j, Q) * row[c] for j, row in enumerate(rows)) % Q for c in range(s.w * s.nu)]
+            expect("columns %s" % (s,), S.answer_of(rows, z), columns)
+            values = true_values(s, coefficients, [z])
+            summed = [sum(pow(z, t * s.mu, Q) * columns[i * s.nu + t] for t in range(s.nu)) % Q for i in range(s.w)]
+            expect("sum over the columns %s" % (s,), summed, values)
+            expect("value %s" % (s,), S.values_of(s, z, columns), values)
+        if blinds:
+            at = rng.randrange(len(blinds))
+            i, t, b = at // ((s.nu - 1) * s.beta), at // s.beta % (s.nu - 1), at % s.beta
+            changed = S.rows_of(s, coefficients, blinds[:at] + [(blinds[at] + 1) % Q] + blinds[at + 1 :])
+            places = [(j, c) for j in range(len(rows)) for c in range(s.w * s.nu) if changed[j][c] != rows[j][c]]
+            expect("a blind in two places", places, [(b, i * s.nu + t + 1), (s.mu + b, i * s.nu + t)])
+
+
+def naive_allowed(mu, beta):
+    return mu in range(1, 65) and beta in range(17) and not beta > mu and not mu + beta > 64
+
+
+def test_blinding_sizes():
+    """Every number of rows with every number of blinding rows."""
+    for mu in range(70):
+        for beta in range(70):
+            wanted = 0 if naive_allowed(mu, beta) else 1
+            s = Sizes(1, mu, 1, 1, 1, 1, 1, beta)
+            expect("mu %d beta %d" % (mu, beta), S.read_header(S.write_header(s))[0], wanted)
+    for mu, beta in ((64, 0), (63, 1), (64, 1), (48, 16), (49, 16), (16, 16), (15, 16), (1, 1), (1, 2), (20, 17)):
+        s = Sizes(2, mu, 2, 1, 1, 1, 1, beta)
+        expect("commit mu %d beta %d" % (mu, beta), commit_number(s), 0 if naive_allowed(mu, beta) else 1)
+    for wide in (256, 257, 2**16, 2**31, 2**32 - 1):
+        lent = *lend(Sizes(2, 3, 2, 1, 1, 1, 1), lambda count: [0] * count), bytes(128)
+        number = S.commit(2, 3, 2, 1, 1, 1, wide, *lent, *empty_outputs(Sizes(2, 3, 2, 1, 1, 1, 1)))[0]
+        expect("commit beta %d" % wide, number, 1)
+
+
+def test_lent_blinds(rng):
+    """Lengths and elements of the blinds, in all entries that are lent them."""
+    for s in (Sizes(3, 2, 2, 2, 2, 1, 1, 1), Sizes(3, 2, 1, 3, 2, 1, 1, 2), Sizes(3, 2, 2, 2, 2, 1, 1)):
+        coefficients, tails, blinds, masks = lend(s, lambda count: [rng.randrange(Q) for _ in range(count)])
+        nonces, empty = rng.randbytes(32 * 2**s.h), empty_outputs(s)
+        expect("blinds", len(blinds), s.w * (s.nu - 1) * s.beta)
+        _, table, tree = S.commit(*committing(s), coefficients, tails, blinds, masks, nonces, *empty)
+        q = Question(s, tree[-32:], [3], [5], [1, 6])
+        question, asked = S.write_question(q), S.write_proof_question(ProofQuestion(s, q.root, q.points))
+        buffer, room = bytes(S.reply_length(question)[1]), bytes(S.proof_bound(s))
+        others = [(blinds + [0], 2), (blinds + [Q], 2), (blinds, 0)]
+        if blinds:
+            others += [(blinds[:-1], 2), ([], 2)]
+            for at in (0, len(blinds) - 1):
+                others += [(blinds[:at] + [word] + blinds[at + 1 :], 3) for word in (Q, 2**32 - 1)]
+        for other, number in others:
+            label = "blinds of %d words" % len(other)
+            lent = coefficients, tails, other, masks, nonces
+            found = S.commit(*committing(s), *lent, *empty)
+            expect("commit, " + label, found, (number, *(empty if number else (table, tree))))
+            expect("open, " + label, S.open_reply(question, *lent, table, tree, buffer)[0], number)
+            expect("prove, " + label, S.prove(asked, 0, 1, *lent, table, tree, room)[0], number)
+        for at in range(len(blinds)):
+            other = blinds[:at] + [(blinds[at] + 1) % Q] + blinds[at + 1 :]
+            lent = coefficients, tails, other, masks, nonces
+            _, other_table, other_tree = S.commit(*committing(s), *lent, *empty)
+            expect("another table and root", (other_table != table, other_tree[-32:] != tree[-32:]), (True, True))
+            reply = S.open_reply(question, *lent, table, tree, buffer)[2]
+            expect("other blinds than committed", S.check(question, reply, [0] * s.w)[0], 9)
+
+
+# ---- As before the blinding rows --------------------------------------------------------------------
+
+
+def by_rule(tag, count):
+    return [(i * 2654435761 + tag * 97 + 12345) % Q for i in range(count)]
+
+
+# Sizes, and SHAKE256 of table, tree and reply as the module gave them when it knew no blinding rows.
+BEFORE = (
+    (Sizes(1, 1, 1, 1, 1, 1, 1), "bad987192da1592a6e9f364ceab350df",
+     "a15967ca44fbe4062e13b93d8f6da0c1", "e28a48b2ee7ea707b6ad552aace9dd2f"),
+    (Sizes(3, 2, 2, 1, 4, 1, 3), "e053f5e1ff928a923c23d370928a4abd",
+     "0cd2a4bd9011188b64d2f573c9a6be8e", "ec1bff4813803edb4c5935fb03dd720d"),
+    (Sizes(4, 5, 3, 2, 5, 2, 8), "6980f8449f61fdd769183965b7a07835",
+     "62c669bf0be2df1e750a54726ae4eaa0", "e3a5ca67ebd3a8f008148f23d6a9dc85"),
+    (Sizes(5, 12, 4, 4, 6, 3, 1), "b10765715867393513f08a08832e5507",
+     "80b95e4c8cd75234da6c74f6f4f8d131", "e761cf79694af1f079442553f60aa61d"),
+    (Sizes(6, 64, 1, 7, 9, 4, 2), "c8732a60135a349595b7816c9a37dd3d",
+     "8650533af954c733184ac475f170e2c7", "aac50e8abdcb73c2f7f1402f6ab8c1eb"),
+    (Sizes(9, 1, 256, 1, 5, 1, 1), "875b1a8aa8acbe9ce687ed48a5f1aad9",
+     "10fbc5c4da2415a1999463b6d5a73281", "0dbe2fddbcc29365ebd05ca16e69aa88"),
+)  # fmt: skip
+
+
+def before_question(question):
+    """A question without blinding rows, as it was of version 1."""
+    assert question[14] == 0
+    return question[:3] + b"\1\0" + question[5:14] + question[15:]
+
+
+def run_by_rule(s):
+    """Table, tree, question and reply at sizes without blinding rows, with words by rule."""
+    words = [by_rule(tag, len(part)) for tag, part in enumerate(lend(s, lambda count: [0] * count))]
+    lent = *words, bytes(x % 256 for x in by_rule(4, 32 * 2**s.h))
+    number, table, tree = S.commit(*committing(s), *lent, *empty_outputs(s))
+    expect("committed", number, 0)
+    q = Question(s, tree[-32:], by_rule(5, s.eta), by_rule(6, s.m), [2**s.h // s.l * b for b in range(s.l)])
+    question = S.write_question(q)
+    number, _, reply = S.open_reply(question, *lent, table, tree, bytes(S.reply_length(question)[1]))
+    expect("opened", number, 0)
+    return S.to_bytes(table), tree, question, reply
+
+
+def test_stored_before():
+    for s, *digests in BEFORE:
+        table, tree, _, reply = run_by_rule(s)
+        expect("as before %s" % (s,), [S.shake_256(part).hexdigest(16) for part in (table, tree, reply)], digests)
+
+
+def test_before(rng, path):
+    """Without blinding rows, tables, trees, lengths, replies and verdicts are those of the module before."""
+    spec = importlib.util.spec_from_file_location("before", path)
+    before = importlib.util.module_from_spec(spec)
+    spec.loader.exec_module(before)
+    for _ in range(150):
+        s = random_sizes(rng)._replace(beta=0)
+        words = lend(s, lambda count: [rng.choice((0, Q - 1, Q, *[rng.randrange(Q)] * 60)) for _ in range(count)])
+        coefficients, tails, _, masks = words
+        nonces, (table, tree) = rng.randbytes(32 * 2**s.h), empty_outputs(s)
+        after = S.commit(*committing(s), *words, nonces, table, tree)
+        expect("commit %s" % (s,), after, before.commit(*s[:6], coefficients, tails, masks, nonces, table, tree))
+        if after[0]:
+            continue
+        _, table, tree = after
+        q = Question(s, tree[-32:], by_rule(5, s.eta), by_rule(6, s.m), sorted(rng.sample(range(2**s.h), s.l)))
+        question = S.write_question(q)
+        older = before_question(question)
+        expect("question", older, before.write_question(before.Question(before.Sizes(*s[:7]), *q[1:])))
+        expect("length", S.reply_length(question), before.reply_length(older))
+        buffer = bytes(S.reply_length(question)[1])
+        opened = S.open_reply(question, *words, nonces, table, tree, buffer)
+        expect("open", opened, before.open_reply(older, coefficients, tails, masks, nonces, table, tree, buffer))
+        for _ in range(5):
+            reply, at = opened[2], rng.randrange(len(opened[2]))
+            reply = reply[:at] + bytes([rng.randrange(256)]) + reply[at + 1 :]
+            values = [7] * (s.w * s.m)
+            expect("check", S.check(question, reply, values), before.check(older, reply, values))
+
+
 def test_missing(rng):
     for h in (1, 2, 3):
         for chosen in range(1, 2 ** 2**h):
@@ -316,7 +532,7 @@ def test_reply_length(rng):
         s = random_sizes(rng)
         expect_length(s, sorted(rng.sample(range(2**s.h), s.l)))
     for l in range(1, 65):
-        s = Sizes(12, rng.randrange(1, 65), rng.randrange(1, 17), rng.randrange(1, 17), l, 4, 8)
+        s = Sizes(12, rng.randrange(16, 49), rng.randrange(1, 17), rng.randrange(1, 17), l, 4, 8, rng.randrange(17))
         expect_length(s, sorted(rng.sample(range(2**s.h), l)))
         expect_length(s, list(range(l)))
         expect_length(s, list(range(2**s.h - l, 2**s.h)))
@@ -335,13 +551,17 @@ def test_reply_length_refused():
     late = changed(challenges=[Q], indices=[5, 3])
     for label, data, number in (
         ("empty", b"", 6),
-        ("13 bytes", question[:13], 6),
-        ("13 bytes, mark", b"swq" + question[3:13], 6),
+        ("14 bytes", question[:14], 6),
+        ("14 bytes, mark", b"swq" + question[3:14], 6),
         ("mark", b"swq" + question[3:], 5),
-        ("version", question[:3] + b"\2\0" + question[5:], 5),
+        ("version 1", question[:3] + b"\1\0" + question[5:], 5),
+        ("version 3", question[:3] + b"\3\0" + question[5:], 5),
         ("mark, size", b"swq" + question[3:5] + b"\0" + question[6:], 5),
         ("h is 0", question[:5] + b"\0" + question[6:], 1),
         ("w nu + l > N", changed(sizes=s._replace(w=7)), 1),
+        ("beta > mu", changed(sizes=s._replace(beta=3)), 1),
+        ("beta > 16", changed(sizes=s._replace(mu=40, beta=17)), 1),
+        ("mu + beta > 64", changed(sizes=s._replace(mu=49, beta=16)), 1),
         ("size, length", changed(sizes=s._replace(h=13))[:-1], 1),
         ("a byte too few", question[:-1], 6),
         ("a byte too many", question + b"\0", 6),
@@ -364,23 +584,26 @@ def random_sizes(rng):
     l = rng.randrange(1, width)
     w = rng.randrange(1, width - l + 1)
     nu = rng.randrange(1, (width - l) // w + 1)
-    return Sizes(h, rng.randrange(1, 6), nu, w, l, rng.randrange(1, 5), rng.randrange(1, 9))
+    mu = rng.randrange(1, 6)
+    beta = rng.choice((0, 1, mu, rng.randrange(mu + 1)))
+    return Sizes(h, mu, nu, w, l, rng.randrange(1, 5), rng.randrange(1, 9), beta)
 
 
 def test_completeness(rng, rounds):
     for _ in range(rounds):
         s = random_sizes(rng)
         fill = lambda count: [rng.choice((0, 1, Q - 1, rng.randrange(Q))) for _ in range(count)]
-        coefficients, tails, masks = lend(s, fill)
-        lent = coefficients, tails, masks, rng.randbytes(32 * 2**s.h)
-        number, table, tree = S.commit(*s[:6], *lent, *empty_outputs(s))
+        words, nonces = lend(s, fill), rng.randbytes(32 * 2**s.h)
+        lent = *words, nonces
+        number, table, tree = S.commit(*committing(s), *lent, *empty_outputs(s))
         expect("committed %s" % (s,), number, 0)
-        expect("table", table, naive_table(s, coefficients, tails, masks))
+        expect("table", table, naive_table(s, *words))
+        expect("polynomials that the rows hold", held(s, table), words[0])
         digests = [tree[32 * i : 32 * i + 32] for i in range(2**s.h)]
-        record = s.mu + s.eta
+        record = s.mu + s.beta + s.eta
         for i in range(2**s.h):
             string = b"\x00" + i.to_bytes(2, "little") + S.to_bytes(table[i * record : (i + 1) * record])
-            string += lent[3][32 * i : 32 * i + 32]
+            string += nonces[32 * i : 32 * i + 32]
             expect("leaf digest", digests[i], S.shake_256(string).digest(32))
         expect("root", tree[-32:], naive_node(digests, s.h, 0))
         points = [rng.choice((0, Q - 1, rng.randrange(Q))) for _ in range(s.m)]
@@ -402,12 +625,7 @@ def test_completeness(rng, rounds):
         opened = [table[i * record : (i + 1) * record] for i in indices]
         expect("leaf values", [values for values, _ in r.leaves], opened)
         expect("nodes", r.nodes, [naive_node(digests, level, i) for level, i in nodes])
-        each = s.mu * s.nu
-        values = [
-            naive_polynomial(coefficients[i * each : (i + 1) * each], z)
-            for z in points
-            for i in range(s.w)
-        ]
+        values = true_values(s, words[0], points)
         expect("check", S.check(question, reply, [1] * (s.w * s.m)), (0, values))
         expect("check for C", S.check_c(question, reply, bytes(4 * s.w * s.m)), (0, S.to_bytes(values)))
         shown = "".join("%d %d %d\n" % (a // s.w + 1, a % s.w + 1, v) for a, v in enumerate(values))
@@ -485,8 +703,7 @@ def expect_proof(rng, s, lent, table, tree, points, kappa):
     expect(label + "length", S.reply_length(drawn), (0, length - 4))
     opened = S.open_reply(drawn, *lent, table, tree, bytes(length - 4))
     expect(label + "counter, then the reply", opened, (0, length - 4, proof[4:]))
-    each = s.mu * s.nu
-    values = [naive_polynomial(lent[0][i * each : (i + 1) * each], z) for z in points for i in range(s.w)]
+    values = true_values(s, lent[0], points)
     blank = [7] * (s.w * s.m)
     expect(label + "conversation", S.check(drawn, proof[4:], blank), (0, values))
     expect(label + "values", S.check_proof(question, kappa, proof, blank), (0, values))
@@ -523,10 +740,10 @@ def expect_order(label, s, question, proof, kappa, drawn):
     def expect_number(what, number, question=question, kappa=kappa, proof=proof, words=blank):
         expect(label + what, S.check_proof(question, kappa, proof, words), (number, words))
 
-    bad_point = question[:46] + b"\xff" * 4 + question[50:]
+    bad_point = question[:47] + b"\xff" * 4 + question[51:]
     bad_record = proof[: 4 + S.answer_bytes(s)] + b"\xff" * 4 + proof[8 + S.answer_bytes(s) :]
     expect_number("a conversation's question", 6, question=drawn)
-    expect_number("13 bytes", 6, question=question[:13], kappa=17)
+    expect_number("14 bytes", 6, question=question[:14], kappa=17)
     expect_number("mark, kappa", 5, question=b"swq" + question[3:], kappa=17)
     for above in (17, 255, 2**32 - 1):
         expect_number("kappa, length", 1, question=question[:-1], kappa=above)
@@ -541,20 +758,20 @@ def test_proofs(rng, rounds):
     for n in range(rounds):
         s = random_sizes(rng)
         lent = (*lend(s, lambda count: [rng.randrange(Q) for _ in range(count)]), rng.randbytes(32 * 2**s.h))
-        number, table, tree = S.commit(*s[:6], *lent, *empty_outputs(s))
+        number, table, tree = S.commit(*committing(s), *lent, *empty_outputs(s))
         points = [rng.choice((0, Q - 1, rng.randrange(Q))) for _ in range(s.m)]
         expect_proof(rng, s, lent, table, tree, points, n % 10)
-    number, table, tree = S.commit(*P_SIZES[:6], *P_LENT, bytes(64), *empty_outputs(P_SIZES))
+    number, table, tree = S.commit(*committing(P_SIZES), *P_LENT, bytes(64), *empty_outputs(P_SIZES))
     for kappa in range(17):
         expect_proof(rng, P_SIZES, (*P_LENT, bytes(64)), table, tree, [6], kappa)
 
 
 def test_question_parts():
     """The draws hash the bytes of the question and of the answers as they are lent."""
-    s = Sizes(3, 2, 1, 2, 2, 2, 2)
+    s = Sizes(3, 2, 1, 2, 2, 2, 2, 1)
     p = ProofQuestion(s, bytes(range(32)), [5, Q - 1])
     question = S.write_proof_question(p)
-    expect("proof's question", len(question), 14 + 32 + 4 * 2)
+    expect("proof's question", len(question), 15 + 32 + 4 * 2)
     expect("read back", S.read_proof_question(question, 16), (0, p))
     answers = b"\xff" * S.answer_bytes(s)  # no elements
     proof = b"\1\2\3\4" + answers
@@ -568,10 +785,18 @@ def test_question_parts():
 
 def main():
     rng = random.Random(1)
+    if sys.argv[1:2] == ["--before"] and len(sys.argv) == 3:
+        test_before(rng, sys.argv[2])
+    elif sys.argv[1:]:
+        sys.exit(__doc__)
     test_small_instances()
     test_case_p()
     test_hash()
     test_interpolation(rng)
+    test_columns(rng)
+    test_blinding_sizes()
+    test_lent_blinds(rng)
+    test_stored_before()
     test_missing(rng)
     test_reply_length(rng)
     test_reply_length_refused()

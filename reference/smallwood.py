@@ -17,8 +17,8 @@ from operator import mul
 
 Q = 4294967291  # the field's order, 2^32 - 5
 MARK = b"SWQ"
-VERSION = 1
-HEADER_BYTES = 14
+VERSION = 2
+HEADER_BYTES = 15
 DIGEST_BYTES = 32
 NONCE_BYTES = 32
 COUNTER_BYTES = 4
@@ -107,10 +107,14 @@ def interpolate(points, values):
 # ---- Sizes ------------------------------------------------------------------------------------------
 
 
-class Sizes(namedtuple("Sizes", "h mu nu w l eta m")):
-    """The sizes of a question; committing, which has no m, uses m = 1."""
+class Sizes(namedtuple("Sizes", "h mu nu w l eta m beta", defaults=(0,))):
+    """The sizes of a question, in its header's order; committing, which has no m, uses m = 1. Without a beta it is 0."""
 
     __slots__ = ()
+
+    @property
+    def of_commitment(self):  # what committing is given
+        return *self[:6], self.beta
 
     @property
     def leaves(self):  # N
@@ -125,8 +129,20 @@ class Sizes(namedtuple("Sizes", "h mu nu w l eta m")):
         return self.columns + self.l
 
     @property
+    def rows(self):  # all rows: those of coefficients, then the blinding rows
+        return self.mu + self.beta
+
+    @property
+    def each(self):  # coefficients of one polynomial
+        return self.mu * self.nu + self.beta
+
+    @property
+    def blinds_each(self):  # blinds of one polynomial: beta for each of its columns but the last
+        return (self.nu - 1) * self.beta
+
+    @property
     def record(self):  # values of one leaf: rows, then masks
-        return self.mu + self.eta
+        return self.rows + self.eta
 
     def in_range(self):
         return (
@@ -138,6 +154,9 @@ class Sizes(namedtuple("Sizes", "h mu nu w l eta m")):
             and 1 <= self.l <= 64
             and 1 <= self.eta <= 4
             and 1 <= self.m <= 8
+            and 0 <= self.beta <= 16
+            and self.beta <= self.mu
+            and self.mu + self.beta <= 64
             and self.w * self.nu + self.l <= self.leaves
         )
 
@@ -155,13 +174,29 @@ def grid_points(s):
 # ---- PCS: polynomials to rows -----------------------------------------------------------------------
 
 
-def rows_of(s, coefficients):
-    """Row j, column i nu + t: coefficient t mu + j of polynomial i."""
-    each = s.mu * s.nu
-    return [
-        [coefficients[i * each + t * s.mu + j] for i in range(s.w) for t in range(s.nu)]
-        for j in range(s.mu)
-    ]
+def columns_of(s, coefficients, blinds):
+    """The columns of one polynomial, each from row 0 down, by its coefficients and its blinds.
+
+    In rows mu on stand the column's beta blinds, in the last column the top beta coefficients. The next column's
+    first entries are lowered by the blinds: both stand at the same powers of z, so that the polynomial's value stays.
+    """
+    below = list(blinds) + list(coefficients[s.mu * s.nu :])  # the entries of rows mu on, column by column
+    columns, lowered = [], [0] * s.mu
+    for t in range(s.nu):
+        own = coefficients[t * s.mu : (t + 1) * s.mu]
+        extra = below[t * s.beta : (t + 1) * s.beta]
+        columns.append([(a - b) % Q for a, b in zip(own, lowered)] + extra)
+        lowered = extra + [0] * (s.mu - s.beta)
+    return columns
+
+
+def rows_of(s, coefficients, blinds):
+    """Row j, column i nu + t: entry j of column t of polynomial i."""
+    columns = []
+    for i in range(s.w):
+        own = coefficients[i * s.each : (i + 1) * s.each]
+        columns += columns_of(s, own, blinds[i * s.blinds_each : (i + 1) * s.blinds_each])
+    return [list(row) for row in zip(*columns)]
 
 
 def values_of(s, z, columns):
@@ -173,11 +208,11 @@ def values_of(s, z, columns):
 # ---- LVCS: rows to polynomials ----------------------------------------------------------------------
 
 
-def lines_of(s, coefficients, tails):
+def lines_of(s, coefficients, tails, blinds):
     """What P_j takes at the grid points: row j's entries, then its tails."""
     return [
         row + list(tails[j * s.l : (j + 1) * s.l])
-        for j, row in enumerate(rows_of(s, coefficients))
+        for j, row in enumerate(rows_of(s, coefficients, blinds))
     ]
 
 
@@ -318,7 +353,7 @@ def reply_bytes_to(q):
 
 
 def write_header(s):
-    return MARK + struct.pack("<HBBHHBBB", VERSION, *s)
+    return MARK + struct.pack("<HBBHHBBBB", VERSION, *s)
 
 
 def write_question(q):
@@ -344,10 +379,10 @@ def write_counter(counter):
 
 
 def read_header(data):
-    """The header tests on at least 14 bytes: (5 or 1, None), or (0, the sizes)."""
+    """The header tests on at least 15 bytes: (5 or 1, None), or (0, the sizes)."""
     if data[:3] != MARK or struct.unpack_from("<H", data, 3) != (VERSION,):
         return 5, None
-    s = Sizes(*struct.unpack_from("<BBHHBBB", data, 5))
+    s = Sizes(*struct.unpack_from("<BBHHBBBB", data, 5))
     return (0, s) if s.in_range() else (1, None)
 
 
@@ -461,11 +496,12 @@ def least_counter(p, draws, kappa, limit):
 # ---- Entries ----------------------------------------------------------------------------------------
 
 
-def lent_lengths_hold(s, coefficients, tails, masks, nonces, table, tree):
+def lent_lengths_hold(s, coefficients, tails, blinds, masks, nonces, table, tree):
     """Test 2, over what committer and opener have in common."""
     return (
-        len(coefficients) == s.w * s.mu * s.nu
-        and len(tails) == s.mu * s.l
+        len(coefficients) == s.w * s.each
+        and len(tails) == s.rows * s.l
+        and len(blinds) == s.w * s.blinds_each
         and len(masks) == s.eta * s.width
         and len(nonces) == NONCE_BYTES * s.leaves
         and len(table) == s.leaves * s.record
@@ -481,16 +517,16 @@ def nonce_of(nonces, index):
     return nonces[NONCE_BYTES * index : NONCE_BYTES * (index + 1)]
 
 
-def commit(h, mu, nu, w, l, eta, coefficients, tails, masks, nonces, table, tree):
+def commit(h, mu, nu, w, l, eta, beta, coefficients, tails, blinds, masks, nonces, table, tree):
     """Commit: returns (number, table, tree). Tests 1, 2, 3; the table, being output, is not under 3."""
-    s = Sizes(h, mu, nu, w, l, eta, 1)
+    s = Sizes(h, mu, nu, w, l, eta, 1, beta)
     if not s.in_range():
         return 1, table, tree
-    if not lent_lengths_hold(s, coefficients, tails, masks, nonces, table, tree):
+    if not lent_lengths_hold(s, coefficients, tails, blinds, masks, nonces, table, tree):
         return 2, table, tree
-    if not (elements(coefficients) and elements(tails) and elements(masks)):
+    if not all(map(elements, (coefficients, tails, blinds, masks))):
         return 3, table, tree
-    lines = lines_of(s, coefficients, tails)
+    lines = lines_of(s, coefficients, tails, blinds)
     filled = []
     leaf_digests = []
     for i in range(s.leaves):
@@ -511,9 +547,9 @@ def reply_length(question):
     return (number, None) if number else (0, reply_bytes_to(q))
 
 
-def answers_to(s, challenges, points, coefficients, tails, masks):
+def answers_to(s, challenges, points, coefficients, tails, blinds, masks):
     """Batching answers and evaluation answers; they do not depend on the indices."""
-    lines = lines_of(s, coefficients, tails)
+    lines = lines_of(s, coefficients, tails, blinds)
     batchings = [batching_of(s, lines, mask_of(s, masks, k), challenges[k]) for k in range(s.eta)]
     return batchings, [answer_of(lines, z) for z in points]
 
@@ -524,7 +560,7 @@ def opened_at(s, indices, nonces, table, tree):
     return leaves, [tree_node(s, tree, level, i) for level, i in missing_nodes(s.h, indices)]
 
 
-def open_reply(question, coefficients, tails, masks, nonces, table, tree, buffer):
+def open_reply(question, coefficients, tails, blinds, masks, nonces, table, tree, buffer):
     """Open: returns (number, length, buffer), where both lengths are the reply's; None after a refusal.
 
     Tests 6 5 1 6 3 4, then 2, 3 over all lent words (the table too), 8 against the lent root.
@@ -534,19 +570,19 @@ def open_reply(question, coefficients, tails, masks, nonces, table, tree, buffer
         return number, None, buffer
     s = q.sizes
     if len(buffer) != reply_bytes_to(q) or not lent_lengths_hold(
-        s, coefficients, tails, masks, nonces, table, tree
+        s, coefficients, tails, blinds, masks, nonces, table, tree
     ):
         return 2, None, buffer
-    if not (elements(coefficients) and elements(tails) and elements(masks) and elements(table)):
+    if not all(map(elements, (coefficients, tails, blinds, masks, table))):
         return 3, None, buffer
     if q.root != tree[-DIGEST_BYTES:]:
         return 8, None, buffer
-    answers = answers_to(s, q.challenges, q.points, coefficients, tails, masks)
+    answers = answers_to(s, q.challenges, q.points, coefficients, tails, blinds, masks)
     reply = write_reply(Reply(*answers, *opened_at(s, q.indices, nonces, table, tree)))
     return 0, len(reply), reply
 
 
-def prove(question, kappa, limit, coefficients, tails, masks, nonces, table, tree, buffer):
+def prove(question, kappa, limit, coefficients, tails, blinds, masks, nonces, table, tree, buffer):
     """Prove: returns (number, length, buffer); the length is the proof's, None after a refusal.
 
     Tests 6 5 1 6 3, then 2, 3 over all lent words (the table too), 8 against the lent root, 11. The buffer begins
@@ -557,14 +593,14 @@ def prove(question, kappa, limit, coefficients, tails, masks, nonces, table, tre
         return number, None, buffer
     s = p.sizes
     if len(buffer) != proof_bound(s) or not lent_lengths_hold(
-        s, coefficients, tails, masks, nonces, table, tree
+        s, coefficients, tails, blinds, masks, nonces, table, tree
     ):
         return 2, None, buffer
-    if not (elements(coefficients) and elements(tails) and elements(masks) and elements(table)):
+    if not all(map(elements, (coefficients, tails, blinds, masks, table))):
         return 3, None, buffer
     if p.root != tree[-DIGEST_BYTES:]:
         return 8, None, buffer
-    answers = answers_to(s, draw_challenges(p), p.points, coefficients, tails, masks)
+    answers = answers_to(s, draw_challenges(p), p.points, coefficients, tails, blinds, masks)
     draws = leaf_draws(p, write_answers(*answers))
     counter = least_counter(p, draws, kappa, limit)
     if counter is None:
@@ -584,13 +620,13 @@ def verify(q, r):
     for k in range(s.eta):
         for i, (values, _) in zip(q.indices, r.leaves):
             if not batching_holds(
-                r.batchings[k], i, q.challenges[k], values[: s.mu], values[s.mu + k]
+                r.batchings[k], i, q.challenges[k], values[: s.rows], values[s.rows + k]
             ):
                 return 9, None
     for i, (values, _) in zip(q.indices, r.leaves):
         leaf_weights = weights(s.leaves, s.width, leaf_point(i))
         for z, answer in zip(q.points, r.answers):
-            if not evaluation_holds(leaf_weights, z, answer, values[: s.mu]):
+            if not evaluation_holds(leaf_weights, z, answer, values[: s.rows]):
                 return 10, None
     columns = [answer[: s.columns] for answer in r.answers]
     return 0, [v for z, c in zip(q.points, columns) for v in values_of(s, z, c)]

@@ -8,11 +8,13 @@
  *     bench names                the implementations, one to a line
  *     bench sizes                the numbers of the sizes, one to a line
  *     bench once OP SIZE NAME    one call alone, to be counted by valgrind (bench.sh)
+ *     bench has OP SIZE NAME     exit status 1 where that implementation cannot do it
  *     bench row OP SIZE          how that call's row of a table begins: sizes, operation, permutations of Keccak
  *
  * plain_keccak_* and plain_pairs_* are plain C with plain/keccak.c, the latter with PLAIN_PAIRS (plain/plain.h). Built
  * with -DPLAIN_OPENSSL, plain_* is plain C with OpenSSL's hash; built with -DBEFORE, before_* is the older library.
- * Times are processor time of this program. An older library may lack the entries for proofs. */
+ * Times are processor time of this program. An older library may lack the entries for proofs, and may take questions of
+ * version 1 (older.h). */
 #define _GNU_SOURCE
 #include <inttypes.h>
 #include <pthread.h>
@@ -32,8 +34,8 @@
 static void show_times(void)
 {
     printf("\n" TIMES_CAPTION "\n\n", ROUNDS);
-    printf("| h | mu | nu | w | l | eta | m | operation | permutations ");
-    end_times_head(9);
+    printf(SIZES_HEAD "| operation | permutations ");
+    end_times_head(SIZES_COLUMNS + 2);
     for (size_t n = 0; n < SIZES; n++)
         for (enum operation operation = 0; operation < TIMED_OPERATIONS; operation++) {
             struct instance *a = prepared(all_sizes[n], operation);
@@ -93,12 +95,12 @@ static void show_growth_of(const char *name, struct sizes *s, uint32_t *size, ui
 /* tools/growth_svg.py reads this table: it knows the header, and the first word of each name. */
 static void show_growth(void)
 {
-    struct sizes s = {10, 16, 8, 8, 16, 2, 2}, columns = s;
+    struct sizes s = {10, 16, 8, 8, 16, 2, 2, 0}, columns = s;
 
     columns.w = 1; /* so that nu can grow to its limit */
     printf("\nLeast microseconds of one call as one size doubles and the others stay (h=%u, mu=%u, nu=%u, w=%u, "
-           "l=%u, eta=%u, m=%u, but w=%u where nu doubles), each with the factor to the line above, the others also "
-           "with the library's ratio to them.\n\n",
+           "l=%u, eta=%u, m=%u, but w=%u where nu doubles; no blinding rows), each with the factor to the line above, the "
+           "others also with the library's ratio to them.\n\n",
            s.h, s.mu, s.nu, s.w, s.l, s.eta, s.m, columns.w);
     printf("| doubled | operation | to ");
     for (size_t i = 0; i < IMPLEMENTATIONS; i++)
@@ -184,7 +186,7 @@ static void show_stack_row(struct sizes s, size_t base)
     print_sizes(&s);
     for (size_t i = 0; i < IMPLEMENTATIONS; i++)
         for (size_t o = 0; o < STACK_OPERATIONS; o++)
-            if (has_operation(i, stack_operations[o])) {
+            if (has_operation(i, stack_operations[o], &s)) {
                 size_t used = stack_of(i, stack_operations[o], s, base);
                 printf("| %zu ", used);
                 bytes[i][o] = (double)used;
@@ -193,7 +195,7 @@ static void show_stack_row(struct sizes s, size_t base)
             }
     for (size_t i = 1; i < LIBRARIES; i++)
         for (size_t o = 0; o < STACK_OPERATIONS; o++)
-            if (has_operation(i, stack_operations[o]))
+            if (has_operation(i, stack_operations[o], &s))
                 printf("| %.2f ", bytes[0][o] / bytes[i][o]);
             else
                 printf("| ");
@@ -208,14 +210,14 @@ static void show_stack(void)
 
     puts("\nBytes of stack that one call uses: a painted stack's touched part, less that of a thread without a "
          "call.\n");
-    printf("| h | mu | nu | w | l | eta | m ");
+    printf(SIZES_HEAD);
     for (size_t i = 0; i < IMPLEMENTATIONS; i++)
         for (size_t o = 0; o < STACK_OPERATIONS; o++)
             printf("| %s, %s ", operation_names[stack_operations[o]], shown_names[i]);
     for (size_t i = 1; i < LIBRARIES; i++)
         for (size_t o = 0; o < STACK_OPERATIONS; o++)
             printf("| %s, to %s ", operation_names[stack_operations[o]], shown_names[i]);
-    printf("|\n|---|---|---|---|---|---|---|");
+    printf("|\n|---|---|---|---|---|---|---|---|");
     for (size_t i = 0; i < STACK_OPERATIONS * (IMPLEMENTATIONS + LIBRARIES - 1); i++)
         printf("---|");
     puts("");
@@ -243,6 +245,15 @@ static const struct sizes *sizes_numbered(const char *number)
     return &all_sizes[n - 1];
 }
 
+static size_t implementation_named(const char *name)
+{
+    for (size_t i = 0; i < IMPLEMENTATIONS; i++)
+        if (strcmp(implementations[i].name, name) == 0)
+            return i;
+    fail("no such implementation");
+    return IMPLEMENTATIONS;
+}
+
 static void once(const char *operation, const char *size, const char *name)
 {
     struct instance *a = prepared(*sizes_numbered(size), operation_named(operation));
@@ -250,14 +261,9 @@ static void once(const char *operation, const char *size, const char *name)
 #ifdef PLAIN_OPENSSL
     evp_start(); /* outside the call that is counted */
 #endif
-    for (size_t i = 0; i < IMPLEMENTATIONS; i++)
-        if (strcmp(implementations[i].name, name) == 0) {
-            if (call(&implementations[i], operation_named(operation), a) != 0)
-                fail("an honest call was refused");
-            free_instance(a);
-            return;
-        }
-    fail("no such implementation");
+    if (call(&implementations[implementation_named(name)], operation_named(operation), a) != 0)
+        fail("an honest call was refused");
+    free_instance(a);
 }
 
 int main(int count, char **words)
@@ -265,8 +271,11 @@ int main(int count, char **words)
     const char *mode = count > 1 ? words[1] : "all";
     int all = strcmp(mode, "all") == 0;
 
+    find_older();
     if (count == 5 && strcmp(mode, "once") == 0) {
         once(words[2], words[3], words[4]);
+    } else if (count == 5 && strcmp(mode, "has") == 0) {
+        return !has_operation(implementation_named(words[4]), operation_named(words[2]), sizes_numbered(words[3]));
     } else if (count == 4 && strcmp(mode, "row") == 0) {
         enum operation operation = operation_named(words[2]);
         struct instance *a = prepared(*sizes_numbered(words[3]), operation);
@@ -289,7 +298,7 @@ int main(int count, char **words)
         if (all || strcmp(mode, "stack") == 0)
             show_stack();
     } else {
-        fail("usage: bench [times | proofs | growth | stack | names | sizes | once OP SIZE NAME | "
+        fail("usage: bench [times | proofs | growth | stack | names | sizes | once OP SIZE NAME | has OP SIZE NAME | "
              "row OP SIZE]");
     }
     return 0;

@@ -6,7 +6,7 @@
 #
 #     --archive FILE     measures this archive and does not build the library
 #     --before FILE      measures this older archive too, in the same runs: the tables have it as `before`, but not
-#                        with what it lacks of the entries for proofs
+#                        with what it lacks: blinding rows where its questions have version 1, entries for proofs
 #     --stand-in         measures the plain C implementation, to test these tools
 #
 # Needs gcc, rt unless an archive is given, and binutils for --before. With OpenSSL's headers (libssl-dev) the plain
@@ -38,14 +38,6 @@ fi
 # shellcheck disable=SC2086
 "$CC" $CFLAGS "$tools/bench.c" "$tools/instance.c" $objects "$archive" $with -lpthread -Wl,-z,now -o "$build/bench"
 
-# lacks NAME OPERATION: whether an older library has no such entry
-lacks() {
-    [ "$1" = before ] && case $2 in
-        prove | check_proof) ! grep -q "before_$2$" "$build/before.names" ;;
-        *) false ;;
-    esac
-}
-
 # count OPERATION SIZE NAME: instructions inside that call
 count() {
     entry=$1
@@ -56,10 +48,10 @@ count() {
 instructions() {
     names=$("$build/bench" names)
     printf '\nInstructions of one call (callgrind), and the ratio of the library to each of the others.\n\n'
-    printf '| h | mu | nu | w | l | eta | m | operation | permutations '
+    printf '| h | mu | nu | w | l | eta | m | beta | operation | permutations '
     for name in $names; do printf '| %s ' "$name"; done
     for name in $names; do [ "$name" = smallwood ] || printf '| to %s ' "$name"; done
-    printf '|\n|---|---|---|---|---|---|---|---|---|'
+    printf '|\n|---|---|---|---|---|---|---|---|---|---|'
     for name in $names; do printf -- '---|'; done
     for name in $names; do [ "$name" = smallwood ] || printf -- '---|'; done
     echo
@@ -68,7 +60,7 @@ instructions() {
             "$build/bench" row "$operation" "$size"
             ratios=
             for name in $names; do
-                if lacks "$name" "$operation"; then
+                if ! "$build/bench" has "$operation" "$size" "$name"; then
                     printf '| '
                     ratios="$ratios| "
                     continue

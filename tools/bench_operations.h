@@ -40,7 +40,8 @@ static const char *const operation_names[OPERATIONS] = {
 /* The zero bits that a proof's draw has to begin with; the proof that is checked has none. */
 static const uint32_t kappas[OPERATIONS] = {[PROVE_8] = 8, [PROVE_16] = 16};
 
-static const struct implementation implementations[] = {
+/* before_* is declared with the parameters of now; find_older finds out whether it has those of older.h. */
+static struct implementation implementations[] = {
     IMPLEMENTATION(smallwood),
 #ifdef BEFORE
     IMPLEMENTATION(before),
@@ -76,10 +77,12 @@ static const char *const shown_names[IMPLEMENTATIONS] = {
 #endif
 
 static const struct sizes all_sizes[] = {
-    {1, 1, 1, 1, 1, 1, 1},      {4, 4, 2, 2, 4, 1, 1},      {6, 8, 4, 4, 8, 2, 1},
-    {8, 16, 8, 8, 16, 2, 2},    {10, 32, 16, 8, 32, 3, 4},  {12, 64, 16, 16, 64, 4, 8},
-    {12, 64, 1, 256, 64, 4, 8}, {12, 64, 256, 1, 64, 4, 8}, {12, 8, 21, 1, 17, 2, 1},
-    {10, 16, 8, 4, 24, 2, 3},   {8, 4, 4, 4, 16, 1, 1},
+    {1, 1, 1, 1, 1, 1, 1, 0},      {4, 4, 2, 2, 4, 1, 1, 0},      {6, 8, 4, 4, 8, 2, 1, 0},
+    {8, 16, 8, 8, 16, 2, 2, 0},    {10, 32, 16, 8, 32, 3, 4, 0},  {12, 64, 16, 16, 64, 4, 8, 0},
+    {12, 64, 1, 256, 64, 4, 8, 0}, {12, 64, 256, 1, 64, 4, 8, 0}, {12, 8, 21, 1, 17, 2, 1, 0},
+    {10, 16, 8, 4, 24, 2, 3, 0},   {8, 4, 4, 4, 16, 1, 1, 0},
+    /* as many blinding rows as points: three of the sizes above, the second with as many rows in all */
+    {8, 16, 8, 8, 16, 2, 2, 2},    {12, 56, 16, 16, 64, 4, 8, 8}, {10, 16, 8, 4, 24, 2, 3, 3},
 };
 
 #define SIZES (sizeof all_sizes / sizeof all_sizes[0])
@@ -101,20 +104,37 @@ static uint32_t call(const struct implementation *with, enum operation operation
     case CHECK_PROOF:
         return check_proof_with(with, a, kappas[operation]);
     case DRAWN:
-        return with->check(a->question, a->question_bytes, a->proof + COUNTER_BYTES,
-                           a->proof_length - COUNTER_BYTES, a->values, a->value_bytes);
+        return check_bytes_with(with, a, a->proof + COUNTER_BYTES, a->proof_length - COUNTER_BYTES);
     default:
         return reply_length_with(with, a);
     }
 }
 
-/* An older library may lack what a proof needs. */
-static int has_operation(size_t implementation, enum operation operation)
+/* Which implementations are older: by the answer to a question of now. */
+static void find_older(void)
+{
+    struct sizes least = {1, 1, 1, 1, 1, 1, 1, 0};
+
+    for (size_t i = 0; i < IMPLEMENTATIONS; i++) {
+        struct instance *a = make_instance(least);
+        ask(a);
+        implementations[i].older = reply_length_with(&implementations[i], a) != 0;
+        if (implementations[i].older && reply_length_with(&implementations[i], a) != 0)
+            fail("a library takes neither questions of version 2 nor of version 1");
+        free_instance(a);
+    }
+}
+
+/* An older library has no blinding rows, and may lack what a proof needs. It draws by another header, and so would
+ * try other counters. */
+static int has_operation(size_t implementation, enum operation operation, const struct sizes *s)
 {
     const struct implementation *with = &implementations[implementation];
 
+    if (with->older && (s->beta > 0 || operation == PROVE_8 || operation == PROVE_16))
+        return 0;
     if (operation == CHECK_PROOF)
-        return with->check_proof != NULL;
+        return with->check_proof != NULL && with->prove != NULL;
     return operation < PROVE || operation == DRAWN || with->prove != NULL;
 }
 
@@ -127,6 +147,15 @@ static void take_drawn_question(struct instance *a)
     indices = a->question + a->question_bytes - 2 * a->s.l;
     for (uint32_t b = 0; b < a->s.l; b++)
         a->indices[b] = (uint32_t)(indices[2 * b] | indices[2 * b + 1] << 8);
+    renew_older(a);
+}
+
+/* Older libraries check proofs of their own. */
+static void make_older_proofs(struct instance *a)
+{
+    for (size_t i = 0; i < IMPLEMENTATIONS; i++)
+        if (implementations[i].older && has_operation(i, PROVE, &a->s) && call(&implementations[i], PROVE, a) != 0)
+            fail("proving was refused");
 }
 
 /* An instance on which plain C has done what comes before the operation. It depends on nothing but the sizes. */
@@ -148,6 +177,7 @@ static struct instance *prepared(struct sizes s, enum operation operation)
         if (call(with, PROVE, a) != 0)
             fail("proving was refused");
         take_drawn_question(a);
+        make_older_proofs(a);
     }
     return a;
 }
@@ -191,20 +221,21 @@ static size_t outcome(struct instance *a, enum operation operation, uint8_t *cop
     return w.bytes + w.more;
 }
 
-/* All implementations have to leave the same. */
+/* All implementations have to leave the same, but for the proofs of older ones. */
 static void compare(struct instance *a, enum operation operation)
 {
     size_t bytes = outcome(a, operation, NULL);
     uint8_t *first = allocate(bytes), *other = allocate(bytes);
 
     for (size_t i = 0; i < IMPLEMENTATIONS; i++) {
-        if (!has_operation(i, operation))
+        int other_proof = implementations[i].older && operation == PROVE;
+        if (!has_operation(i, operation, &a->s))
             continue;
         outcome(a, operation, NULL);
         if (call(&implementations[i], operation, a) != 0)
             fail("an honest call was refused");
         outcome(a, operation, i == 0 ? first : other);
-        if (i > 0 && memcmp(first, other, bytes) != 0)
+        if (i > 0 && !other_proof && memcmp(first, other, bytes) != 0)
             fail("the implementations differ");
     }
     free(first);
@@ -229,7 +260,7 @@ static uint64_t permutations_of_counter(const struct instance *a)
  * each counter, and what a draw has beyond its first block. */
 static uint64_t permutations_of_draws(const struct instance *a, uint64_t counters)
 {
-    return permutations_of(1 + 14 + DIGEST_BYTES) + draw_string(a) / RATE_BYTES +
+    return permutations_of(1 + HEADER_BYTES + DIGEST_BYTES) + draw_string(a) / RATE_BYTES +
            counters * permutations_of_counter(a) + (DIGEST_BYTES + 8 * a->s.l - 1) / RATE_BYTES;
 }
 
@@ -246,7 +277,7 @@ static uint64_t permutations(const struct instance *a, enum operation operation)
 {
     const struct sizes *s = &a->s;
     uint64_t leaves = (uint64_t)1 << s->h;
-    uint64_t leaf = permutations_of(3 + 4 * (s->mu + s->eta) + 32);
+    uint64_t leaf = permutations_of(3 + 4 * record_of(s) + 32);
     uint64_t node = permutations_of(1 + 2 * DIGEST_BYTES);
 
     switch (operation) {
@@ -289,7 +320,7 @@ static void measure(struct instance *a, enum operation operation, int (*has)(siz
 
     for (size_t i = 0; i < IMPLEMENTATIONS; i++) {
         found[i] = (struct timing){0, 0};
-        if (has(i) && has_operation(i, operation))
+        if (has(i) && has_operation(i, operation, &a->s))
             had[count++] = i;
     }
     for (size_t r = 0; r < ROUNDS; r++)
@@ -303,7 +334,7 @@ static void measure(struct instance *a, enum operation operation, int (*has)(siz
 
 static void print_sizes(const struct sizes *s)
 {
-    printf("| %u | %u | %u | %u | %u | %u | %u ", s->h, s->mu, s->nu, s->w, s->l, s->eta, s->m);
+    printf("| %u | %u | %u | %u | %u | %u | %u | %u ", s->h, s->mu, s->nu, s->w, s->l, s->eta, s->m, s->beta);
 }
 
 static void begin_row(const struct instance *a, enum operation operation)
@@ -311,6 +342,10 @@ static void begin_row(const struct instance *a, enum operation operation)
     print_sizes(&a->s);
     printf("| %s | %" PRIu64 " ", operation_names[operation], permutations(a, operation));
 }
+
+/* How the tables that begin with the sizes are headed. */
+#define SIZES_HEAD "| h | mu | nu | w | l | eta | m | beta "
+#define SIZES_COLUMNS 8
 
 static int in_growth(size_t implementation)
 {
@@ -335,7 +370,7 @@ static void end_times_head(int columns)
     puts("|");
 }
 
-/* The times of a row, and their ratios; nothing where an older library has not the entry. */
+/* The times of a row, and their ratios; nothing where an older library cannot do it. */
 static void end_times_row(const struct timing *found, int decimals)
 {
     for (size_t i = 0; i < IMPLEMENTATIONS; i++)

@@ -7,10 +7,10 @@
 #define PERMUTATION_ROUNDS 501 /* pairs of runs of which the median is a permutation's time */
 #define PERMUTATION_CALLS 10
 
-/* All sizes, and one at which a counter stands over the border of two blocks, so that each takes two permutations. */
+/* All sizes, and one at which a counter ends its block, and the padding begins another: each takes two permutations. */
 #define PROOF_SIZES (SIZES + 1)
 
-static const struct sizes over_border = {8, 4, 25, 1, 16, 2, 1};
+static const struct sizes over_border = {8, 4, 36, 1, 16, 2, 1, 0};
 
 static struct sizes proof_sizes(size_t n)
 {
@@ -22,7 +22,8 @@ static struct instance *with_other_root(struct sizes s)
 {
     struct instance *a = prepared(s, CHECK);
 
-    a->question[14] ^= 1;
+    a->question[HEADER_BYTES] ^= 1;
+    renew_older(a);
     for (size_t i = 0; i < IMPLEMENTATIONS; i++)
         if (call(&implementations[i], CHECK, a) != 8)
             fail("another root was not refused");
@@ -33,7 +34,7 @@ static struct instance *with_other_root(struct sizes s)
  * leaf's string a block longer, by the permutations that it has more; the median of runs on both, one after the other. */
 static void time_permutations(double *seconds)
 {
-    struct sizes s = {7, 24, 1, 1, 64, 1, 1}; /* a leaf's string has 135 bytes, and the block's last is padding */
+    struct sizes s = {7, 24, 1, 1, 64, 1, 1, 0}; /* a leaf's string has 135 bytes, and the block's last is padding */
     static double found[PERMUTATION_ROUNDS];
     struct instance *shorter = with_other_root(s), *longer;
     double more;
@@ -89,8 +90,8 @@ struct proof_times {
 
 static int in_shares(size_t implementation)
 {
-    return in_growth(implementation) && has_operation(implementation, PROVE) &&
-           has_operation(implementation, CHECK_PROOF);
+    return in_growth(implementation) && has_operation(implementation, PROVE_16, &over_border) &&
+           has_operation(implementation, CHECK_PROOF, &over_border);
 }
 
 static void show_shares_row(const struct proof_times *t, const double *permutation)
@@ -119,11 +120,11 @@ static void show_shares(const struct proof_times *times)
     for (size_t i = 0; i < IMPLEMENTATIONS; i++)
         if (in_shares(i))
             printf("%s %.0f ns (%s)", i == 0 ? "" : ",", 1e9 * permutation[i], shown_names[i]);
-    printf(".\n\n| h | mu | nu | w | l | eta | m | counters tried | draws' permutations in a check ");
+    printf(".\n\n" SIZES_HEAD "| counters tried | draws' permutations in a check ");
     for (size_t i = 0; i < IMPLEMENTATIONS; i++)
         if (in_shares(i))
             printf("| a counter, %s | proving, %s | checking, %s ", shown_names[i], shown_names[i], shown_names[i]);
-    printf("|\n|---|---|---|---|---|---|---|---|---|");
+    printf("|\n|---|---|---|---|---|---|---|---|---|---|");
     for (size_t i = 0; i < IMPLEMENTATIONS; i++)
         if (in_shares(i))
             printf("---|---|---|");
@@ -142,8 +143,8 @@ static void show_proofs(void)
     printf("\nProofs. " TIMES_CAPTION " `prove` has kappa 0; `check, drawn` is the conversation's check of the reply in "
            "that proof, under the question so drawn. Permutations of a `prove` are those of its draws.\n\n",
            ROUNDS);
-    printf("| h | mu | nu | w | l | eta | m | operation | permutations | kappa | counters tried ");
-    end_times_head(11);
+    printf(SIZES_HEAD "| operation | permutations | kappa | counters tried ");
+    end_times_head(SIZES_COLUMNS + 4);
     for (size_t n = 0; n < PROOF_SIZES; n++)
         times[n].tried = show_proof_rows(proof_sizes(n), times[n].least, &times[n].draws);
     show_shares(times);

@@ -1,7 +1,7 @@
 /* Calls the entries of a linked archive for requests on standard input, one after the other.
  *
  * Request:  kind ('c' commit, 'l' reply_length, 'o' open, 'k' check, 'p' prove, 'q' check_proof); the 32-bit
- *           numbers that the entry takes (for 'c' six sizes, for 'p' kappa and limit, for 'q' kappa); for 'l',
+ *           numbers that the entry takes (for 'c' seven sizes, for 'p' kappa and limit, for 'q' kappa); for 'l',
  *           'o' and 'p' the 64-bit length as it stands before the call; then each slice in the entry's order:
  *           a 32-bit number of elements and the elements.
  * Answer:   the 32-bit number returned, the 64-bit length after the call (0 where it has none), 32-bit flags
@@ -35,7 +35,7 @@ enum place {
     PLACES
 };
 
-#define SLICES 8
+#define SLICES 9
 #define GUARD 64
 #define GUARD_BYTE 0xa5
 #define ARENA ((size_t)16 << 20)
@@ -155,7 +155,7 @@ static void take_slice(size_t width)
 #define WORDS(i) (uint32_t *)(void *)slices[i].lent, slices[i].count
 #define BYTES(i) slices[i].lent, slices[i].count
 
-#define NUMBERS 6
+#define NUMBERS 7
 
 /* The entries: the kind of their requests, how many numbers they take, whether they write a length, how many slices
  * they take, and the bytes of an element in each. */
@@ -165,11 +165,11 @@ static const struct entry {
     int writes_length;
     size_t count, widths[SLICES];
 } entries[] = {
-    {'c', 6, 0, 6, {4, 4, 4, 1, 4, 1}},
+    {'c', 7, 0, 7, {4, 4, 4, 4, 1, 4, 1}},
     {'l', 0, 1, 1, {1}},
-    {'o', 0, 1, 8, {1, 4, 4, 4, 4, 1, 1, 1}},
+    {'o', 0, 1, 9, {1, 4, 4, 4, 4, 4, 1, 1, 1}},
     {'k', 0, 0, 3, {1, 1, 1}},
-    {'p', 2, 1, 8, {1, 4, 4, 4, 4, 1, 1, 1}},
+    {'p', 2, 1, 9, {1, 4, 4, 4, 4, 4, 1, 1, 1}},
     {'q', 1, 0, 3, {1, 1, 1}},
 };
 
@@ -185,16 +185,16 @@ static const struct entry *entry_of(int kind)
 static uint32_t call(int kind, const uint32_t n[NUMBERS], uint64_t *length)
 {
     if (kind == 'c')
-        return smallwood_commit(n[0], n[1], n[2], n[3], n[4], n[5], WORDS(0), WORDS(1), WORDS(2),
-                                BYTES(3), WORDS(4), BYTES(5));
+        return smallwood_commit(n[0], n[1], n[2], n[3], n[4], n[5], n[6], WORDS(0), WORDS(1),
+                                WORDS(2), WORDS(3), BYTES(4), WORDS(5), BYTES(6));
     if (kind == 'l')
         return smallwood_reply_length(BYTES(0), length);
     if (kind == 'o')
-        return smallwood_open(BYTES(0), WORDS(1), WORDS(2), WORDS(3), WORDS(4), BYTES(5), BYTES(6),
-                              BYTES(7), length);
+        return smallwood_open(BYTES(0), WORDS(1), WORDS(2), WORDS(3), WORDS(4), WORDS(5), BYTES(6),
+                              BYTES(7), BYTES(8), length);
     if (kind == 'p')
-        return smallwood_prove(BYTES(0), n[0], n[1], WORDS(1), WORDS(2), WORDS(3), WORDS(4), BYTES(5),
-                               BYTES(6), BYTES(7), length);
+        return smallwood_prove(BYTES(0), n[0], n[1], WORDS(1), WORDS(2), WORDS(3), WORDS(4), WORDS(5),
+                               BYTES(6), BYTES(7), BYTES(8), length);
     if (kind == 'q')
         return smallwood_check_proof(BYTES(0), n[0], BYTES(1), BYTES(2));
     return smallwood_check(BYTES(0), BYTES(1), BYTES(2));

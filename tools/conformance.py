@@ -34,9 +34,9 @@ UNTOUCHED = 0x1122334455667788  # the length before a call that may write it
 KINDS = {"commit": b"c", "length": b"l", "open": b"o", "check": b"k", "prove": b"p", "proof": b"q"}
 FLAGS = {1: "bytes beside a slice changed", 2: "the outcome depends on where the slices stand"}
 
-COMMIT_SLICES = ("coefficients", "tails", "masks", "nonces", "table", "tree")
+COMMIT_SLICES = ("coefficients", "tails", "blinds", "masks", "nonces", "table", "tree")
 LENGTH_SLICES = ("question",)
-OPEN_SLICES = ("question", "coefficients", "tails", "masks", "table", "nonces", "tree", "buffer")
+OPEN_SLICES = ("question", "coefficients", "tails", "blinds", "masks", "table", "nonces", "tree", "buffer")
 CHECK_SLICES = ("question", "reply", "buffer")
 PROOF_SLICES = ("question", "proof", "buffer")
 
@@ -68,7 +68,7 @@ def raw(contents):
 
 
 def commit(label, sizes, slices, number, after):
-    return Call(label, "commit", struct.pack("<6I", *sizes), slices, number, 0, after)
+    return Call(label, "commit", struct.pack("<7I", *sizes), slices, number, 0, after)
 
 
 def written(length):
@@ -111,7 +111,7 @@ def call_of(case):
     if isinstance(case, CommitCall):
         slices = {name: getattr(case, name) for name in COMMIT_SLICES}
         after = {"table": case.table_after, "tree": case.tree_after}
-        return commit(case.label, case[1:7], slices, case.number, after)
+        return commit(case.label, case[1:8], slices, case.number, after)
     if isinstance(case, LengthCall):
         slices = {name: getattr(case, name) for name in LENGTH_SLICES}
         return reply_length(case.label, slices, case.number, case.length)
@@ -127,9 +127,10 @@ def empty_calls():
         return dict(dict.fromkeys(names, b""), **others)
 
     question = case_p().question()
-    yield commit("empty: commit, sizes 1", [1] * 6, empty(COMMIT_SLICES), 2, {})
-    yield commit("empty: commit, sizes 0", [0] * 6, empty(COMMIT_SLICES), 1, {})
-    yield commit("empty: commit, sizes 2^32 - 1", [2**32 - 1] * 6, empty(COMMIT_SLICES), 1, {})
+    yield commit("empty: commit, sizes 1", [1] * 7, empty(COMMIT_SLICES), 2, {})
+    yield commit("empty: commit, sizes 1 and beta 0", [1] * 6 + [0], empty(COMMIT_SLICES), 2, {})
+    yield commit("empty: commit, sizes 0", [0] * 7, empty(COMMIT_SLICES), 1, {})
+    yield commit("empty: commit, sizes 2^32 - 1", [2**32 - 1] * 7, empty(COMMIT_SLICES), 1, {})
     yield reply_length("empty: length", empty(LENGTH_SLICES), 6, None)
     yield opened("empty: open", empty(OPEN_SLICES), 6, None, {})
     yield opened("empty: open, but the question", empty(OPEN_SLICES, question=question), 2, None, {})
@@ -248,7 +249,7 @@ def program_groups(checks, every):
     chosen = [call for call in checks if not call.label.startswith("buffer")][::every]
     inputs = (program_case(call.label, call.before[0] + call.before[1]) for call in chosen)
     data = [d.question() + d.reply() for d in small_drafts() + large_drafts()]
-    data += [b"", b"SWQ", bytes(13), bytes(65536), bytes(65537), data[-1] + bytes(65536)]
+    data += [b"", b"SWQ", bytes(14), bytes(65536), bytes(65537), data[-1] + bytes(65536)]
     pieces = (program_case("program: in pieces, input %d" % n, each) for n, each in enumerate(data))
     yield "program borders", program_borders(), run_whole
     yield "program inputs", inputs, run_whole

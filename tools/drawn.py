@@ -5,7 +5,7 @@ The second implementation alone tells the expected outcomes. A block of inputs d
 
 import paths  # noqa: F401  (makes the modules below importable)
 import smallwood as S
-from calls import CommitCall, LengthCall, OpenCall, off_by, with_word
+from calls import COMMIT_SIZES, CommitCall, LengthCall, OpenCall, commit_label, off_by, with_word
 from cases import check_case
 from drafts import (
     LAST_WORD, Draft, ProofDraft, Source, add, ask, committed, drawn_question, honest, lend, name, outputs, product,
@@ -46,14 +46,14 @@ def leaf_value_rehashed(src, d):
 
 def row_hidden(src, d):
     """A row value that no repetition sees."""
-    d.compensate(place(src, d.leaves), src.below(d.sizes.mu), src.nonzero(), range(d.sizes.eta))
+    d.compensate(place(src, d.leaves), src.below(d.sizes.rows), src.nonzero(), range(d.sizes.eta))
     rehash(src, d)
 
 
 def row_seen_once(src, d):
     seen = place(src, d.challenges)
     fitted = [k for k in range(d.sizes.eta) if k != seen]
-    d.compensate(place(src, d.leaves), src.below(d.sizes.mu), src.nonzero(), fitted)
+    d.compensate(place(src, d.leaves), src.below(d.sizes.rows), src.nonzero(), fitted)
     rehash(src, d)
 
 
@@ -212,8 +212,17 @@ def bad_size(src, q, r, size):
 
 
 def header_byte(src, q, r, size):
-    at = src.below(14)
+    at = src.below(S.HEADER_BYTES)
     return q[:at] + bytes([src.pick((0, 1, 2, 3, src.below(256)))]) + q[at + 1 :], r, size
+
+
+def other_blinding(src, q, r, size):
+    """Another number of blinding rows, often with as many rows in all."""
+    if len(q) < S.HEADER_BYTES:
+        return q, r, size
+    mu, beta = q[6], src.pick((0, 1, q[6], q[14] ^ 1, src.below(20)))
+    mu = src.pick((mu, (mu + q[14] - beta) % 256))
+    return q[:6] + bytes([mu]) + q[7:14] + bytes([beta % 256]) + q[15:], r, size
 
 
 def buffer_length(src, q, r, size):
@@ -234,13 +243,14 @@ PART_FAULTS = (
 )  # fmt: skip
 
 BYTE_FAULTS = (
-    question_byte, reply_byte, question_length, reply_length, mark, bad_size, header_byte, buffer_length, boundary,
+    question_byte, reply_byte, question_length, reply_length, mark, bad_size, header_byte, other_blinding,
+    buffer_length, boundary,
 )  # fmt: skip
 
 # Those that the question may show.
 QUESTION_FAULTS = (
     challenge, point, exchanged, index, large_word, second_encoding, question_byte, question_length, mark, bad_size,
-    header_byte,
+    header_byte, other_blinding,
 )  # fmt: skip
 
 
@@ -395,11 +405,11 @@ class Pool:
         if src.below(3) == 0:
             label += self.slice_fault(given)
         if src.below(8) == 0:
-            field = src.pick(("h", "mu", "nu", "w", "l", "eta"))
+            field = src.pick(COMMIT_SIZES)
             s = s._replace(**{field: src.pick((0, getattr(s, field) + 1, src.below(300), src.below(2**32)))})
             label += ", size %s" % field
-        found = S.commit(*s[:6], *given.values())
-        return CommitCall("%s [h%d mu%d nu%d w%d l%d eta%d]" % (label, *s[:6]), *s[:6], *given.values(), *found)
+        found = S.commit(*s.of_commitment, *given.values())
+        return CommitCall(commit_label(label, s), *s.of_commitment, *given.values(), *found)
 
     def open_call(self):
         """A call of the opener, with a fault in one of three."""
@@ -425,7 +435,7 @@ class Pool:
         src = self.src
         part = src.pick(list(given))
         whole = given[part]
-        if src.below(3) == 0:
+        if len(whole) == 0 or src.below(3) == 0:
             given[part] = off_by(whole, src.pick((-1, 1, 32, -len(whole))))
             return ", length of %s" % part
         at = src.pick((-1, src.below(len(whole))))

@@ -1,5 +1,7 @@
 #include "instance.h"
 
+#include "older.h"
+
 #include <stdio.h>
 #include <stdlib.h>
 #include <string.h>
@@ -56,6 +58,16 @@ size_t width_of(const struct sizes *s)
     return (size_t)s->w * s->nu + s->l;
 }
 
+size_t coefficients_each(const struct sizes *s)
+{
+    return (size_t)s->mu * s->nu + s->beta;
+}
+
+size_t record_of(const struct sizes *s)
+{
+    return (size_t)s->mu + s->beta + s->eta;
+}
+
 size_t nodes_above(const struct instance *a)
 {
     size_t nodes = 0;
@@ -68,8 +80,7 @@ size_t nodes_above(const struct instance *a)
 
 static size_t reply_with(const struct sizes *s, size_t nodes)
 {
-    return 4 * width_of(s) * (s->eta + s->m) + (4 * (size_t)(s->mu + s->eta) + 32) * s->l +
-           32 * nodes;
+    return 4 * width_of(s) * (s->eta + s->m) + (4 * record_of(s) + 32) * s->l + 32 * nodes;
 }
 
 void set_points(struct instance *a, uint32_t m)
@@ -77,9 +88,9 @@ void set_points(struct instance *a, uint32_t m)
     struct sizes *s = &a->s;
 
     s->m = m;
-    a->question_bytes = 14 + 32 + 4 * (s->eta + m) + 2 * s->l;
+    a->question_bytes = HEADER_BYTES + 32 + 4 * (s->eta + m) + 2 * s->l;
     a->value_bytes = 4 * (size_t)s->w * m;
-    a->proof_question_bytes = 14 + 32 + 4 * m;
+    a->proof_question_bytes = HEADER_BYTES + 32 + 4 * m;
     a->proof_bytes = 4 + reply_with(s, (size_t)s->l * s->h);
 }
 
@@ -89,14 +100,16 @@ struct instance *make_instance(struct sizes s)
     size_t leaves = (size_t)1 << s.h;
 
     a->s = s;
-    a->coefficient_count = (size_t)s.mu * s.nu * s.w;
-    a->tail_count = (size_t)s.mu * s.l;
+    a->coefficient_count = s.w * coefficients_each(&s);
+    a->tail_count = (size_t)(s.mu + s.beta) * s.l;
+    a->blind_count = (size_t)s.w * (s.nu - 1) * s.beta;
     a->mask_count = s.eta * width_of(&s);
-    a->table_count = leaves * (s.mu + s.eta);
+    a->table_count = leaves * record_of(&s);
     a->nonce_bytes = 32 * leaves;
     a->tree_bytes = 32 * (2 * leaves - 1);
     a->coefficients = draw_elements(a->coefficient_count);
     a->tails = draw_elements(a->tail_count);
+    a->blinds = draw_elements(a->blind_count);
     a->masks = draw_elements(a->mask_count);
     a->table = allocate(4 * a->table_count);
     a->nonces = allocate(a->nonce_bytes);
@@ -109,6 +122,9 @@ struct instance *make_instance(struct sizes s)
     a->values = allocate(a->value_bytes);
     a->proof_question = allocate(a->proof_question_bytes);
     a->proof = allocate(a->proof_bytes);
+    a->older_question = allocate(a->question_bytes);
+    a->older_proof_question = allocate(a->proof_question_bytes);
+    a->older_proof = allocate(a->proof_bytes);
     set_points(a, s.m);
     return a;
 }
@@ -117,6 +133,7 @@ void free_instance(struct instance *a)
 {
     free(a->coefficients);
     free(a->tails);
+    free(a->blinds);
     free(a->masks);
     free(a->table);
     free(a->nonces);
@@ -126,6 +143,9 @@ void free_instance(struct instance *a)
     free(a->values);
     free(a->proof_question);
     free(a->proof);
+    free(a->older_question);
+    free(a->older_proof_question);
+    free(a->older_proof);
     free(a);
 }
 
@@ -136,16 +156,30 @@ uint8_t *put(uint8_t *to, uint32_t number, int bytes)
     return to;
 }
 
+/* A question as version 1 had it. */
+static void put_older(uint8_t *to, const uint8_t *question, size_t bytes)
+{
+    memcpy(to, question, HEADER_BYTES - 1);
+    to[3] = 1;
+    memcpy(to + HEADER_BYTES - 1, question + HEADER_BYTES, bytes - HEADER_BYTES);
+}
+
+void renew_older(struct instance *a)
+{
+    put_older(a->older_question, a->question, a->question_bytes);
+    put_older(a->older_proof_question, a->proof_question, a->proof_question_bytes);
+}
+
 void ask(struct instance *a)
 {
     const struct sizes *s = &a->s;
     uint32_t leaves = (uint32_t)1 << s->h, taken = 0;
     uint8_t *to = a->question;
 
-    memcpy(to, "SWQ\1", 5);
+    memcpy(to, "SWQ\2", 5);
     to = put(put(to + 5, s->h, 1), s->mu, 1);
     to = put(put(to, s->nu, 2), s->w, 2);
-    to = put(put(put(to, s->l, 1), s->eta, 1), s->m, 1);
+    to = put(put(put(put(to, s->l, 1), s->eta, 1), s->m, 1), s->beta, 1);
     memcpy(to, a->tree + a->tree_bytes - 32, 32);
     to += 32;
     for (uint32_t k = 0; k < s->eta; k++)
@@ -160,52 +194,76 @@ void ask(struct instance *a)
             a->indices[taken++] = i;
             to = put(to, i, 2);
         }
-    memcpy(a->proof_question, a->question, 14 + 32);
-    memcpy(a->proof_question + 14 + 32, a->question + 14 + 32 + 4 * s->eta, 4 * s->m);
+    memcpy(a->proof_question, a->question, HEADER_BYTES + 32);
+    memcpy(a->proof_question + HEADER_BYTES + 32, a->question + HEADER_BYTES + 32 + 4 * s->eta, 4 * s->m);
+    renew_older(a);
     /* Of the 2 n children of the n nodes above the opened leaves, l are these leaves and n - 1 such nodes;
      * the others are missing. */
     a->reply_bytes = reply_with(s, nodes_above(a) + 1 - s->l);
 }
 
+/* What several entries are lent, one after the other. */
+#define POLYNOMIALS a->coefficients, a->coefficient_count, a->tails, a->tail_count
+#define BLINDS a->blinds, a->blind_count
+#define MASKS a->masks, a->mask_count
+#define COMMITTED a->table, a->table_count, a->nonces, a->nonce_bytes, a->tree, a->tree_bytes
+#define QUESTION a->question, a->question_bytes
+#define OLDER_QUESTION a->older_question, a->question_bytes - 1
+#define PROOF_QUESTION a->proof_question, a->proof_question_bytes
+#define OLDER_PROOF_QUESTION a->older_proof_question, a->proof_question_bytes - 1
+
 uint32_t commit_with(const struct implementation *with, struct instance *a)
 {
     const struct sizes *s = &a->s;
 
-    return with->commit(s->h, s->mu, s->nu, s->w, s->l, s->eta, a->coefficients,
-                        a->coefficient_count, a->tails, a->tail_count, a->masks, a->mask_count,
-                        a->nonces, a->nonce_bytes, a->table, a->table_count, a->tree,
-                        a->tree_bytes);
+    if (with->older)
+        return AS_OLDER(older_commit, with->commit)(s->h, s->mu, s->nu, s->w, s->l, s->eta, POLYNOMIALS, MASKS,
+                                                    a->nonces, a->nonce_bytes, a->table, a->table_count, a->tree,
+                                                    a->tree_bytes);
+    return with->commit(s->h, s->mu, s->nu, s->w, s->l, s->eta, s->beta, POLYNOMIALS, BLINDS, MASKS, a->nonces,
+                        a->nonce_bytes, a->table, a->table_count, a->tree, a->tree_bytes);
 }
 
 uint32_t reply_length_with(const struct implementation *with, struct instance *a)
 {
-    return with->reply_length(a->question, a->question_bytes, &a->length);
+    if (with->older)
+        return with->reply_length(OLDER_QUESTION, &a->length);
+    return with->reply_length(QUESTION, &a->length);
 }
 
 uint32_t open_with(const struct implementation *with, struct instance *a)
 {
-    return with->open(a->question, a->question_bytes, a->coefficients, a->coefficient_count,
-                      a->tails, a->tail_count, a->masks, a->mask_count, a->table, a->table_count,
-                      a->nonces, a->nonce_bytes, a->tree, a->tree_bytes, a->reply, a->reply_bytes,
-                      &a->length);
+    if (with->older)
+        return AS_OLDER(older_open, with->open)(OLDER_QUESTION, POLYNOMIALS, MASKS, COMMITTED, a->reply,
+                                                a->reply_bytes, &a->length);
+    return with->open(QUESTION, POLYNOMIALS, BLINDS, MASKS, COMMITTED, a->reply, a->reply_bytes, &a->length);
+}
+
+uint32_t check_bytes_with(const struct implementation *with, struct instance *a, const uint8_t *reply, size_t bytes)
+{
+    if (with->older)
+        return with->check(OLDER_QUESTION, reply, bytes, a->values, a->value_bytes);
+    return with->check(QUESTION, reply, bytes, a->values, a->value_bytes);
 }
 
 uint32_t check_with(const struct implementation *with, struct instance *a)
 {
-    return with->check(a->question, a->question_bytes, a->reply, a->length, a->values,
-                       a->value_bytes);
+    return check_bytes_with(with, a, a->reply, a->length);
 }
 
 uint32_t prove_with(const struct implementation *with, struct instance *a, uint32_t kappa, uint32_t limit)
 {
-    return with->prove(a->proof_question, a->proof_question_bytes, kappa, limit, a->coefficients,
-                       a->coefficient_count, a->tails, a->tail_count, a->masks, a->mask_count, a->table,
-                       a->table_count, a->nonces, a->nonce_bytes, a->tree, a->tree_bytes, a->proof,
+    if (with->older)
+        return AS_OLDER(older_prove, with->prove)(OLDER_PROOF_QUESTION, kappa, limit, POLYNOMIALS, MASKS, COMMITTED,
+                                                  a->older_proof, a->proof_bytes, &a->older_proof_length);
+    return with->prove(PROOF_QUESTION, kappa, limit, POLYNOMIALS, BLINDS, MASKS, COMMITTED, a->proof,
                        a->proof_bytes, &a->proof_length);
 }
 
 uint32_t check_proof_with(const struct implementation *with, struct instance *a, uint32_t kappa)
 {
-    return with->check_proof(a->proof_question, a->proof_question_bytes, kappa, a->proof, a->proof_length,
-                             a->values, a->value_bytes);
+    if (with->older)
+        return with->check_proof(OLDER_PROOF_QUESTION, kappa, a->older_proof, a->older_proof_length, a->values,
+                                 a->value_bytes);
+    return with->check_proof(PROOF_QUESTION, kappa, a->proof, a->proof_length, a->values, a->value_bytes);
 }

@@ -6,46 +6,55 @@
 
 #define Q 4294967291u
 #define MAX_POINTS 8
+#define HEADER_BYTES 15
 
 struct sizes {
-    uint32_t h, mu, nu, w, l, eta, m;
+    uint32_t h, mu, nu, w, l, eta, m, beta;
 };
 
 /* What the entries are lent, with lengths in elements, and the drawn question's points and indices. */
 struct instance {
     struct sizes s;
-    size_t coefficient_count, tail_count, mask_count, table_count;
+    size_t coefficient_count, tail_count, blind_count, mask_count, table_count;
     size_t nonce_bytes, tree_bytes, question_bytes, value_bytes;
     size_t reply_bytes; /* of the drawn question's reply, counted without the library */
-    uint32_t *coefficients, *tails, *masks, *table;
+    uint32_t *coefficients, *tails, *blinds, *masks, *table;
     uint8_t *nonces, *tree, *question, *reply, *values;
     uint64_t length; /* of the reply, as an entry wrote it */
     size_t proof_question_bytes, proof_bytes; /* the latter of the buffer */
     uint8_t *proof_question, *proof;
     uint64_t proof_length; /* as an entry wrote it */
     uint32_t points[MAX_POINTS], indices[64];
+    /* For an older library: the questions as it takes them, and the proof that it makes, drawn by its own header. */
+    uint8_t *older_question, *older_proof_question, *older_proof;
+    uint64_t older_proof_length;
 };
 
-/* The entries under one name. */
+/* The entries under one name. With `older` commit, open and prove are those of older.h, and can do without blinding
+ * rows only. */
 struct implementation {
     const char *name;
-    uint32_t (*commit)(uint32_t, uint32_t, uint32_t, uint32_t, uint32_t, uint32_t, const uint32_t *,
-                       size_t, const uint32_t *, size_t, const uint32_t *, size_t, const uint8_t *,
-                       size_t, uint32_t *, size_t, uint8_t *, size_t);
+    uint32_t (*commit)(uint32_t, uint32_t, uint32_t, uint32_t, uint32_t, uint32_t, uint32_t,
+                       const uint32_t *, size_t, const uint32_t *, size_t, const uint32_t *, size_t,
+                       const uint32_t *, size_t, const uint8_t *, size_t, uint32_t *, size_t,
+                       uint8_t *, size_t);
     uint32_t (*reply_length)(const uint8_t *, size_t, uint64_t *);
     uint32_t (*open)(const uint8_t *, size_t, const uint32_t *, size_t, const uint32_t *, size_t,
-                     const uint32_t *, size_t, const uint32_t *, size_t, const uint8_t *, size_t,
-                     const uint8_t *, size_t, uint8_t *, size_t, uint64_t *);
+                     const uint32_t *, size_t, const uint32_t *, size_t, const uint32_t *, size_t,
+                     const uint8_t *, size_t, const uint8_t *, size_t, uint8_t *, size_t,
+                     uint64_t *);
     uint32_t (*check)(const uint8_t *, size_t, const uint8_t *, size_t, uint8_t *, size_t);
-    uint32_t (*prove)(const uint8_t *, size_t, uint32_t, uint32_t, const uint32_t *, size_t, const uint32_t *, size_t,
-                      const uint32_t *, size_t, const uint32_t *, size_t, const uint8_t *, size_t, const uint8_t *,
-                      size_t, uint8_t *, size_t, uint64_t *);
+    uint32_t (*prove)(const uint8_t *, size_t, uint32_t, uint32_t, const uint32_t *, size_t,
+                      const uint32_t *, size_t, const uint32_t *, size_t, const uint32_t *, size_t,
+                      const uint32_t *, size_t, const uint8_t *, size_t, const uint8_t *, size_t,
+                      uint8_t *, size_t, uint64_t *);
     uint32_t (*check_proof)(const uint8_t *, size_t, uint32_t, const uint8_t *, size_t, uint8_t *, size_t);
+    int older;
 };
 
 #define IMPLEMENTATION(prefix)                                                                     \
     {#prefix,       prefix##_commit, prefix##_reply_length, prefix##_open, prefix##_check,        \
-     prefix##_prove, prefix##_check_proof}
+     prefix##_prove, prefix##_check_proof, 0}
 
 /* Ends the program with a message. */
 void fail(const char *message) __attribute__((noreturn));
@@ -57,7 +66,7 @@ void *allocate(size_t bytes);
 uint32_t draw_below(uint32_t bound);
 void draw_again(void);
 
-/* An instance with drawn coefficients, tails, masks and nonces; table and tree are empty. */
+/* An instance with drawn coefficients, tails, blinds, masks and nonces; table and tree are empty. */
 struct instance *make_instance(struct sizes s);
 void free_instance(struct instance *a);
 
@@ -67,16 +76,26 @@ void set_points(struct instance *a, uint32_t m);
 /* Draws a question to the commitment that the tree has, and a proof's question with the same points. */
 void ask(struct instance *a);
 
+/* Makes the older questions those that the others are now; without blinding rows only. */
+void renew_older(struct instance *a);
+
 /* How many nodes are above the drawn question's leaves, the root too. */
 size_t nodes_above(const struct instance *a);
 
 /* d + 1 */
 size_t width_of(const struct sizes *s);
 
+/* Of a polynomial's coefficients. */
+size_t coefficients_each(const struct sizes *s);
+
+/* Of a leaf's values: all rows, then masks. */
+size_t record_of(const struct sizes *s);
+
 uint32_t commit_with(const struct implementation *with, struct instance *a);
 uint32_t reply_length_with(const struct implementation *with, struct instance *a);
 uint32_t open_with(const struct implementation *with, struct instance *a);
 uint32_t check_with(const struct implementation *with, struct instance *a);
+uint32_t check_bytes_with(const struct implementation *with, struct instance *a, const uint8_t *reply, size_t bytes);
 uint32_t prove_with(const struct implementation *with, struct instance *a, uint32_t kappa, uint32_t limit);
 uint32_t check_proof_with(const struct implementation *with, struct instance *a, uint32_t kappa);
 

@@ -29,7 +29,7 @@ ENTRIES(smallwood);
 #define NUMBERS 13         /* that a call may return, from 0 on */
 #define MOST_KAPPA 8       /* of a drawn proof */
 #define COUNTER_BYTES 4
-#define MAX_QUESTION 222
+#define MAX_QUESTION 223
 
 static void differ(const char *what, size_t number, uint32_t found, uint32_t expected)
 {
@@ -168,8 +168,9 @@ static const struct implementation library = IMPLEMENTATION(smallwood);
 
 /* At least two leaves are opened, so that one of them is not leaf 0 and sees every coefficient of R. */
 static const struct sizes sizes[] = {
-    {2, 1, 1, 1, 2, 1, 1},   {5, 4, 2, 3, 5, 2, 1},      {8, 16, 8, 8, 20, 3, 1},
-    {9, 2, 1, 256, 64, 4, 1}, {12, 64, 16, 16, 64, 4, 1},
+    {2, 1, 1, 1, 2, 1, 1, 0},     {5, 4, 2, 3, 5, 2, 1, 0},        {5, 4, 2, 3, 5, 2, 1, 3},
+    {8, 16, 8, 8, 20, 3, 1, 2},   {9, 2, 1, 256, 64, 4, 1, 0},     {9, 2, 1, 256, 64, 4, 1, 2},
+    {12, 64, 16, 16, 64, 4, 1, 0}, {12, 48, 256, 1, 64, 4, 1, 16},
 };
 
 #define COMMITMENTS (sizeof sizes / sizeof sizes[0])
@@ -205,7 +206,7 @@ static uint32_t value_at(const uint32_t *coefficients, size_t count, uint32_t z)
 /* The polynomials' values, straight from the coefficients. */
 static void expect_polynomials(const struct instance *a)
 {
-    size_t each = (size_t)a->s.mu * a->s.nu;
+    size_t each = coefficients_each(&a->s);
     uint8_t *to = expected;
 
     for (uint32_t p = 0; p < a->s.m; p++)
@@ -218,7 +219,7 @@ static uint32_t number_of_damage(const struct instance *a, const uint8_t *reply,
 {
     const struct sizes *s = &a->s;
     size_t batchings = 4 * width_of(s) * s->eta, records = batchings + 4 * width_of(s) * s->m;
-    size_t record = 4 * (size_t)(s->mu + s->eta) + 32;
+    size_t record = 4 * record_of(s) + 32;
     uint32_t word;
 
     if (at >= records + record * s->l)

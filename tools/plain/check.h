@@ -61,13 +61,13 @@ static inline bool batchings_hold(const struct question *q, const struct reply *
     uint32_t factors[MAX_REPETITIONS][MAX_ROWS + 1], rows[MAX_REPETITIONS];
 
     for (uint32_t k = 0; k < s->eta; k++)
-        powers(q->challenges[k], factors[k], s->mu + 1);
+        powers(q->challenges[k], factors[k], s->rows + 1);
     for (uint32_t b = 0; b < s->l; b++) {
         struct power_table table;
         fill_power_table(q->opened.indices[b], &table, s->width);
-        dots(r->values[b], s->mu, factors[0] + 1, MAX_ROWS + 1, s->eta, rows);
+        dots(r->values[b], s->rows, factors[0] + 1, MAX_ROWS + 1, s->eta, rows);
         for (uint32_t k = 0; k < s->eta; k++)
-            if (evaluate(&table, r->batchings[k], s->width) != add(r->values[b][s->mu + k], rows[k]))
+            if (evaluate(&table, r->batchings[k], s->width) != add(r->values[b][s->rows + k], rows[k]))
                 return false;
     }
     return true;
@@ -98,7 +98,7 @@ static inline bool answers_hold(const struct question *q, const struct reply *r)
     if (tabled)
         fill_inverses(inverses, s->leaves + s->width);
     for (uint32_t p = 0; p < s->m; p++)
-        powers(q->points[p], factors[p], s->mu);
+        powers(q->points[p], factors[p], s->rows);
     for (uint32_t b = 0; b < s->l; b++) {
         uint32_t distance = s->leaves - q->opened.indices[b];
         sums[s->m] = 1;
@@ -106,7 +106,7 @@ static inline bool answers_hold(const struct question *q, const struct reply *r)
             fill_products(distance, products, s->width);
         dots(tabled ? inverses + distance : products, s->width, scaled[0], MAX_WIDTH, s->m + tabled,
              sums);
-        dots(r->values[b], s->mu, factors[0], MAX_ROWS, s->m, rows);
+        dots(r->values[b], s->rows, factors[0], MAX_ROWS, s->m, rows);
         for (uint32_t p = 0; p < s->m; p++)
             if (sums[p] != multiply(sums[s->m], rows[p]))
                 return false;

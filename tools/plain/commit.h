@@ -3,16 +3,12 @@
 #define COMMIT_H
 
 #include "bytes.h"
+#include "columns.h"
 #include "differences.h"
 #include "plain.h"
 #include "polynomials.h"
 #include "sizes.h"
 #include "tree.h"
-
-/* What is lent to the entry. */
-struct lent {
-    const uint32_t *coefficients, *tails, *masks;
-};
 
 /* The masks' values at N, N + 1, .., as many as the rows have. */
 static inline void fill_mask_values(const struct sizes *s, const uint32_t *masks,
@@ -26,15 +22,19 @@ static inline void fill_mask_values(const struct sizes *s, const uint32_t *masks
     }
 }
 
-/* The values at N, N + 1, .. of row `row`. Coefficient t mu + j of polynomial i stands at place
- * (i nu + t) mu + j: column by column, from row 0 down. */
-static inline void gather_row(const struct sizes *s, const struct lent *lent, uint32_t row, line *values,
-                              uint32_t lane)
+/* The values at N, N + 1, .. of the rows from `first` on. */
+static inline void gather_rows(const struct sizes *s, const struct lent *lent, uint32_t first, uint32_t count,
+                               line *values)
 {
-    for (uint32_t c = 0; c < s->columns; c++)
-        values[c][lane] = lent->coefficients[c * s->mu + row];
-    for (uint32_t b = 0; b < s->l; b++)
-        values[s->columns + b][lane] = lent->tails[row * s->l + b];
+    for (uint32_t c = 0; c < s->columns; c++) {
+        uint32_t room[MAX_ROWS];
+        const uint32_t *column = column_of(s, lent, c, room);
+        for (uint32_t j = 0; j < count; j++)
+            values[c][j] = column[first + j];
+    }
+    for (uint32_t j = 0; j < count; j++)
+        for (uint32_t b = 0; b < s->l; b++)
+            values[s->columns + b][j] = lent->tails[(first + j) * s->l + b];
 }
 
 /* The values at N - 1, .., 0 of the ladder's polynomials, to the columns from `first` on of the table. */
@@ -60,14 +60,14 @@ static inline void fill_table(const struct sizes *s, const struct lent *lent, ui
     fill_mask_values(s, lent->masks, mask_values);
     for (uint32_t first = 0; first < s->record; first += LANES) {
         uint32_t lanes = s->record - first < LANES ? s->record - first : LANES;
+        uint32_t rows = first > s->rows ? 0 : s->rows - first < lanes ? s->rows - first : lanes;
         line values[MAX_WIDTH], ladder[MAX_WIDTH];
         memset(values, 0, s->width * sizeof(line));
-        for (uint32_t j = 0; j < lanes; j++)
-            if (first + j < s->mu)
-                gather_row(s, lent, first + j, values, j);
-            else
-                for (uint32_t c = 0; c < s->width; c++)
-                    values[c][j] = mask_values[first + j - s->mu][c];
+        if (rows > 0)
+            gather_rows(s, lent, first, rows, values);
+        for (uint32_t j = rows; j < lanes; j++)
+            for (uint32_t c = 0; c < s->width; c++)
+                values[c][j] = mask_values[first + j - s->rows][c];
         build_ladder(values, s->width, lanes, ladder);
         walk_down(s, ladder, first, lanes, table);
     }
@@ -89,21 +89,22 @@ static inline void hash_leaves(const struct sizes *s, const uint32_t *table, con
 }
 
 uint32_t PLAIN(commit)(uint32_t h, uint32_t mu, uint32_t nu, uint32_t w, uint32_t l, uint32_t eta,
-                       const uint32_t *coefficients, size_t coefficient_count,
-                       const uint32_t *tails, size_t tail_count, const uint32_t *masks,
-                       size_t mask_count, const uint8_t *nonces, size_t nonce_bytes,
-                       uint32_t *table, size_t table_count, uint8_t *tree, size_t tree_bytes)
+                       uint32_t beta, const uint32_t *coefficients, size_t coefficient_count,
+                       const uint32_t *tails, size_t tail_count, const uint32_t *blinds,
+                       size_t blind_count, const uint32_t *masks, size_t mask_count,
+                       const uint8_t *nonces, size_t nonce_bytes, uint32_t *table,
+                       size_t table_count, uint8_t *tree, size_t tree_bytes)
 {
-    struct sizes s = {.h = h, .mu = mu, .nu = nu, .w = w, .l = l, .eta = eta, .m = 1};
-    struct lent lent = {coefficients, tails, masks};
+    struct sizes s = {.h = h, .mu = mu, .nu = nu, .w = w, .l = l, .eta = eta, .m = 1, .beta = beta};
+    struct lent lent = {coefficients, tails, blinds, masks};
 
     if (!complete(&s))
         return 1;
-    if (!lengths_hold(&s, coefficient_count, tail_count, mask_count, nonce_bytes, table_count,
-                      tree_bytes))
+    if (!lengths_hold(&s, coefficient_count, tail_count, blind_count, mask_count, nonce_bytes,
+                      table_count, tree_bytes))
         return 2;
     if (!are_elements(coefficients, coefficient_count) || !are_elements(tails, tail_count) ||
-        !are_elements(masks, mask_count))
+        !are_elements(blinds, blind_count) || !are_elements(masks, mask_count))
         return 3;
     fill_table(&s, &lent, table);
     hash_leaves(&s, table, nonces, tree);

@@ -155,20 +155,14 @@ void keccak_begin(struct counted *s, const uint8_t *string, size_t length)
     memset(s->first, 0, sizeof s->first);
     memcpy(ending, absorb_blocks(s->first, string, length), rest);
     s->two = end >= RATE_BYTES;
-    ending[end] ^= 0x1f;
-    ending[(s->two ? 2 : 1) * RATE_BYTES - 1] ^= 0x80;
+    ending[end] = 0x1f;
+    ending[(s->two ? 2 : 1) * RATE_BYTES - 1] = 0x80;
     for (size_t i = 0; i < RATE_LANES; i++)
         s->first[i] ^= load64(ending + 8 * i);
     for (size_t i = 0; i < RATE_LANES; i++)
         s->second[i] = load64(ending + RATE_BYTES + 8 * i);
     s->lane = rest / 8;
     s->shift = 8 * (unsigned)(rest % 8);
-}
-
-/* What of a counter stands in the next lane. */
-static inline uint64_t carried(const struct counted *s, uint32_t counter)
-{
-    return s->shift > 32 ? (uint64_t)counter >> (64 - s->shift) : 0;
 }
 
 void keccak_count(const struct counted *s, uint32_t counter, uint8_t *out, size_t bytes)
@@ -181,9 +175,6 @@ void keccak_count(const struct counted *s, uint32_t counter, uint8_t *out, size_
         permute(state);
         for (size_t i = 0; i < RATE_LANES; i++)
             state[i] ^= s->second[i];
-        state[0] ^= carried(s, counter);
-    } else {
-        state[s->lane + 1] ^= carried(s, counter);
     }
     permute(state);
     for (; bytes > RATE_BYTES; out += RATE_BYTES, bytes -= RATE_BYTES) {
@@ -233,9 +224,6 @@ void keccak_count_pair(const struct counted *s, uint32_t counter, uint64_t first
         permute_pair(state);
         for (size_t i = 0; i < RATE_LANES; i++)
             absorb_pair(state[i], s->second[i], s->second[i]);
-        absorb_pair(state[0], carried(s, counter), carried(s, next));
-    } else {
-        absorb_pair(state[s->lane + 1], carried(s, counter), carried(s, next));
     }
     permute_pair(state);
     first[0] = state[0][0];

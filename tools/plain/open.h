@@ -3,6 +3,7 @@
 #define OPEN_H
 
 #include "bytes.h"
+#include "columns.h"
 #include "interpolation.h"
 #include "plain.h"
 #include "question.h"
@@ -17,25 +18,25 @@ static inline void fill_factors(const struct question *q, uint32_t (*factors)[MA
 
     for (uint32_t k = 0; k < s->eta; k++) {
         uint32_t from_power_0[MAX_ROWS + 1];
-        powers(q->challenges[k], from_power_0, s->mu + 1);
-        copy(factors[k], from_power_0 + 1, 4 * s->mu);
+        powers(q->challenges[k], from_power_0, s->rows + 1);
+        copy(factors[k], from_power_0 + 1, 4 * s->rows);
     }
     for (uint32_t p = 0; p < s->m; p++)
-        powers(q->points[p], factors[s->eta + p], s->mu);
+        powers(q->points[p], factors[s->eta + p], s->rows);
 }
 
 /* For each column and tail, and each line of factors, the sum of factor j times the entry of row j. */
-static inline void combine(const struct sizes *s, uint32_t (*factors)[MAX_ROWS],
-                           const uint32_t *coefficients, const uint32_t *tails,
+static inline void combine(const struct sizes *s, uint32_t (*factors)[MAX_ROWS], const struct lent *lent,
                            uint32_t (*out)[MAX_COMBINATIONS])
 {
+    uint32_t room[MAX_ROWS];
+
     for (uint32_t c = 0; c < s->columns; c++)
-        dots(coefficients + c * s->mu, s->mu, factors[0], MAX_ROWS, s->eta + s->m, out[c]);
+        dots(column_of(s, lent, c, room), s->rows, factors[0], MAX_ROWS, s->eta + s->m, out[c]);
     for (uint32_t b = 0; b < s->l; b++) {
-        uint32_t column[MAX_ROWS];
-        for (uint32_t j = 0; j < s->mu; j++)
-            column[j] = tails[j * s->l + b];
-        dots(column, s->mu, factors[0], MAX_ROWS, s->eta + s->m, out[s->columns + b]);
+        for (uint32_t j = 0; j < s->rows; j++)
+            room[j] = lent->tails[j * s->l + b];
+        dots(room, s->rows, factors[0], MAX_ROWS, s->eta + s->m, out[s->columns + b]);
     }
 }
 
@@ -82,24 +83,24 @@ static inline uint8_t *store_records(const struct question *q, const uint32_t *t
 }
 
 /* All batching and evaluation answers. */
-static inline uint8_t *store_all_answers(const struct question *q, const uint32_t *coefficients,
-                                         const uint32_t *tails, const uint32_t *masks, uint8_t *to)
+static inline uint8_t *store_all_answers(const struct question *q, const struct lent *lent, uint8_t *to)
 {
     uint32_t factors[MAX_COMBINATIONS][MAX_ROWS], combined[MAX_WIDTH][MAX_COMBINATIONS];
 
     fill_factors(q, factors);
-    combine(&q->sizes, factors, coefficients, tails, combined);
-    to = store_batchings(&q->sizes, combined, masks, to);
+    combine(&q->sizes, factors, lent, combined);
+    to = store_batchings(&q->sizes, combined, lent->masks, to);
     return store_answers(&q->sizes, combined, to);
 }
 
 uint32_t PLAIN(open)(const uint8_t *question, size_t question_bytes, const uint32_t *coefficients,
                      size_t coefficient_count, const uint32_t *tails, size_t tail_count,
-                     const uint32_t *masks, size_t mask_count, const uint32_t *table,
-                     size_t table_count, const uint8_t *nonces, size_t nonce_bytes,
-                     const uint8_t *tree, size_t tree_bytes, uint8_t *reply, size_t reply_bytes,
-                     uint64_t *length)
+                     const uint32_t *blinds, size_t blind_count, const uint32_t *masks,
+                     size_t mask_count, const uint32_t *table, size_t table_count,
+                     const uint8_t *nonces, size_t nonce_bytes, const uint8_t *tree,
+                     size_t tree_bytes, uint8_t *reply, size_t reply_bytes, uint64_t *length)
 {
+    struct lent lent = {coefficients, tails, blinds, masks};
     struct question q;
     const struct sizes *s = &q.sizes;
     uint8_t *to = reply;
@@ -108,15 +109,16 @@ uint32_t PLAIN(open)(const uint8_t *question, size_t question_bytes, const uint3
     if (number != 0)
         return number;
     if (reply_bytes != exact_size(&q) ||
-        !lengths_hold(s, coefficient_count, tail_count, mask_count, nonce_bytes, table_count,
-                      tree_bytes))
+        !lengths_hold(s, coefficient_count, tail_count, blind_count, mask_count, nonce_bytes,
+                      table_count, tree_bytes))
         return 2;
     if (!are_elements(coefficients, coefficient_count) || !are_elements(tails, tail_count) ||
-        !are_elements(masks, mask_count) || !are_elements(table, table_count))
+        !are_elements(blinds, blind_count) || !are_elements(masks, mask_count) ||
+        !are_elements(table, table_count))
         return 3;
     if (memcmp(q.root, tree + tree_bytes - DIGEST_BYTES, DIGEST_BYTES) != 0)
         return 8;
-    to = store_all_answers(&q, coefficients, tails, masks, to);
+    to = store_all_answers(&q, &lent, to);
     to = store_records(&q, table, nonces, to);
     to = copy_missing(s->h, &q.opened, tree, to);
     *length = (uint64_t)(to - reply);

@@ -4,9 +4,9 @@
 #include <stdio.h>
 
 #define INPUT_LIMIT 65536
-#define HEADER_BYTES 14
+#define HEADER_BYTES 15
 
-/* The question's length and the number of values by the header; false when 14 bytes do not pass. */
+/* The question's length and the number of values by the header; false when 15 bytes do not pass. */
 static int split(const uint8_t *input, size_t length, size_t *question, uint32_t *w, uint32_t *m)
 {
     uint8_t none[1];

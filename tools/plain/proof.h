@@ -12,11 +12,13 @@
 
 uint32_t PLAIN(prove)(const uint8_t *question, size_t question_bytes, uint32_t kappa, uint32_t limit,
                       const uint32_t *coefficients, size_t coefficient_count, const uint32_t *tails,
-                      size_t tail_count, const uint32_t *masks, size_t mask_count,
-                      const uint32_t *table, size_t table_count, const uint8_t *nonces,
-                      size_t nonce_bytes, const uint8_t *tree, size_t tree_bytes, uint8_t *proof,
-                      size_t proof_bytes, uint64_t *length)
+                      size_t tail_count, const uint32_t *blinds, size_t blind_count,
+                      const uint32_t *masks, size_t mask_count, const uint32_t *table,
+                      size_t table_count, const uint8_t *nonces, size_t nonce_bytes,
+                      const uint8_t *tree, size_t tree_bytes, uint8_t *proof, size_t proof_bytes,
+                      uint64_t *length)
 {
+    struct lent lent = {coefficients, tails, blinds, masks};
     struct question q;
     struct draws d;
     const struct sizes *s = &q.sizes;
@@ -26,17 +28,18 @@ uint32_t PLAIN(prove)(const uint8_t *question, size_t question_bytes, uint32_t k
     if (number != 0)
         return number;
     if (proof_bytes != COUNTER_BYTES + reply_size(s, (size_t)s->l * s->h) ||
-        !lengths_hold(s, coefficient_count, tail_count, mask_count, nonce_bytes, table_count,
-                      tree_bytes))
+        !lengths_hold(s, coefficient_count, tail_count, blind_count, mask_count, nonce_bytes,
+                      table_count, tree_bytes))
         return 2;
     if (!are_elements(coefficients, coefficient_count) || !are_elements(tails, tail_count) ||
-        !are_elements(masks, mask_count) || !are_elements(table, table_count))
+        !are_elements(blinds, blind_count) || !are_elements(masks, mask_count) ||
+        !are_elements(table, table_count))
         return 3;
     if (memcmp(q.root, tree + tree_bytes - DIGEST_BYTES, DIGEST_BYTES) != 0)
         return 8;
     draw_challenges(question, &q);
     answers = begin_draws(&d, question, question_bytes);
-    hash_draws(&d, store_all_answers(&q, coefficients, tails, masks, answers));
+    hash_draws(&d, store_all_answers(&q, &lent, answers));
     if (!find_counter(&d, kappa, limit, &counter))
         return 11;
     draw_leaves(&d, counter, kappa, &q);

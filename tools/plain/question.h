@@ -6,7 +6,7 @@
 #include "sizes.h"
 #include "tree.h"
 
-#define HEADER_BYTES 14
+#define HEADER_BYTES 15
 
 struct question {
     struct sizes sizes;
@@ -18,7 +18,7 @@ struct question {
 
 static inline uint32_t read_header(const uint8_t *bytes, struct sizes *s)
 {
-    if (memcmp(bytes, "SWQ\1", 5) != 0)
+    if (memcmp(bytes, "SWQ\2", 5) != 0)
         return 5;
     s->h = bytes[5];
     s->mu = bytes[6];
@@ -27,6 +27,7 @@ static inline uint32_t read_header(const uint8_t *bytes, struct sizes *s)
     s->l = bytes[11];
     s->eta = bytes[12];
     s->m = bytes[13];
+    s->beta = bytes[14];
     return complete(s) ? 0 : 1;
 }
 

@@ -21,8 +21,9 @@ void keccak_digest(const uint8_t *string, size_t length, uint8_t digest[DIGEST_B
 void keccak_digests(const uint8_t *first, const uint8_t *second, size_t length, uint8_t *first_digest,
                     uint8_t *second_digest);
 
-/* A string up to its counter: the state before the counter and the next permutation, and where the counter goes. Where
- * the padding does not fit into that block, `second` is the one after it. */
+/* A string up to its counter: the state before the counter and the next permutation, and where the counter goes. The
+ * string's length is a multiple of the counter's, so that the counter stands in one lane. Where the padding does not
+ * fit into that block, `second` is the one after it. */
 struct counted {
     uint64_t first[25], second[RATE_BYTES / 8];
     size_t lane;

@@ -12,7 +12,8 @@
 
 /* The largest sizes. */
 #define MAX_LEAVES 4096
-#define MAX_ROWS 64
+#define MAX_ROWS 64 /* blinding rows too */
+#define MAX_BLINDING 16
 #define MAX_COLUMNS 256
 #define MAX_WIDTH 320
 #define MAX_OPENED 64
@@ -20,7 +21,9 @@
 #define MAX_POINTS 8
 
 struct sizes {
-    uint32_t h, mu, nu, w, l, eta, m;
+    uint32_t h, mu, nu, w, l, eta, m, beta;
+    uint32_t rows;    /* mu + beta */
+    uint32_t each;    /* coefficients of a polynomial */
     uint32_t leaves;  /* N */
     uint32_t columns; /* w nu */
     uint32_t width;   /* d + 1 */
@@ -32,12 +35,15 @@ static inline bool complete(struct sizes *s)
 {
     if (s->h < 1 || s->h > 12 || s->mu < 1 || s->mu > MAX_ROWS || s->nu < 1 || s->nu > MAX_COLUMNS ||
         s->w < 1 || s->w > MAX_COLUMNS || s->w * s->nu > MAX_COLUMNS || s->l < 1 ||
-        s->l > MAX_OPENED || s->eta < 1 || s->eta > MAX_REPETITIONS || s->m < 1 || s->m > MAX_POINTS)
+        s->l > MAX_OPENED || s->eta < 1 || s->eta > MAX_REPETITIONS || s->m < 1 || s->m > MAX_POINTS ||
+        s->beta > MAX_BLINDING || s->beta > s->mu || s->mu + s->beta > MAX_ROWS)
         return false;
+    s->rows = s->mu + s->beta;
+    s->each = s->mu * s->nu + s->beta;
     s->leaves = (uint32_t)1 << s->h;
     s->columns = s->w * s->nu;
     s->width = s->columns + s->l;
-    s->record = s->mu + s->eta;
+    s->record = s->rows + s->eta;
     return s->width <= s->leaves;
 }
 
@@ -59,10 +65,11 @@ static inline size_t reply_size(const struct sizes *s, size_t nodes)
 }
 
 /* Of what committing is lent, and opening after it. */
-static inline bool lengths_hold(const struct sizes *s, size_t coefficients, size_t tails, size_t masks,
-                                size_t nonces, size_t table, size_t tree)
+static inline bool lengths_hold(const struct sizes *s, size_t coefficients, size_t tails, size_t blinds,
+                                size_t masks, size_t nonces, size_t table, size_t tree)
 {
-    return coefficients == (size_t)s->mu * s->columns && tails == (size_t)s->mu * s->l &&
+    return coefficients == (size_t)s->w * s->each && tails == (size_t)s->rows * s->l &&
+           blinds == (size_t)s->w * (s->nu - 1) * s->beta &&
            masks == (size_t)s->eta * s->width && nonces == NONCE_BYTES * (size_t)s->leaves &&
            table == (size_t)s->leaves * s->record &&
            tree == DIGEST_BYTES * (2 * (size_t)s->leaves - 1);
