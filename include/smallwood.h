@@ -19,18 +19,23 @@
  * What a reply shows
  *
  *   One commitment answers one question, by a reply or by a proof, and the library keeps no state: the caller sees to it. Each
- *   commitment has tails, masks and nonces of its own, drawn uniformly. A proof shows what the reply in it shows.
+ *   commitment has tails, blinds, masks and nonces of its own, drawn uniformly. A proof shows what the reply in it shows.
  *
- *   Columns     For each point the reply has the value of every column: one linear equation on that column's mu coefficients. mu
- *               different points, over all questions, give every coefficient. With mu = 1 one reply shows them all.
+ *   Columns     For each point the reply has the value of every column. Of a polynomial with beta blinding rows they show its values at
+ *               the points, and no more, as long as at most beta different points are asked, none of them 0 (from the sources, and tried
+ *               at small sizes; not proved here). Every further point shows nu - 1 linear equations on the coefficients beside the value,
+ *               and mu + beta different points show every coefficient. With nu = 1 there is one column, and its value is the polynomial's.
+ *               An open or a prove compares neither m with beta nor, where the lengths are the same, a question's sizes with those that
+ *               were committed, and with others it shows more: compare both before either call.
  *   Leaves      At each opened leaf it has the value of every row's polynomial. A row's l tails cover l opened leaves in all.
  *   Masks       A mask covers one batching answer.
  *
  * What stays in memory
  *
  *   From the dead stack after a commit every mask and some whole rows can be computed, and after an open, at some sizes, a mask
- *   (measured). Overwrite 32 kilobytes of stack after either call, or call on a stack of your own and wipe that. A prove makes its answers
- *   as an open does: do the same after it. Coefficients, tails, masks, nonces and the table are the caller's to wipe.
+ *   (measured before there were blinding rows). Overwrite 32 kilobytes of stack after either call, or call on a stack of your own and wipe
+ *   that. A prove makes its answers as an open does: do the same after it. Coefficients, tails, blinds, masks, nonces and the table are
+ *   the caller's to wipe.
  *
  * What an accepted reply shows
  *
@@ -51,12 +56,12 @@
  *   0 where none of the tests below holds, and then the slices are filled. Otherwise the number of the first test that holds, and then
  *   every slice, and *length, is as it was: all tests come before the first write.
  *
- *    1   a size is outside its range, or w nu + l > N, or kappa is above 16
+ *    1   a size is outside its range, or w nu + l > N, or beta > mu, or mu + beta > 64, or kappa is above 16
  *    2   a lent slice is of wrong length
  *    3   an element is not below q
  *    4   the indices do not rise strictly, or one of them is not below N
  *    5   the mark or the version is wrong
- *    6   the question is under 14 bytes, or not of the length that its header gives
+ *    6   the question is under 15 bytes, or not of the length that its header gives
  *    7   the reply is not of its length, or the proof not of its
  *    8   the root differs
  *    9   a batching answer fails at an opened leaf
@@ -67,30 +72,32 @@
  * Sizes
  *
  *    h     depth of the tree, N = 2^h leaves         1 to 12
- *    mu    rows                                      1 to 64
+ *    mu    rows of coefficients                      1 to 64
  *    nu    columns per polynomial                    1 to 256
  *    w     polynomials                               1 to 256, and w nu at most 256
  *    l     opened leaves                             1 to 64, and w nu + l at most N
  *    eta   batching repetitions                      1 to 4
+ *    beta  blinding rows                             0 to 16, at most mu, and mu + beta at most 64
  *    m     evaluation points of a question           1 to 8
  *    kappa zero bits that a proof's draw begins with 0 to 16
  *
- *   Below, width is w nu + l: the number of coefficients of a row's polynomial.
+ *   There are mu + beta rows in all. Below, width is w nu + l: the number of coefficients of a row's polynomial.
  *
  * A question
  *
- *   "SWQ", version (2 bytes, 1), h, mu (1 byte each), nu, w (2 bytes each), l, eta, m (1 byte each): the header, 14 bytes.
+ *   "SWQ", version (2 bytes, 2), h, mu (1 byte each), nu, w (2 bytes each), l, eta, m, beta (1 byte each): the header, 15 bytes.
  *   Then the root (32 bytes), eta challenges and m points (4 bytes each, below q), l leaf indices (2 bytes each, strictly rising).
+ *   Version 1, whose header had no beta, is a 5.
  *
  * A reply
  *
- *   eta batching answers of width words each; for each point w nu column values and l tail values; for each index mu row values, eta mask
- *   values and a nonce of 32 bytes; then the missing nodes of the tree, 32 bytes each. Words take 4 bytes.
- *   Its length is 4 width (eta + m) + l (4 (mu + eta) + 32) + 32 for each missing node, of which there are at most l h.
+ *   eta batching answers of width words each; for each point w nu column values and l tail values; for each index mu + beta row values,
+ *   eta mask values and a nonce of 32 bytes; then the missing nodes of the tree, 32 bytes each. Words take 4 bytes.
+ *   Its length is 4 width (eta + m) + l (4 (mu + beta + eta) + 32) + 32 for each missing node, of which there are at most l h.
  *
  * A question of a proof
  *
- *   The header, as above; the root (32 bytes); m points (4 bytes each, below q): 46 + 4 m bytes. Challenges and indices are drawn by
+ *   The header, as above; the root (32 bytes); m points (4 bytes each, below q): 47 + 4 m bytes. Challenges and indices are drawn by
  *   hashing (the handbook has the strings). kappa stands in no bytes: whoever checks says how many zero bits he wants.
  *
  * A proof
@@ -111,22 +118,26 @@ extern "C" {
 #define SMALLWOOD_Q 4294967291u
 
 /*
- * Commits to w polynomials of mu nu coefficients each.
+ * Commits to w polynomials of mu nu + beta coefficients each.
  *
  *   Reads                                                                             length
- *     coefficients   polynomial by polynomial, lowest first; elements                 w mu nu
- *     tails          row by row; random elements                                      mu l
+ *     coefficients   polynomial by polynomial, lowest first; elements                 w (mu nu + beta)
+ *     tails          row by row; random elements                                      (mu + beta) l
+ *     blinds         polynomial by polynomial, column by column but for the last, row by row; random elements   w (nu - 1) beta
  *     masks          repetition by repetition, width coefficients each, lowest first; random elements   eta width
  *     nonces         leaf by leaf, 32 random bytes each                               32 N
  *   Fills
- *     table          leaf by leaf: mu row values, then eta mask values                N (mu + eta)
+ *     table          leaf by leaf: mu + beta row values, then eta mask values         N (mu + beta + eta)
  *     tree           leaf digests, then each level above; the root is the last 32 bytes   32 (2 N - 1)
  *
- * Returns 0, or the first of: 1; 2, for any of the six; 3, in coefficients, tails or masks.
+ * The values of the polynomials do not depend on the blinds. With nu = 1 or beta = 0 there are none: an empty slice.
+ *
+ * Returns 0, or the first of: 1; 2, for any of the seven; 3, in coefficients, tails, blinds or masks.
  */
-uint32_t smallwood_commit(uint32_t h, uint32_t mu, uint32_t nu, uint32_t w, uint32_t l, uint32_t eta,
+uint32_t smallwood_commit(uint32_t h, uint32_t mu, uint32_t nu, uint32_t w, uint32_t l, uint32_t eta, uint32_t beta,
                           const uint32_t *coefficients, size_t coefficients_length,
                           const uint32_t *tails, size_t tails_length,
+                          const uint32_t *blinds, size_t blinds_length,
                           const uint32_t *masks, size_t masks_length,
                           const uint8_t *nonces, size_t nonces_length,
                           uint32_t *table, size_t table_length,
@@ -138,7 +149,7 @@ uint32_t smallwood_commit(uint32_t h, uint32_t mu, uint32_t nu, uint32_t w, uint
  *   Fills
  *     length         the reply's length in bytes
  *
- * Returns 0, or the first of: 6, for under 14 bytes; 5; 1; 6, for another length than the header's; 3; 4.
+ * Returns 0, or the first of: 6, for under 15 bytes; 5; 1; 6, for another length than the header's; 3; 4.
  */
 uint32_t smallwood_reply_length(const uint8_t *question, size_t question_length, uint64_t *length);
 
@@ -150,12 +161,13 @@ uint32_t smallwood_reply_length(const uint8_t *question, size_t question_length,
  *     reply          the reply                                  what smallwood_reply_length gives, and no other
  *     length         the same number again
  *
- * Returns 0, or the first of: 6, 5, 1, 6, 3, 4 for the question, as above; 2, for any of the seven other slices; 3, in any lent words,
+ * Returns 0, or the first of: 6, 5, 1, 6, 3, 4 for the question, as above; 2, for any of the eight other slices; 3, in any lent words,
  * the table too; 8, where the tree's last 32 bytes are not the question's root.
  */
 uint32_t smallwood_open(const uint8_t *question, size_t question_length,
                         const uint32_t *coefficients, size_t coefficients_length,
                         const uint32_t *tails, size_t tails_length,
+                        const uint32_t *blinds, size_t blinds_length,
                         const uint32_t *masks, size_t masks_length,
                         const uint32_t *table, size_t table_length,
                         const uint8_t *nonces, size_t nonces_length,
@@ -182,16 +194,16 @@ uint32_t smallwood_check(const uint8_t *question, size_t question_length,
  * question so drawn, from what was lent to smallwood_commit and what it left in table and tree. These are lent as to smallwood_open.
  *
  *   Reads
- *     question       header, root, points                       46 + 4 m
+ *     question       header, root, points                       47 + 4 m
  *     kappa          how many zero bits the draw must begin with
  *     limit          the counters 0, 1, .., limit - 1 are tried; 0 tries none, 4294967295 is allowed
  *   Fills
  *     proof          the proof, at the front; bytes after it stay as they were
- *                                                               4 + 4 width (eta + m) + l (4 (mu + eta) + 32) + 32 l h, and no other
+ *                                                        4 + 4 width (eta + m) + l (4 (mu + beta + eta) + 32) + 32 l h, and no other
  *     length         the proof's length in bytes
  *
- * Returns 0, or the first of: 6, for under 14 bytes; 5; 1, for the sizes or kappa; 6, for another length than the header's; 3, in the
- * points; 2, for any of the seven other slices; 3, in any lent words, the table too; 8, where the tree's last 32 bytes are not the
+ * Returns 0, or the first of: 6, for under 15 bytes; 5; 1, for the sizes or kappa; 6, for another length than the header's; 3, in the
+ * points; 2, for any of the eight other slices; 3, in any lent words, the table too; 8, where the tree's last 32 bytes are not the
  * question's root; 11. With a refusal neither the buffer nor *length is changed.
  *
  * About one counter in 2^kappa qualifies. With a limit of 64 * 2^kappa an 11 has a probability of about e^-64. After an 11 nothing has
@@ -203,6 +215,7 @@ uint32_t smallwood_prove(const uint8_t *question, size_t question_length,
                          uint32_t kappa, uint32_t limit,
                          const uint32_t *coefficients, size_t coefficients_length,
                          const uint32_t *tails, size_t tails_length,
+                         const uint32_t *blinds, size_t blinds_length,
                          const uint32_t *masks, size_t masks_length,
                          const uint32_t *table, size_t table_length,
                          const uint8_t *nonces, size_t nonces_length,
@@ -214,7 +227,7 @@ uint32_t smallwood_prove(const uint8_t *question, size_t question_length,
  * Checks a proof for a question, and on 0 hands out the polynomials' values. Any counter that qualifies is taken, the least or not.
  *
  *   Reads
- *     question       header, root, points                       46 + 4 m
+ *     question       header, root, points                       47 + 4 m
  *     kappa          how many zero bits the draw must begin with
  *     proof          the proof and nothing after it: of the prover's buffer the first *length bytes
  *   Fills
