@@ -88,6 +88,8 @@
  *   "SWQ", version (2 bytes, 2), h, mu (1 byte each), nu, w (2 bytes each), l, eta, m, beta (1 byte each): the header, 15 bytes.
  *   Then the root (32 bytes), eta challenges and m points (4 bytes each, below q), l leaf indices (2 bytes each, strictly rising).
  *   Version 1, whose header had no beta, is a 5.
+ *   The sizes are the reader's to fix, together with the root: no hashed leaf or node holds the header, and the same reply can be
+ *   accepted under the same root with other sizes, and with other values.
  *
  * A reply
  *
