@@ -3,7 +3,7 @@ use mathlib.Core.Path.{_≡_, refl, sym, _∙_, ap, ap₂, subst}
 use mathlib.Core.Logic.{_≢_, ⊎-elim}
 use mathlib.Core.List.{List, [], _∷_, _++_, map, append-nil}
 use Prim.Native.Nat.{ℕ, zero, suc, _+_, _*_, _-_, _/_, _%_, _≤_, _<_, max}
-use native.Mathlib.Nat.{suc-inj, suc-ne-zero, not-suc-le-zero, le-of-suc-le-suc, mod-lt, mod-mod, le-suc-iff, pos-of-ne-zero, zero-add, le-of-eq, le-of-lt, add-mod-mod, add-sub-of-le, div-add-mod}
+use native.Mathlib.Nat.{suc-inj, suc-ne-zero, not-suc-le-zero, le-of-suc-le-suc, mod-lt, mod-mod, le-suc-iff, pos-of-ne-zero, zero-add, le-of-eq, le-of-lt, add-sub-of-le, div-add-mod}
 use native.Mathlib.Numerals.{add-one}
 use native.Mathlib.Omega.{arith}
 use lib.Dec.{lit<}
@@ -124,28 +124,6 @@ eval-nform (x ∷ xs) (c ∷ cs) z b = ap (λ (t : List K). eval t (of z)) (ofs-
 evalN-nformN : (xs cs : List ℕ) (z : ℕ) → Elements xs → evalN (nformN xs cs) z ≡ nevN xs cs z
 evalN-nformN xs cs z b = of-injective _ _ (evalN-below _ z) (nevN-below xs cs z) (of-evalN (nformN xs cs) z ∙ eval-nform xs cs z b ∙ sym (of-nevN xs cs z b))
 
--- ---- steps of the loops that go from the last point to the first
-prodN-step : (xs : List ℕ) (z i j : ℕ) → suc j ≡ i → j < length xs → subN z (getD xs j 0) * prodN (drop i xs) z % q ≡ prodN (drop j xs) z
-unfolding prodN
-prodN-step xs z i j e l =
-    ap (λ (k : ℕ). subN z (getD xs j 0) * prodN (drop k xs) z % q) (sym e)
-    ∙ sym (ap (λ (t : List ℕ). prodN t z) (drop-cons xs j 0 l))
-
-pub prodN-end : (xs : List ℕ) (z : ℕ) → prodN (drop (length xs) xs) z ≡ 1
-unfolding prodN
-prodN-end xs z = ap (λ (t : List ℕ). prodN t z) (drop-length xs)
-
-nevN-step : (xs cs : List ℕ) (z i j : ℕ) → length cs ≡ length xs → suc j ≡ i → j < length xs
-    → (getD cs j 0 + subN z (getD xs j 0) * nevN (drop i xs) (drop i cs) z % q) % q ≡ nevN (drop j xs) (drop j cs) z
-unfolding nevN
-nevN-step xs cs z i j m e l =
-    ap (λ (k : ℕ). (getD cs j 0 + subN z (getD xs j 0) * nevN (drop k xs) (drop k cs) z % q) % q) (sym e)
-    ∙ sym (ap₂ (λ (t u : List ℕ). nevN t u z) (drop-cons xs j 0 l) (drop-cons cs j 0 (omega arith)))
-
-pub nevN-end : (xs cs : List ℕ) (z : ℕ) → nevN (drop (length xs) xs) cs z ≡ 0
-unfolding nevN
-nevN-end xs cs z = ap (λ (t : List ℕ). nevN t cs z) (drop-length xs)
-
 -- ---- the coefficients of Newton's form, found one by one
 -- the first k give the values at the first k points
 abbrev pub Good : List ℕ → List ℕ → List ℕ → ℕ → Type 0
@@ -167,7 +145,7 @@ nevN-snoc xs cs x c z b u l =
     ∙ nev-snoc (ofs xs) (ofs cs) (of x) (of c) (of z) (length-map cs of ∙ l ∙ sym (length-map xs of))
     ∙ sym (ap₂ (λ (s t : K). s ⊕ t ⊗ of c) (of-nevN xs cs z b) (of-prodN xs z b))
 
-prodN-at : (xs : List ℕ) → Elements xs → (j : ℕ) → j < length xs → of (prodN xs (getD xs j 0)) ≡ 𝟎
+pub prodN-at : (xs : List ℕ) → Elements xs → (j : ℕ) → j < length xs → of (prodN xs (getD xs j 0)) ≡ 𝟎
 prodN-at xs b j l =
     of-prodN xs (getD xs j 0) b
     ∙ ap (prod (ofs xs)) (sym (List·getD-map of xs j 0))
@@ -193,7 +171,7 @@ abbrev nextN : List ℕ → List ℕ → List ℕ → ℕ → ℕ → ℕ
 nextN xs ys cs k w = subN (getD ys k 0) (nevN (take k xs) (take k cs) (getD xs k 0)) * w % q
 
 module _ (xs ys cs : List ℕ) (k w : ℕ) (bx : Elements xs) (by : Elements ys) (lc : length cs ≡ length xs) (ly : length ys ≡ length xs) (lk : k < length xs) where
-  more : (z c : ℕ) → of (nevN (take (suc k) xs) (take k cs ++ (c ∷ [])) z) ≡ of (nevN (take k xs) (take k cs) z) ⊕ of (prodN (take k xs) z) ⊗ of c
+  pub more : (z c : ℕ) → of (nevN (take (suc k) xs) (take k cs ++ (c ∷ [])) z) ≡ of (nevN (take k xs) (take k cs) z) ⊕ of (prodN (take k xs) z) ⊗ of c
   more z c =
       ap (λ (t : List ℕ). of (nevN t (take k cs ++ (c ∷ [])) z)) (take-suc xs k 0 lk)
       ∙ nevN-snoc (take k xs) (take k cs) (getD xs k 0) c z (below-take k xs bx) (all-at (λ (a : ℕ). a < q) 0 xs bx k lk)
@@ -223,7 +201,7 @@ module _ (xs ys cs : List ℕ) (k w : ℕ) (bx : Elements xs) (by : Elements ys)
       (le-suc-iff .0 l)
 
 -- ---- the expansion is the interpolation
-length-linN : (x c : ℕ) (p : List ℕ) → length (linN x c p) ≡ suc (length p)
+pub length-linN : (x c : ℕ) (p : List ℕ) → length (linN x c p) ≡ suc (length p)
 unfolding linN
 length-linN x c [] = refl
 length-linN x c (a ∷ p) = ap suc (length-linN x a p)
@@ -233,7 +211,7 @@ unfolding linN
 below-linN x c [] l b = (l, tt)
 below-linN x c (a ∷ p) l b = (mod-lt _ (lit< tt), below-linN x a p (b .0) (b .1))
 
-length-nformN : (xs cs : List ℕ) → length cs ≡ length xs → length (nformN xs cs) ≡ length xs
+pub length-nformN : (xs cs : List ℕ) → length cs ≡ length xs → length (nformN xs cs) ≡ length xs
 unfolding nformN
 length-nformN [] cs l = refl
 length-nformN (x ∷ xs) [] l = l
@@ -405,55 +383,9 @@ pub newton-done : (xs ys cs r : List ℕ) (k : ℕ) → Elements xs → Distinct
 newton-done xs ys cs r k bx d by lc ly e b g h =
     h ∙ nformN-interpN xs ys cs bx d by (subst (λ (l : List ℕ). Elements l) (ap (λ (n : ℕ). take n cs) (e ∙ sym lc) ∙ take-length cs) b) lc ly (subst (λ (n : ℕ). Good xs ys cs n) e g)
 
--- what the inner interpolation asks: points that differ, values, weights, and room
-pub record Points (xs ys ws out : List ℕ) : Type 0 where
-  pub points-below : Elements xs
-  pub points-differ : Distinct xs
-  pub values-below : Elements ys
-  pub values-count : length ys ≡ length xs
-  pub weights-count : length ws ≡ length xs
-  pub room : length out ≡ length xs
-  pub weights-right : (k : ℕ) → k < length xs → (getD ws k 0 * prodN (take k xs) (getD xs k 0)) % q ≡ 1
-
--- each weight is the inverse of the product of its point's differences to the points before
-abbrev pub NewtonWeights : List ℕ → List ℕ → ℕ → Type 0
-NewtonWeights xs ws n = (k : ℕ) → k < n → (getD ws k 0 * prodN (take k xs) (getD xs k 0)) % q ≡ 1
-
-pub prodN-turn : (xs : List ℕ) (z i d p r : ℕ) → 0 < i → i ≤ length xs → p ≡ prodN (drop i xs) z → d ≡ subN z (getD xs (i - 1) 0) → r ≡ d * p % q → r ≡ prodN (drop (i - 1) xs) z
-prodN-turn xs z i d p r l u e f g =
-    let n : suc (i - 1) ≡ i = omega arith in
-    g ∙ ap₂ (λ (s t : ℕ). s * t % q) f e ∙ prodN-step xs z i (i - 1) n (omega arith)
-
-pub nevN-turn : (xs cs : List ℕ) (z i d p r : ℕ) → length cs ≡ length xs → 0 < i → i ≤ length xs
-    → p ≡ nevN (drop i xs) (drop i cs) z → d ≡ subN z (getD xs (i - 1) 0) → r ≡ (getD cs (i - 1) 0 + d * p) % q → r ≡ nevN (drop (i - 1) xs) (drop (i - 1) cs) z
-nevN-turn xs cs z i d p r m l u e f g =
-    let n : suc (i - 1) ≡ i = omega arith in
-    g ∙ ap₂ (λ (s t : ℕ). (getD cs (i - 1) 0 + s * t) % q) f e
-    ∙ sym (add-mod-mod (getD cs (i - 1) 0) (subN z (getD xs (i - 1) 0) * nevN (drop i xs) (drop i cs) z) q)
-    ∙ nevN-step xs cs z i (i - 1) m n (omega arith)
-
 -- a - b c, reduced once
 expand-product : (a b c d m k r : ℕ) → b + d ≡ q → m ≡ b * c → q * k + r ≡ m → r ≤ q → a + d * c + q * (k + 1) ≡ a + (q - r) + q * c
 expand-product a b c d m k r e f g h = omega (arith, ap (λ (t : ℕ). t * c) e)
 
 pub sub-product : (a b c : ℕ) → b ≤ q → (a + (q - b) * c) % q ≡ subN a (b * c % q)
 sub-product a b c l = same-mod (a + (q - b) * c) (a + (q - b * c % q)) (b * c / q + 1) c (expand-product a b c (q - b) (b * c) (b * c / q) (b * c % q) (add-sub-of-le l) refl (div-add-mod (b * c) q) (le-of-lt (mod-lt (b * c) (lit< tt))))
-
--- as many values as points, and as much room; the points differ
-pub record Samples (xs ys out : List ℕ) : Type 0 where
-  pub points-below : Elements xs
-  pub points-differ : Distinct xs
-  pub values-below : Elements ys
-  pub values-count : length ys ≡ length xs
-  pub room : length out ≡ length xs
-
-pub weigh : (xs ys ws out : List ℕ) → Samples xs ys out → length ws ≡ length xs → NewtonWeights xs ws (length xs) → Points xs ys ws out
-weigh xs ys ws out h l w = record {
-  points-below = h .points-below;
-  points-differ = h .points-differ;
-  values-below = h .values-below;
-  values-count = h .values-count;
-  weights-count = l;
-  room = h .room;
-  weights-right = w;
-}

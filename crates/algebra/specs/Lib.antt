@@ -11,6 +11,7 @@ pub mod Rows
 -- the same on lists of numbers, which contracts cite
 pub mod Numbers
 pub mod Inverse
+pub mod Inverses
 pub mod Columns
 pub mod Batch
 pub mod Cases
@@ -22,10 +23,12 @@ pub mod Barycentric
 pub mod BarycentricTurns
 -- interpolation in place: Newton's form, its coefficients and its expansion
 pub mod Divided
-pub mod Weights
+pub mod Fold
+pub mod Rests
 pub mod Differences
 pub mod Forward
 pub mod Pairs
+pub mod Quartic
 -- sums of products, reduced once
 pub mod Dot
 pub mod Wrapped

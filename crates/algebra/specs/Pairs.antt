@@ -34,7 +34,7 @@ of-threeN a b c e p l =
     negative : (m : ℕ) → m ≤ multiple → of (multiple - m) ≡ ⊖ (of m)
     negative m l = of-path _ (4294967290 * m) (same-mod (multiple - m) (4294967290 * m) m 32769 (omega arith)) ∙ sym (of-neg m)
 
-of-step : (a x b : ℕ) → of (subN a (x * b % q)) ≡ of a ⊝ of x ⊗ of b
+pub of-step : (a x b : ℕ) → of (subN a (x * b % q)) ≡ of a ⊝ of x ⊗ of b
 of-step a x b = of-subN a (x * b % q) (le-of-lt (mod-lt (x * b) (lit< tt))) ∙ ap (λ (t : K). of a ⊝ t) (of-mod (x * b) ∙ sym (of-mul x b))
 
 -- e is at most 2^15, b a word

@@ -110,3 +110,10 @@ distinct-at {A} d (x ∷ xs) h zero zero l m = absurd (not-suc-le-zero l)
 distinct-at {A} d (x ∷ xs) h zero (suc j) l m = all-at (λ (y : A). y ≢ x) d xs (h .0) j (le-of-suc-le-suc m)
 distinct-at d (x ∷ xs) h (suc i) zero l m = absurd (not-suc-le-zero l)
 distinct-at d (x ∷ xs) h (suc i) (suc j) l m = distinct-at d xs (h .1) i j (le-of-suc-le-suc l) (le-of-suc-le-suc m)
+
+pub distinct-from : {A : Type 0} (d : A) (xs : List A) → ((i j : ℕ) → i < j → j < length xs → getD xs j d ≢ getD xs i d) → Distinct xs
+distinct-from d [] h = tt
+distinct-from {A} d (x ∷ xs) h = (
+  all-from (λ (y : A). y ≢ x) d xs (λ (j : ℕ) (l : j < length xs). h 0 (suc j) (zero-lt-suc j) (suc-le-suc l)),
+  distinct-from d xs (λ (i j : ℕ) (l : i < j) (m : j < length xs). h (suc i) (suc j) (suc-le-suc l) (suc-le-suc m)),
+)

@@ -2,7 +2,7 @@
 use mathlib.Core.Path.{_≡_, refl, sym, _∙_, ap, subst}
 use mathlib.Core.List.{List, _++_}
 use Prim.Native.Nat.{ℕ, _+_, _-_, _≤_, _<_}
-use native.Mathlib.Nat.{not-suc-le-zero, ne-of-gt}
+use native.Mathlib.Nat.{not-suc-le-zero, ne-of-gt, ne-of-lt}
 use native.Mathlib.Omega.{arith}
 use native.Mathlib.Decide.{ℕ-discrete}
 use lib.ListN.{length, getD, set, length-set, List·getD-append}
@@ -36,6 +36,10 @@ fill-before f s i k v l e h j m u = go (ℕ-discrete j i)
 pub fill-rest : (f : ℕ → ℕ) (s : List ℕ) (i k v : ℕ) → Filled f s i k → Filled f (set s i v) (i + 1) k
 fill-rest f s i k v h j m u = getD-set-other s i j v 0 (ne-of-gt (omega arith)) ∙ h j (omega arith) u
 
+-- setting a place behind them
+pub fill-behind : (f : ℕ → ℕ) (s : List ℕ) (i k j v : ℕ) → k ≤ j → Filled f s i k → Filled f (set s j v) i k
+fill-behind f s i k j v l h t m u = getD-set-other s j t v 0 (ne-of-lt (omega arith)) ∙ h t m u
+
 -- the same for a walk from the end to the front
 pub fill-back : (f : ℕ → ℕ) (s : List ℕ) (i k v : ℕ) → 0 < i → i ≤ length s → v ≡ f (i - 1) → Filled f s i k → Filled f (set s (i - 1) v) (i - 1) k
 fill-back f s i k v l u e h =
@@ -51,10 +55,25 @@ filled-is f s n e h = tabulate-is n f s e (λ (i : ℕ) (l : i < n). h i (omega 
 pub filled-own : (s : List ℕ) (i k : ℕ) → Filled (entryOf s) s i k
 filled-own s i k j m u = refl
 
+-- a list that was copied
+pub filled-copy : (s r : List ℕ) (n : ℕ) → length s ≡ n → length r ≡ n → Filled (entryOf s) r 0 n → r ≡ s
+filled-copy s r n l m h = filled-is (entryOf s) r n m h ∙ sym (filled-is (entryOf s) s n l (filled-own s 0 n))
+
 -- a list that f gives, in front of others
 pub filled-front : (f : ℕ → ℕ) (n : ℕ) (s rest : List ℕ) → s ≡ tabulate n f → Filled f (s ++ rest) 0 n
 filled-front f n s rest e j m u =
     List·getD-append s rest 0 j (subst (λ (k : ℕ). j < k) (sym (ap length e ∙ length-tabulate n f)) u) ∙ ap (λ (t : List ℕ). getD t j 0) e ∙ getD-tabulate n f j u
+
+-- two entries more, and those behind them
+pub two-filled : (f : ℕ → ℕ) (s : List ℕ) (i k a b : ℕ) → k + 2 ≤ length s → a ≡ f k → b ≡ f (k + 1) → Filled f s i k → Filled f (set (set s k a) (k + 1) b) i (k + 2)
+two-filled f s i k a b l ea eb h =
+    let m : k + 1 + 1 ≡ k + 2 = omega arith in
+    subst (λ (t : ℕ). Filled f (set (set s k a) (k + 1) b) i t) m (fill-next f (set s k a) i (k + 1) b (omega (arith, length-set s k a)) eb (fill-next f s i k a (omega arith) ea h))
+
+pub two-rest : (f : ℕ → ℕ) (s : List ℕ) (k n a b : ℕ) → Filled f s k n → Filled f (set (set s k a) (k + 1) b) (k + 2) n
+two-rest f s k n a b h =
+    let m : k + 1 + 1 ≡ k + 2 = omega arith in
+    subst (λ (t : ℕ). Filled f (set (set s k a) (k + 1) b) t n) m (fill-rest f (set s k a) (k + 1) n b (fill-rest f s k n a h))
 
 -- four entries more
 pub four-filled : (f : ℕ → ℕ) (s : List ℕ) (j a b c d : ℕ) → j + 4 ≤ length s → Filled f s 0 j → a ≡ f j → b ≡ f (j + 1) → c ≡ f (j + 2) → d ≡ f (j + 3)

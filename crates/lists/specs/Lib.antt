@@ -3,6 +3,7 @@
 -- truth values, tests, the first test that holds, and the least number of which one holds
 pub mod Choice
 pub mod Tests
+pub mod Differ
 pub mod Scan
 pub mod Least
 -- what holds of all elements; rising lists, lists put in order; ranges
