@@ -23,7 +23,10 @@ use Rattle.scheme.specs.Matrix.{blindingRows, loweredBy, columnOf}
 use Rattle.scheme.specs.Layers.{extended, combination, polynomialValues}
 use Rattle.scheme.specs.Question.{readQuestion, questionTests}
 use Rattle.scheme.specs.Commit.{lentOk, filledOk, commitTests, commitVerdict}
+use Rattle.lists.specs.Differ.{differ}
+use Rattle.scheme.specs.Interpolate.{samplesTests, interpolationTests, interpolationVerdict, interpolating}
 use Rattle.scheme.specs.Cases.{rowsP, starred, further}
+use Rattle.scheme.proofs.Interpolation.{filled}
 
 half : invN 2 ≡ 2147483646
 half = sym (invN-unique 2 2147483646 (omega arith) refl)
@@ -52,5 +55,15 @@ cases = (
 pub further-cases : All (λ (row : List ℕ × List ℕ). row .0 ≡ row .1) further
 unfolding evalN valuesAtN columnN powN upFrom children below mem without push parents siblings missing
     verdictOf every all sizesOk columnOf lowered loweredBy blindingRows extended combination polynomialValues pieces lentOk filledOk commitTests commitVerdict
-    littleEndian number same rising readQuestion questionTests
-further-cases = (refl, (refl, (refl, (refl, (refl, (refl, (refl, tt)))))))
+    littleEndian number same rising readQuestion questionTests differ samplesTests interpolationTests interpolationVerdict
+further-cases = (refl, (refl, (refl, (refl, (refl, (refl, (refl, (refl, (refl, (refl, (refl, tt)))))))))))
+
+-- the squares 1, 4, 9 at 1, 2, 3: X^2, whatever stood in the room
+pub interpolation-case : (a b c : ℕ) → interpolating (1 ∷ 2 ∷ 3 ∷ []) (1 ∷ 4 ∷ 9 ∷ []) (a ∷ b ∷ c ∷ []) ≡ (0, 0 ∷ 0 ∷ 1 ∷ [])
+unfolding evalN verdictOf every all differ samplesTests interpolationTests interpolationVerdict
+interpolation-case a b c =
+    sym (filled (1 ∷ 2 ∷ 3 ∷ []) (1 ∷ 4 ∷ 9 ∷ []) (a ∷ b ∷ c ∷ []) (0 ∷ 0 ∷ 1 ∷ []) taken
+    (sym (interpN-is (1 ∷ 2 ∷ 3 ∷ []) (1 ∷ 4 ∷ 9 ∷ []) (0 ∷ 0 ∷ 1 ∷ []) (omega arith) (omega arith) (omega arith) (omega arith) refl refl refl)))
+  where
+    taken : interpolationVerdict (1 ∷ 2 ∷ 3 ∷ []) (1 ∷ 4 ∷ 9 ∷ []) (a ∷ b ∷ c ∷ []) ≡ 0
+    taken = refl

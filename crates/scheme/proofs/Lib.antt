@@ -27,6 +27,8 @@ pub mod Honesty
 -- the starred cases, the program's text, reading aids
 pub mod Cases
 pub mod Printed
+-- interpolation over any points
+pub mod Interpolation
 pub mod Reading
 -- for programs: where the parts of a reply stand
 pub mod ReplyPlaces

@@ -25,6 +25,7 @@ use Rattle.scheme.specs.Sizing.{sizingC}
 use Rattle.scheme.specs.Commit.{commitTests, commitVerdict, committing}
 use Rattle.scheme.specs.Open.{openTests, openVerdict, opening, openingC}
 use Rattle.scheme.specs.Check.{replyTests, checkVerdict, checking, checkingC}
+use Rattle.scheme.specs.Interpolate.{samplesTests, interpolationTests, interpolationVerdict, interpolating}
 use Rattle.scheme.specs.Honest.{WellLent}
 use Rattle.scheme.proofs.Lent.{counted, lent-facts}
 use Rattle.scheme.proofs.Entries.{column-unblinded}
@@ -88,7 +89,11 @@ pub check-refused-C : (question reply values : Bytes) → checkingC question rep
 unfolding checkingC
 check-refused-C question reply values n = kept _ _ values n
 
--- ---- verdicts lie between 0 and 10
+pub interpolate-refused : (points values room : List ℕ) → interpolating points values room .0 ≢ 0 → interpolating points values room .1 ≡ room
+unfolding interpolating
+interpolate-refused points values room n = kept _ _ room n
+
+-- ---- verdicts lie between 0 and 10, and that of interpolation between 0 and 13
 
 AtMost : List Test → Type 0
 AtMost ts = All (λ (t : Test). t .0 ≤ 10) ts
@@ -113,3 +118,7 @@ open-verdict-within question l table nodes buffer =
 pub check-verdict-within : (unit : ℕ) (question reply : Bytes) (n : ℕ) → checkVerdict unit question reply n ≤ 10
 unfolding checkVerdict replyTests AtMost
 check-verdict-within unit question reply n = verdict-within 10 _ (all-append (λ (t : Test). t .0 ≤ 10) (questionTests question) _ (question-within question) (omega arith))
+
+pub interpolate-verdict-within : (points values room : List ℕ) → interpolationVerdict points values room ≤ 13
+unfolding interpolationVerdict interpolationTests samplesTests
+interpolate-verdict-within points values room = verdict-within 13 (interpolationTests points values room) (omega arith)

@@ -11,6 +11,7 @@ use Rattle.scheme.specs.Layers.{Lent, column, rowPolynomials, maskPolyno
 use Rattle.scheme.specs.Question.{Question, questionLength, questionVerdict}
 use Rattle.scheme.specs.Reply.{replyLength}
 use Rattle.scheme.specs.Commit.{commitVerdict}
+use Rattle.scheme.specs.Interpolate.{interpolationVerdict}
 
 -- case P: h = 1, all other sizes 1; coefficient 5, tail 9, mask 7 + 2X, γ 10
 abbrev pub sizesP : Sizes
@@ -96,6 +97,10 @@ verdict5 blinds = commitVerdict sizes5 (lent5 blinds) (replicate 16 0) (replicat
 abbrev pub verdictβ : ℕ → ℕ → ℕ
 verdictβ μ β = commitVerdict (record { h = 1; μ = μ; ν = 1; w = 1; ℓ = 1; η = 1; β = β }) (record { coefficients = []; tails = []; blinds = []; masks = []; nonces = [] }) [] []
 
+-- the verdict of interpolating, with room for n coefficients
+abbrev pub verdictI : List ℕ → List ℕ → ℕ → ℕ
+verdictI points values n = interpolationVerdict points values (replicate n 0)
+
 abbrev pub further : List (List ℕ × List ℕ)
 further =
     (questionLength sizesP 1 ∷ replyLength questionP ∷ [], 57 ∷ 88 ∷ [])
@@ -105,4 +110,8 @@ further =
     ∷ (columns5 0 ++ polynomialValues sizes5 0 (columns5 0), 1 ∷ (q - 4) ∷ 1 ∷ [])
     ∷ (verdict5 (7 ∷ []) ∷ verdict5 [] ∷ verdict5 (7 ∷ 7 ∷ []) ∷ verdict5 (q ∷ []) ∷ [], 0 ∷ 2 ∷ 2 ∷ 3 ∷ [])
     ∷ (verdictβ 16 16 ∷ verdictβ 17 17 ∷ verdictβ 15 16 ∷ verdictβ 48 16 ∷ verdictβ 49 16 ∷ [], 2 ∷ 1 ∷ 1 ∷ 2 ∷ 1 ∷ [])
+    ∷ (verdictI [] [] 0 ∷ verdictI (replicate 320 0) (replicate 320 0) 320 ∷ verdictI (replicate 321 0) [] 0 ∷ [], 1 ∷ 13 ∷ 1 ∷ [])
+    ∷ (verdictI (q ∷ []) [] 1 ∷ verdictI (1 ∷ []) (q ∷ 1 ∷ []) 1 ∷ verdictI (1 ∷ []) (q ∷ []) 0 ∷ [], 2 ∷ 2 ∷ 2 ∷ [])
+    ∷ (verdictI (q ∷ q ∷ []) (0 ∷ 0 ∷ []) 2 ∷ verdictI (1 ∷ 1 ∷ []) (0 ∷ q ∷ []) 2 ∷ [], 3 ∷ 3 ∷ [])
+    ∷ (verdictI (1 ∷ 2 ∷ 1 ∷ []) (0 ∷ 0 ∷ 0 ∷ []) 3 ∷ verdictI (1 ∷ 2 ∷ 2 ∷ []) (0 ∷ 0 ∷ 0 ∷ []) 3 ∷ verdictI (0 ∷ (q - 1) ∷ []) ((q - 1) ∷ 0 ∷ []) 2 ∷ [], 13 ∷ 13 ∷ 0 ∷ [])
     ∷ []
