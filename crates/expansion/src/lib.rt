@@ -1,15 +1,19 @@
-// Newton's form expanded in place: over any points, and over consecutive ones two points at a time.
+// Newton's form expanded in place: over any points, four at a time, and over consecutive ones, two at a time.
 ghost use mathlib.Core.Path.{_≡_};
 ghost use Prim.Native.Nat.{_+_, _*_, _%_, _<_, _≤_};
-ghost use lib.ListN.{length};
+ghost use lib.ListN.{length, take, drop};
 ghost use Rattle.algebra.specs.Prime.{q};
 ghost use Rattle.algebra.specs.Numbers.{Elements};
 ghost use Rattle.algebra.specs.Divided.{sweepN, nformN};
 ghost use Rattle.algebra.specs.Pairs.{multiple, pointsEnd, threeN, twiceN};
+ghost use Rattle.algebra.specs.Quartic.{ontoN};
 ghost use Rattle.lists.specs.Range.{upFrom};
 use field::Element;
 use field::point;
+use field::reduce;
 use field::subtract_product;
+use quartic::quartic_of;
+use quartic::sweep_four;
 
 // 32769 q, which is above 2^15 times any word.
 const MULTIPLE: u64 = 140741783158779;
@@ -30,8 +34,8 @@ fn sweep(s: &mut [u32], x: Element)
     }
 }
 
-// Newton's form expanded in place.
-pub fn expand(points: &[u32], s: &mut [u32])
+// Newton's form expanded in place, one point at a time.
+fn expand_singly(points: &[u32], s: &mut [u32])
     requires { ⌜ Elements (now points) × (length (now s) ≡ length (now points)) ⌝ }
     ensures { λ _. ⌜ now (s .exit) ≡ nformN (now (points .entry)) (now (s .entry)) ⌝ }
 {
@@ -43,23 +47,42 @@ pub fn expand(points: &[u32], s: &mut [u32])
     }
 }
 
-// ---- consecutive points
-
-// y modulo q, for y below 2^61, without a division: 2^32 is 5 modulo q.
-fn reduce(y: u64) -> u32
-    requires { ⌜ y < 2305843009213693952 ⌝ }
-    ensures { λ r. ⌜ r ≡ y % q ⌝ }
+// Four points, where what stands behind their coefficients is expanded.
+fn expand_four(points: &[u32], s: &mut [u32])
+    requires { ⌜ Elements (now points) × (length (now points) ≡ 4) × (8 ≤ length (now s)) ⌝ }
+    ensures { λ _. ⌜ now (s .exit) ≡ ontoN (now (points .entry)) (take 4 (now (s .entry))) (drop 4 (now (s .entry))) ⌝ }
 {
-    let low = (y % 4294967296) as u32;
-    let high = (y / 4294967296) as u32;
-    let h = 5 * high + 5;
-    let room = 4294967295 - h;
-    if room < low {
-        low - room - 1
-    } else {
-        low + (h - 5)
+    expand_singly(points, &mut s[0..4]);
+    let f = quartic_of(
+        Element(points[0]),
+        Element(points[1]),
+        Element(points[2]),
+        Element(points[3]),
+    );
+    sweep_four(f, s);
+}
+
+// How many points are taken four at a time: from the first on, as long as at least four coefficients stand behind them.
+fn in_fours(n: usize) -> usize
+    ensures { λ r. ⌜ (r % 4 ≡ 0) × (r ≤ n) × (0 < r → r + 4 ≤ n) ⌝ }
+{
+    if n < 8 { 0 } else { n - n % 4 - 4 }
+}
+
+// Newton's form expanded in place.
+pub fn expand(points: &[u32], s: &mut [u32])
+    requires { ⌜ Elements (now points) × (length (now s) ≡ length (now points)) ⌝ }
+    ensures { λ _. ⌜ now (s .exit) ≡ nformN (now (points .entry)) (now (s .entry)) ⌝ }
+{
+    let mut k = in_fours(points.len());
+    expand_singly(&points[k..], &mut s[k..]);
+    while 0 < k {
+        k -= 4;
+        expand_four(&points[k..k + 4], &mut s[k..]);
     }
 }
+
+// ---- consecutive points
 
 // a - e b + p c, reduced once. The multiple of q, which e b does not exceed, keeps the sum from going below 0.
 fn three_terms(a: u32, b: u32, c: u32, e: u32, p: u32) -> u32

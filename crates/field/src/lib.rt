@@ -5,6 +5,8 @@ ghost use lib.ListN.{length};
 ghost use Rattle.algebra.specs.Prime.{q};
 ghost use Rattle.algebra.specs.Numbers.{evalN};
 ghost use Rattle.algebra.specs.Columns.{powN};
+ghost use Rattle.algebra.specs.Divided.{subN};
+ghost use Rattle.algebra.specs.Fold.{foldN, mostFolded};
 ghost use Rattle.algebra.specs.Inverse.{invN};
 ghost use Rattle.algebra.specs.Table.{inverseFactorials};
 ghost use Rattle.lists.specs.Tabulate.{tabulate};
@@ -32,6 +34,14 @@ pub fn subtract(a: Element, b: Element) -> Element
     Element(((a.0 as u64 + (Q - b.0 as u64)) % Q) as u32)
 }
 
+// a - b without a division, so that a loop over it is compiled to vector instructions.
+pub fn difference(a: u32, b: u32) -> u32
+    requires { ⌜ (a < q) × (b < q) ⌝ }
+    ensures { λ r. ⌜ r ≡ subN a b ⌝ }
+{
+    if a < b { a + (Q32 - b) } else { a - b }
+}
+
 pub fn multiply(a: Element, b: Element) -> Element
     ensures { λ r. ⌜ r .0 ≡ (a .0 * b .0) % q ⌝ }
 {
@@ -43,6 +53,29 @@ pub fn product(a: u32, b: u32) -> u64
     ensures { λ r. ⌜ r ≡ a * b ⌝ }
 {
     a as u64 * b as u64
+}
+
+// Congruent to x, and far below it, without a division: 2^32 is 5 modulo q.
+pub fn folded(x: u64) -> u64
+    ensures { λ r. ⌜ (r ≡ foldN x) × (r ≤ mostFolded) ⌝ }
+{
+    x % 4294967296 + 5 * (x / 4294967296)
+}
+
+// y modulo q, for y below 2^61, without a division, so that a loop over it is compiled to vector instructions: 2^32 is 5 modulo q.
+pub fn reduce(y: u64) -> u32
+    requires { ⌜ y < 2305843009213693952 ⌝ }
+    ensures { λ r. ⌜ r ≡ y % q ⌝ }
+{
+    let low = (y % 4294967296) as u32;
+    let high = (y / 4294967296) as u32;
+    let h = 5 * high + 5;
+    let room = 4294967295 - h;
+    if room < low {
+        low - room - 1
+    } else {
+        low + (h - 5)
+    }
 }
 
 // a + b c, reduced once.

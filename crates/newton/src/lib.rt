@@ -2,28 +2,16 @@
 ghost use mathlib.Core.Path.{_≡_};
 ghost use Prim.Native.Nat.{_<_, _≤_};
 ghost use lib.ListN.{length};
-ghost use Rattle.algebra.specs.Prime.{q};
 ghost use Rattle.algebra.specs.Numbers.{Elements};
-ghost use Rattle.algebra.specs.Divided.{subN};
 ghost use Rattle.algebra.specs.Table.{tableSize};
 ghost use Rattle.algebra.specs.Differences.{neighbours};
 ghost use Rattle.algebra.specs.Forward.{newtonN};
 ghost use Rattle.lists.specs.Fill.{Filled};
 ghost use Rattle.lists.specs.Tabulate.{tabulate};
 use field::Element;
+use field::difference;
 use field::inverse_factorials;
 use field::multiply;
-
-// The modulus.
-const Q: u32 = 4294967291;
-
-// a - b without a division, so that a loop over it is compiled to vector instructions.
-fn difference(a: u32, b: u32) -> u32
-    requires { ⌜ (a < q) × (b < q) ⌝ }
-    ensures { λ r. ⌜ r ≡ subN a b ⌝ }
-{
-    if a < b { a + (Q - b) } else { a - b }
-}
 
 // The first m entries become the differences of the entry after each and the entry itself.
 fn take_differences(s: &mut [u32], m: usize)

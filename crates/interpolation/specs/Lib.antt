@@ -1,0 +1,2 @@
+-- For contracts inside the crate.
+pub mod Few
