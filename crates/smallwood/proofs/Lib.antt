@@ -6,8 +6,9 @@ pub mod ProofValues
 pub mod Sized
 pub mod Length
 pub mod ProofLength
--- the theorems: one length, completeness, completeness of proofs, collected replies
+-- the theorems: one length, completeness, completeness of proofs, collected replies, interpolation
 pub mod OneLength
 pub mod Completed
 pub mod CompletedProofs
 pub mod Collected
+pub mod Interpolated

@@ -8,6 +8,7 @@ ghost use Rattle.scheme.specs.Commit.{committing};
 ghost use Rattle.scheme.specs.Sizing.{sizingC};
 ghost use Rattle.scheme.specs.Open.{openingC};
 ghost use Rattle.scheme.specs.Check.{checking, checkingC};
+ghost use Rattle.scheme.specs.Interpolate.{interpolating};
 ghost use Rattle.fiat_shamir.specs.Prove.{provingC};
 ghost use Rattle.fiat_shamir.specs.CheckProof.{checkingProof, checkingProofC};
 ghost use Rattle.smallwood.specs.InBytes.{inBytes};
@@ -249,4 +250,18 @@ pub extern "C" fn smallwood_check_proof(
         }
         Questioned::Refused(v) => v,
     }
+}
+
+// ---- interpolation
+
+// Interpolates over any points that differ: fills the slice with the coefficients, or returns the number of a refusal and leaves it as it was.
+#[no_mangle]
+pub extern "C" fn smallwood_interpolate(
+    points: &[u32],
+    values: &[u32],
+    coefficients: &mut [u32],
+) -> u32
+    ensures { λ r. ⌜ (r, now (coefficients .exit)) ≡ interpolating (now (points .entry)) (now (values .entry)) (now (coefficients .entry)) ⌝ }
+{
+    interpolation::interpolate(points, values, coefficients)
 }
