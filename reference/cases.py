@@ -4,7 +4,8 @@
 
 Everything is deterministic. Where the construction of a case tells the verdict (or the values), that is
 asserted against smallwood.py while the case is made, so that a run of this file is a test of it too.
-Calls of the other entries are in calls.py, those of prover and check of a proof in proofs.py.
+Calls of the other entries are in calls.py, those of prover and check of a proof in proofs.py, those of the
+interpolation in interpolations.py.
 """
 
 import sys
@@ -23,6 +24,7 @@ from drafts import (
 from faults import (
     BAD_SIZES, STAGES, faulty, levels_with, place_faults, spoil, wrong_batchings, wrong_lines, wrong_strings,
 )  # fmt: skip
+from interpolations import interpolate_calls
 from proofs import PROOF_GROUPS, prove_calls
 from smallwood import Q, Sizes
 
@@ -641,7 +643,7 @@ def main():
     for group in CHECK_GROUPS:
         counted(group.__name__, group(), lambda case: case.number)
     counted("program_cases", program_cases(checks), lambda case: int(case.output.split()[1]))
-    for group in (commit_calls, open_calls, length_calls, prove_calls) + PROOF_GROUPS:
+    for group in (commit_calls, open_calls, length_calls, interpolate_calls, prove_calls) + PROOF_GROUPS:
         counted(group.__name__, group(), lambda call: call.number)
     print("digest of all cases", total.hexdigest(16))
     return 0

@@ -354,7 +354,7 @@ def simulated(src, s, **given):
     zero = vanishing(q.indices)
 
     def through(values):
-        return add(product(zero, src.elements(s.columns)), S.interpolate(q.indices, values))
+        return add(product(zero, src.elements(s.columns)), S.polynomial_through(q.indices, values))
 
     def opened(k, values):
         return values[s.rows + k] + q.challenges[k] * power_sum(values[: s.rows], q.challenges[k])

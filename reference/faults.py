@@ -345,7 +345,7 @@ def wrong_batchings(c, q):
     """(label, for each repetition an R) by mistakes in the batching formula."""
     s = c.sizes
     lines = S.lines_of(s, c.lent.coefficients, c.lent.tails, c.lent.blinds)
-    rows = [S.interpolate(S.grid_points(s), line) for line in lines]
+    rows = [S.polynomial_through(S.grid_points(s), line) for line in lines]
     masks = [S.mask_of(s, c.lent.masks, k) for k in range(s.eta)]
 
     def batch(mask, factors):

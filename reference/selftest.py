@@ -44,6 +44,27 @@ def naive_polynomial(coefficients, x):
     return sum(c * x**e for e, c in enumerate(coefficients)) % Q
 
 
+def solved(points, values):
+    """The coefficients as the one solution of the linear equations that the points give; None where they have not one.
+
+    Gauss's elimination, with a row x^0, x^1, .., value for each point.
+    """
+    count = len(points)
+    rows = [[pow(x, e, Q) for e in range(count)] + [y] for x, y in zip(points, values)]
+    for e in range(count):
+        pivot = next((r for r in range(e, count) if rows[r][e]), None)
+        if pivot is None:
+            return None
+        rows[e], rows[pivot] = rows[pivot], rows[e]
+        inverse = pow(rows[e][e], -1, Q)
+        rows[e] = [x * inverse % Q for x in rows[e]]
+        for r in range(count):
+            if r != e:
+                factor = rows[r][e]
+                rows[r] = [(x - factor * y) % Q for x, y in zip(rows[r], rows[e])]
+    return [row[-1] for row in rows]
+
+
 def naive_missing(h, indices):
     """Every node of every level but the root's: not above the set, and its sibling is."""
     above = lambda level, node: any(i >> level == node for i in indices)
@@ -115,7 +136,7 @@ def held(s, table):
     leaves = list(range(s.w * s.nu + s.l))  # as many as P_j has coefficients
     totals = [[0] * (s.mu * s.nu + s.beta) for _ in range(s.w)]
     for j in range(s.mu + s.beta):
-        row = S.interpolate(leaves, [table[leaf * (s.mu + s.beta + s.eta) + j] for leaf in leaves])
+        row = S.polynomial_through(leaves, [table[leaf * (s.mu + s.beta + s.eta) + j] for leaf in leaves])
         for i, total in enumerate(totals):
             for t in range(s.nu):
                 total[t * s.mu + j] += naive_polynomial(row, 2**s.h + i * s.nu + t)
@@ -317,7 +338,7 @@ def test_interpolation(rng):
         first = rng.choice((2, 8, 4096))
         points = list(range(first, first + count))
         values = [rng.randrange(Q) for _ in points]
-        polynomial = S.interpolate(points, values)
+        polynomial = S.polynomial_through(points, values)
         expect("coefficients at the points", [S.evaluate(polynomial, p) for p in points], values)
         for x in [0, 1, first - 1, Q - 1] + points[:2] + ([rng.randrange(Q)] if count < 320 else []):
             value = S.evaluate(polynomial, x)
@@ -328,7 +349,7 @@ def test_interpolation(rng):
         count = rng.randrange(1, 10)
         points = rng.sample(range(Q), count)
         values = [rng.randrange(Q) for _ in points]
-        polynomial = S.interpolate(points, values)
+        polynomial = S.polynomial_through(points, values)
         expect("length of the coefficients", len(polynomial), count)
         x = rng.randrange(Q)
         expect("any points", S.evaluate(polynomial, x), naive_value(points, values, x))
@@ -783,6 +804,97 @@ def test_question_parts():
     expect("root and points", (drawn.sizes, drawn.root, drawn.points), tuple(p))
 
 
+# ---- Interpolation for others -----------------------------------------------------------------------
+
+BORDERS = (1, 2, 3, 7, 8, 9, 15, 16, 17, 319, 320)  # numbers of points
+
+
+def different(rng, count):
+    """So many points, in any order: the field's ends, neighbours and others."""
+    near = rng.randrange(10, Q - count - 10)
+    chosen = {0, 1, Q - 1, Q - 2, near, near + 1}
+    while len(chosen) < count:
+        chosen.add(rng.randrange(Q))
+    return rng.sample(sorted(chosen), count)
+
+
+def values_at(coefficients, points):
+    """By Horner's rule, all points at once."""
+    values = [0] * len(points)
+    for c in coefficients[::-1]:
+        values = [(value * x + c) % Q for value, x in zip(values, points)]
+    return values
+
+
+def expect_interpolated(label, points, values, wanted=None):
+    """The slice is filled whatever stood in it, with elements that give the values, and in any order of the points."""
+    before = [2**32 - 1] * len(points)
+    number, found = S.interpolate(points, values, before)
+    expect(label + ": number", number, 0)
+    expect(label + ": lent slice", before, [2**32 - 1] * len(points))
+    expect(label + ": as many elements as points", (len(found), max(found) < Q), (len(points), True))
+    expect(label + ": values", values_at(found, points), values)
+    expect(label + ": in reverse", S.interpolate(points[::-1], values[::-1], [0] * len(points)), (0, found))
+    if wanted is not None:
+        expect(label + ": coefficients", found, wanted)
+
+
+def test_interpolate(rng):
+    expect("2 + 3 X", S.interpolate([0, 1], [2, 5], [7, 7]), (0, [2, 3]))
+    expect("X^2", S.interpolate([3, Q - 1, 10], [9, 1, 100], [7, 7, 7]), (0, [0, 0, 1]))
+    expect("a constant", S.interpolate([Q - 1], [Q - 1], [Q]), (0, [Q - 1]))
+    for _ in range(120):
+        points = different(rng, rng.randrange(1, 9))
+        values = [rng.choice((0, Q - 1, rng.randrange(Q))) for _ in points]
+        expect_interpolated("solved", points, values, solved(points, values))
+    for count in BORDERS:
+        for points in different(rng, count), list(range(count)), list(range(Q - count, Q)):
+            label = "%d points from %d" % (count, points[0])
+            expect_interpolated(label, points, [rng.randrange(Q) for _ in points])
+            wanted = [rng.randrange(Q) for _ in points]
+            expect_interpolated(label + ", drawn coefficients", points, values_at(wanted, points), wanted)
+        for degree in sorted({0, count // 2, count - 1}):
+            power = [0] * degree + [1] + [0] * (count - degree - 1)
+            expect_interpolated("X^%d" % degree, points, [pow(x, degree, Q) for x in points], power)
+        expect_interpolated("values 0", points, [0] * count, [0] * count)
+    for count in range(2, 18):
+        points, before = different(rng, count), [rng.randrange(2**32) for _ in range(count)]
+        values = [rng.randrange(Q) for _ in points]
+        for first in range(count):
+            for second in range(first + 1, count):
+                equal = points[:second] + [points[first]] + points[second + 1 :]
+                expect("points %d, %d equal" % (first, second), S.interpolate(equal, values, before), (13, before))
+                if count < 6:
+                    expect("no solution, or many", solved(equal, values), None)
+
+
+def test_interpolate_refused():
+    """Each test with every combination of later faults: the earliest decides."""
+    spoiled = (None, ("points", 0, Q), ("points", -1, 2**32 - 1), ("values", 0, 2**32 - 1), ("values", -1, Q))
+    for count, steps, spoil, equal in product(
+        (0, 321, 1024, 1, 2, 3, 319, 320), product((-1, 0, 1), repeat=2), spoiled, (False, True)
+    ):
+        values, room = [max(0, count + step) for step in steps]
+        given, before = {"points": list(range(count)), "values": list(range(values))}, [5] * room
+        number = 0
+        if equal and count > 1:
+            given["points"][-1] = given["points"][0]
+            number = 13
+        if spoil and given[spoil[0]]:
+            part, at, word = spoil
+            given[part][at] = word
+            number = 3
+        if not count == values == room:
+            number = 2
+        if not 0 < count < 321:
+            number = 1
+        label = "%d points, %d values, room for %d, word %s, equal %s" % (count, values, room, spoil, equal)
+        found, after = S.interpolate(**given, coefficients=before)
+        expect(label, (found, after if number else before), (number, before))
+    for points, values, number in (([Q, Q], [1, 2], 3), ([4, 4], [1, Q], 3), ([4, 4], [1, 1], 13), ([4, 4], [1], 2)):
+        expect("points %s, values %s" % (points, values), S.interpolate(points, values, [8, 9]), (number, [8, 9]))
+
+
 def main():
     rng = random.Random(1)
     if sys.argv[1:2] == ["--before"] and len(sys.argv) == 3:
@@ -805,6 +917,8 @@ def main():
     test_qualifying()
     test_question_parts()
     test_proofs(rng, 60)
+    test_interpolate(rng)
+    test_interpolate_refused()
     print("%(passed)d passed, %(failed)d failed" % counts)
     return 1 if counts["failed"] else 0
 

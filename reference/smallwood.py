@@ -23,6 +23,7 @@ DIGEST_BYTES = 32
 NONCE_BYTES = 32
 COUNTER_BYTES = 4
 MAX_KAPPA = 16  # bits of a leaf draw that may have to be zero
+MAX_POINTS = 320  # of an interpolation; a row polynomial has d + 1 coefficients, at most 256 + 64
 INPUT_LIMIT = 65536  # bytes that the checking program reads
 
 
@@ -50,7 +51,7 @@ def inverse_factorials(count):
     return table
 
 
-INVERSE_FACTORIALS = inverse_factorials(320)  # d + 1 is at most 256 + 64
+INVERSE_FACTORIALS = inverse_factorials(MAX_POINTS)
 
 
 @lru_cache(maxsize=None)
@@ -83,10 +84,10 @@ def weights(first, count, x):
     return [a * b % Q for a, b in zip(result, inverse_denominators(count))]
 
 
-def interpolate(points, values):
+def polynomial_through(points, values):
     """Coefficients, lowest first, of the polynomial of degree below len(points) through (point, value).
 
-    The caller sees to it that the points differ.
+    The points differ.
     """
     master = [1]  # the product of X - p over all points
     for p in points:
@@ -235,7 +236,7 @@ def batching_of(s, lines, mask, challenge):
     Interpolation is linear: one interpolation of the combined lines serves all rows.
     """
     combined = [challenge * evaluate(entries, challenge) % Q for entries in zip(*lines)]
-    rows_part = interpolate(grid_points(s), combined)
+    rows_part = polynomial_through(grid_points(s), combined)
     return [(a + b) % Q for a, b in zip(mask, rows_part)]
 
 
@@ -701,6 +702,22 @@ def check_proof_c(question, kappa, proof, value_bytes):
     """Its entry for C: the value buffer has 4 w m bytes. Returns (number, value_bytes)."""
     number, found = judge_proof(question, kappa, proof, len(value_bytes))
     return number, value_bytes if number else to_bytes(found)
+
+
+def interpolate(points, values, coefficients):
+    """Interpolation: returns (number, coefficients).
+
+    Tests 1, 2, 3, 13; the coefficients, being output, are not under 3.
+    """
+    if not 1 <= len(points) <= MAX_POINTS:
+        return 1, coefficients
+    if not len(points) == len(values) == len(coefficients):
+        return 2, coefficients
+    if not (elements(points) and elements(values)):
+        return 3, coefficients
+    if len(set(points)) < len(points):
+        return 13, coefficients
+    return 0, polynomial_through(points, values)
 
 
 def program(input_bytes):

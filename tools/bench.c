@@ -3,18 +3,21 @@
  *     bench                      all tables below, in Markdown
  *     bench times                time of each entry at all sizes
  *     bench proofs               time of proving and of checking a proof beside the conversation's, at all sizes
+ *     bench interpolation        time of interpolating over any points, at numbers of points from 1 to 320
  *     bench growth               how the times of the library and of plain C grow with each size
- *     bench stack                stack that committing, opening, checking, proving, checking a proof use
+ *     bench stack                stack that committing, opening, checking, proving, checking a proof, interpolating use
  *     bench names                the implementations, one to a line
  *     bench sizes                the numbers of the sizes, one to a line
  *     bench once OP SIZE NAME    one call alone, to be counted by valgrind (bench.sh)
  *     bench has OP SIZE NAME     exit status 1 where that implementation cannot do it
  *     bench row OP SIZE          how that call's row of a table begins: sizes, operation, permutations of Keccak
+ *     bench once-any N NAME      one interpolation over N points alone, and
+ *     bench has-any NAME         exit status 1 where that implementation has no such entry
  *
  * plain_keccak_* and plain_pairs_* are plain C with plain/keccak.c, the latter with PLAIN_PAIRS (plain/plain.h). Built
  * with -DPLAIN_OPENSSL, plain_* is plain C with OpenSSL's hash; built with -DBEFORE, before_* is the older library.
- * Times are processor time of this program. An older library may lack the entries for proofs, and may take questions of
- * version 1 (older.h). */
+ * Times are processor time of this program. An older library may lack the entries for proofs and for interpolation, and
+ * may take questions of version 1 (older.h). */
 #define _GNU_SOURCE
 #include <inttypes.h>
 #include <pthread.h>
@@ -23,6 +26,7 @@
 #include <string.h>
 #include <sys/mman.h>
 
+#include "bench_interpolation.h"
 #include "bench_operations.h"
 #include "bench_proofs.h"
 
@@ -125,23 +129,41 @@ static void show_growth(void)
 /* ---- Stack --------------------------------------------------------------------------------------- */
 
 struct stack_call {
-    const struct implementation *with; /* NULL: no call */
+    const struct implementation *with;
     enum operation operation;
     struct instance *a;
     uint32_t number;
 };
 
-static void *on_thread(void *data)
+static void *no_call(void *data)
+{
+    return data;
+}
+
+static void *call_on_thread(void *data)
 {
     struct stack_call *c = data;
 
-    if (c->with != NULL)
-        c->number = call(c->with, c->operation, c->a);
+    c->number = call(c->with, c->operation, c->a);
     return NULL;
 }
 
-/* Bytes of a painted stack that a thread with this call has touched. */
-static size_t touched(struct stack_call *c)
+struct stack_interpolation {
+    size_t implementation;
+    struct samples *a;
+    uint32_t number;
+};
+
+static void *interpolate_on_thread(void *data)
+{
+    struct stack_interpolation *c = data;
+
+    c->number = interpolate_with(c->implementation, c->a, 0);
+    return NULL;
+}
+
+/* Bytes of a painted stack that a thread with this work has touched. */
+static size_t touched(void *(*work)(void *), void *data)
 {
     uint8_t *stack = mmap(NULL, STACK_BYTES, PROT_READ | PROT_WRITE,
                           MAP_PRIVATE | MAP_ANONYMOUS | MAP_STACK, -1, 0);
@@ -154,7 +176,7 @@ static size_t touched(struct stack_call *c)
     memset(stack, STACK_BYTE, STACK_BYTES);
     if (pthread_attr_init(&attributes) != 0 ||
         pthread_attr_setstack(&attributes, stack, STACK_BYTES) != 0 ||
-        pthread_create(&thread, &attributes, on_thread, c) != 0 || pthread_join(thread, NULL) != 0)
+        pthread_create(&thread, &attributes, work, data) != 0 || pthread_join(thread, NULL) != 0)
         fail("no thread");
     pthread_attr_destroy(&attributes);
     while (at < STACK_BYTES && stack[at] == STACK_BYTE)
@@ -171,7 +193,7 @@ static size_t stack_of(size_t implementation, enum operation operation, struct s
 {
     struct instance *a = prepared(s, operation);
     struct stack_call c = {&implementations[implementation], operation, a, 0};
-    size_t used = touched(&c);
+    size_t used = touched(call_on_thread, &c);
 
     if (c.number != 0)
         fail("an honest call was refused");
@@ -203,10 +225,27 @@ static void show_stack_row(struct sizes s, size_t base)
     fflush(stdout);
 }
 
+/* The same at every number of points, but for what the compiler does. */
+static void show_stack_of_interpolation(size_t base)
+{
+    struct samples *a = draw_samples(MOST_SAMPLES);
+
+    printf("\nAnd of interpolating over %d points:", MOST_SAMPLES);
+    for (size_t i = 0; i < IMPLEMENTATIONS; i++)
+        if (in_interpolation(i)) {
+            struct stack_interpolation c = {i, a, 0};
+            size_t used = touched(interpolate_on_thread, &c);
+            if (c.number != 0)
+                fail("an honest call was refused");
+            printf("%s %zu (%s)", i == 0 ? "" : ",", used > base ? used - base : 0, shown_names[i]);
+        }
+    puts(".");
+    free(a);
+}
+
 static void show_stack(void)
 {
-    struct stack_call none = {.with = NULL};
-    size_t base = touched(&none);
+    size_t base = touched(no_call, NULL);
 
     puts("\nBytes of stack that one call uses: a painted stack's touched part, less that of a thread without a "
          "call.\n");
@@ -223,6 +262,7 @@ static void show_stack(void)
     puts("");
     for (size_t n = 0; n < SIZES; n++)
         show_stack_row(all_sizes[n], base);
+    show_stack_of_interpolation(base);
 }
 
 /* ---- One call ------------------------------------------------------------------------------------ */
@@ -266,6 +306,15 @@ static void once(const char *operation, const char *size, const char *name)
     free_instance(a);
 }
 
+static void interpolate_once(const char *count, const char *name)
+{
+    struct samples *a = draw_samples((size_t)atoi(count));
+
+    if (interpolate_with(implementation_named(name), a, 0) != 0)
+        fail("an honest call was refused");
+    free(a);
+}
+
 int main(int count, char **words)
 {
     const char *mode = count > 1 ? words[1] : "all";
@@ -281,6 +330,10 @@ int main(int count, char **words)
         struct instance *a = prepared(*sizes_numbered(words[3]), operation);
         begin_row(a, operation);
         free_instance(a);
+    } else if (count == 4 && strcmp(mode, "once-any") == 0) {
+        interpolate_once(words[2], words[3]);
+    } else if (count == 3 && strcmp(mode, "has-any") == 0) {
+        return interpolate_entries[implementation_named(words[2])] == NULL;
     } else if (strcmp(mode, "names") == 0) {
         for (size_t i = 0; i < IMPLEMENTATIONS; i++)
             printf("%s\n", implementations[i].name);
@@ -288,18 +341,20 @@ int main(int count, char **words)
         for (size_t n = 1; n <= SIZES; n++)
             printf("%zu\n", n);
     } else if (all || strcmp(mode, "times") == 0 || strcmp(mode, "proofs") == 0 ||
-               strcmp(mode, "growth") == 0 || strcmp(mode, "stack") == 0) {
+               strcmp(mode, "interpolation") == 0 || strcmp(mode, "growth") == 0 || strcmp(mode, "stack") == 0) {
         if (all || strcmp(mode, "times") == 0)
             show_times();
         if (all || strcmp(mode, "proofs") == 0)
             show_proofs();
+        if (all || strcmp(mode, "interpolation") == 0)
+            show_interpolation();
         if (all || strcmp(mode, "growth") == 0)
             show_growth();
         if (all || strcmp(mode, "stack") == 0)
             show_stack();
     } else {
-        fail("usage: bench [times | proofs | growth | stack | names | sizes | once OP SIZE NAME | has OP SIZE NAME | "
-             "row OP SIZE]");
+        fail("usage: bench [times | proofs | interpolation | growth | stack | names | sizes | once OP SIZE NAME | "
+             "has OP SIZE NAME | row OP SIZE | once-any N NAME | has-any NAME]");
     }
     return 0;
 }

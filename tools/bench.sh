@@ -1,12 +1,15 @@
 #!/bin/sh
 # Cost of the library beside the plain C implementation; prints Markdown tables.
 #
-#     tools/bench.sh                   times, proofs, growth, stack, and instructions where valgrind is installed
-#     tools/bench.sh times             one of: times, proofs, growth, stack, instructions
+#     tools/bench.sh                   times, proofs, interpolation, growth, stack, and instructions where valgrind is
+#                                      installed
+#     tools/bench.sh times             one of: times, proofs, interpolation, growth, stack, instructions; interpolation
+#                                      has its instructions, too
 #
 #     --archive FILE     measures this archive and does not build the library
 #     --before FILE      measures this older archive too, in the same runs: the tables have it as `before`, but not
-#                        with what it lacks: blinding rows where its questions have version 1, entries for proofs
+#                        with what it lacks: blinding rows where its questions have version 1, entries for proofs and
+#                        for interpolation
 #     --stand-in         measures the plain C implementation, to test these tools
 #
 # Needs gcc, rt unless an archive is given, and binutils for --before. With OpenSSL's headers (libssl-dev) the plain
@@ -78,6 +81,37 @@ instructions() {
     done
 }
 
+# One column of plain C: all prefixes have the same code.
+instructions_of_interpolation() {
+    names=$("$build/bench" names | grep -v -e '^plain$' -e '^plain_pairs$')
+    printf '\nInstructions of one interpolation over any points (callgrind), and the ratio of the library to the '
+    printf 'others.\n\n| points '
+    for name in $names; do printf '| %s ' "$name"; done
+    for name in $names; do [ "$name" = smallwood ] || printf '| to %s ' "$name"; done
+    printf '|\n|---|'
+    for name in $names; do printf -- '---|'; [ "$name" = smallwood ] || printf -- '---|'; done
+    echo
+    for count in 1 2 8 32 128 160 320; do
+        printf '| %s ' "$count"
+        ratios=
+        for name in $names; do
+            if ! "$build/bench" has-any "$name"; then
+                printf '| '
+                ratios="$ratios| "
+                continue
+            fi
+            found=$(count_inside "${name}_interpolate" "$build/bench" once-any "$count" "$name")
+            printf '| %s ' "$found"
+            if [ "$name" = smallwood ]; then
+                library=$found
+            else
+                ratios="$ratios| $(awk "BEGIN { printf \"%.2f\", $library / $found }") "
+            fi
+        done
+        echo "$ratios|"
+    done
+}
+
 # shellcheck disable=SC2086
 set -- $words
 case ${1:-all} in
@@ -85,14 +119,24 @@ case ${1:-all} in
         "$build/bench"
         if command -v valgrind > /dev/null 2>&1; then
             instructions
+            instructions_of_interpolation
         else
             echo "valgrind is not installed: instructions are not counted"
         fi
         ;;
     times | proofs | growth | stack) exec "$build/bench" "$1" ;;
+    interpolation)
+        "$build/bench" interpolation
+        if command -v valgrind > /dev/null 2>&1; then
+            instructions_of_interpolation
+        else
+            echo "valgrind is not installed: instructions are not counted"
+        fi
+        ;;
     instructions)
         need valgrind "to count instructions"
         instructions
+        instructions_of_interpolation
         ;;
     *) fail "no such table: $1" ;;
 esac

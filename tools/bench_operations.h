@@ -309,13 +309,47 @@ static double run(const struct implementation *with, enum operation operation, s
     return (now() - start) / (double)times;
 }
 
+/* Seconds of one call, by a run of so many. */
+typedef double timed_run(size_t implementation, void *what, uint64_t times);
+
+/* Least and median of ROUNDS runs of each of these implementations, in turn. */
+static void measure_in_turn(timed_run *runs, void *what, uint64_t times, const size_t *had, size_t count,
+                            struct timing *found)
+{
+    static double seconds[IMPLEMENTATIONS][ROUNDS];
+
+    for (size_t r = 0; r < ROUNDS; r++)
+        for (size_t i = 0; i < count; i++) {
+            size_t turn = had[turn_of(r, i, count)];
+            seconds[turn][r] = runs(turn, what, times);
+        }
+    for (size_t i = 0; i < count; i++)
+        found[had[i]] = timing_of(seconds[had[i]], ROUNDS);
+}
+
+/* So many calls that a run takes RUN_SECONDS, where one takes `once`. */
+static uint64_t calls_of_run(double once)
+{
+    return once < RUN_SECONDS ? (uint64_t)(RUN_SECONDS / (once + 1e-8)) + 1 : 1;
+}
+
+struct measured {
+    enum operation operation;
+    struct instance *a;
+};
+
+static double run_measured(size_t implementation, void *what, uint64_t times)
+{
+    const struct measured *m = what;
+
+    return run(&implementations[implementation], m->operation, m->a, times);
+}
+
 /* The implementations that the table has, in turn. */
 static void measure(struct instance *a, enum operation operation, int (*has)(size_t),
                     struct timing *found)
 {
-    static double seconds[IMPLEMENTATIONS][ROUNDS];
-    double once = run(&implementations[0], operation, a, 1);
-    uint64_t times = once < RUN_SECONDS ? (uint64_t)(RUN_SECONDS / (once + 1e-8)) + 1 : 1;
+    struct measured what = {operation, a};
     size_t had[IMPLEMENTATIONS], count = 0;
 
     for (size_t i = 0; i < IMPLEMENTATIONS; i++) {
@@ -323,13 +357,7 @@ static void measure(struct instance *a, enum operation operation, int (*has)(siz
         if (has(i) && has_operation(i, operation, &a->s))
             had[count++] = i;
     }
-    for (size_t r = 0; r < ROUNDS; r++)
-        for (size_t i = 0; i < count; i++) {
-            size_t turn = had[turn_of(r, i, count)];
-            seconds[turn][r] = run(&implementations[turn], operation, a, times);
-        }
-    for (size_t i = 0; i < count; i++)
-        found[had[i]] = timing_of(seconds[had[i]], ROUNDS);
+    measure_in_turn(run_measured, &what, calls_of_run(run_measured(0, &what, 1)), had, count, found);
 }
 
 static void print_sizes(const struct sizes *s)

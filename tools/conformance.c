@@ -1,9 +1,9 @@
 /* Calls the entries of a linked archive for requests on standard input, one after the other.
  *
- * Request:  kind ('c' commit, 'l' reply_length, 'o' open, 'k' check, 'p' prove, 'q' check_proof); the 32-bit
- *           numbers that the entry takes (for 'c' seven sizes, for 'p' kappa and limit, for 'q' kappa); for 'l',
- *           'o' and 'p' the 64-bit length as it stands before the call; then each slice in the entry's order:
- *           a 32-bit number of elements and the elements.
+ * Request:  kind ('c' commit, 'l' reply_length, 'o' open, 'k' check, 'p' prove, 'q' check_proof, 'i' interpolate);
+ *           the 32-bit numbers that the entry takes (for 'c' seven sizes, for 'p' kappa and limit, for 'q' kappa);
+ *           for 'l', 'o' and 'p' the 64-bit length as it stands before the call; then each slice in the entry's
+ *           order: a 32-bit number of elements and the elements.
  * Answer:   the 32-bit number returned, the 64-bit length after the call (0 where it has none), 32-bit flags
  *           (below), the 32-bit number of calls made, then every slice as it stands after the call, the
  *           ones lent for reading too.
@@ -171,6 +171,7 @@ static const struct entry {
     {'k', 0, 0, 3, {1, 1, 1}},
     {'p', 2, 1, 9, {1, 4, 4, 4, 4, 4, 1, 1, 1}},
     {'q', 1, 0, 3, {1, 1, 1}},
+    {'i', 0, 0, 3, {4, 4, 4}},
 };
 
 static const struct entry *entry_of(int kind)
@@ -197,6 +198,8 @@ static uint32_t call(int kind, const uint32_t n[NUMBERS], uint64_t *length)
                                BYTES(6), BYTES(7), BYTES(8), length);
     if (kind == 'q')
         return smallwood_check_proof(BYTES(0), n[0], BYTES(1), BYTES(2));
+    if (kind == 'i')
+        return smallwood_interpolate(WORDS(0), WORDS(1), WORDS(2));
     return smallwood_check(BYTES(0), BYTES(1), BYTES(2));
 }
 

@@ -23,6 +23,7 @@ from cases import (
 )  # fmt: skip
 from drafts import case_p, large_drafts, small_drafts, small_proofs
 from drawn import BLOCK, drawn_inputs
+from interpolations import InterpolateCall, interpolate_calls
 from proofs import PROOF_GROUPS, ProofCase, ProveCall, honest_proofs, prove_calls
 from smallwood import to_bytes
 
@@ -31,7 +32,9 @@ DRAWN = 1000  # drawn inputs of a run without --long
 EVERY = 12  # the program gets one of so many check cases without --long
 UNTOUCHED = 0x1122334455667788  # the length before a call that may write it
 # As conformance.c has them.
-KINDS = {"commit": b"c", "length": b"l", "open": b"o", "check": b"k", "prove": b"p", "proof": b"q"}
+KINDS = {
+    "commit": b"c", "length": b"l", "open": b"o", "check": b"k", "prove": b"p", "proof": b"q", "interpolate": b"i",
+}  # fmt: skip
 FLAGS = {1: "bytes beside a slice changed", 2: "the outcome depends on where the slices stand"}
 
 COMMIT_SLICES = ("coefficients", "tails", "blinds", "masks", "nonces", "table", "tree")
@@ -39,6 +42,7 @@ LENGTH_SLICES = ("question",)
 OPEN_SLICES = ("question", "coefficients", "tails", "blinds", "masks", "table", "nonces", "tree", "buffer")
 CHECK_SLICES = ("question", "reply", "buffer")
 PROOF_SLICES = ("question", "proof", "buffer")
+INTERPOLATE_SLICES = ("points", "values", "coefficients")
 
 
 class Broken(Exception):
@@ -97,8 +101,15 @@ def proof(label, kappa, slices, number, after):
     return Call(label, "proof", struct.pack("<I", kappa), slices, number, 0, after)
 
 
+def interpolated(label, slices, number, after):
+    return Call(label, "interpolate", b"", slices, number, 0, after)
+
+
 def call_of(case):
     """The call that a case of the second implementation describes."""
+    if isinstance(case, InterpolateCall):
+        slices = {name: getattr(case, name) for name in INTERPOLATE_SLICES}
+        return interpolated(case.label, slices, case.number, {"coefficients": case.coefficients_after})
     if isinstance(case, ProofCase):
         slices = {name: getattr(case, name) for name in PROOF_SLICES}
         return proof(case.label, case.kappa, slices, case.number, {"buffer": case.after})
@@ -137,6 +148,12 @@ def empty_calls():
     yield check("empty: check", empty(CHECK_SLICES), 6, {})
     yield check("empty: check, but the question", empty(CHECK_SLICES, question=question), 2, {})
     yield check("empty: check, reply", empty(CHECK_SLICES, question=question, buffer=bytes(4)), 7, {})
+    yield interpolated("empty: interpolate", empty(INTERPOLATE_SLICES), 1, {})
+    for part, alone, others in (("points", 2, 1), ("values", 1, 2), ("coefficients", 1, 2)):
+        lent = empty(INTERPOLATE_SLICES, **{part: [7]})
+        yield interpolated("empty: interpolate, but %s" % part, lent, alone, {})
+        lent = dict(dict.fromkeys(INTERPOLATE_SLICES, [7]), **{part: []})
+        yield interpolated("empty: interpolate, %s" % part, lent, others, {})
     question = small_proofs()[0].question()
     for kappa, number in ((0, 2), (16, 2), (17, 1), (2**32 - 1, 1)):
         label, asked = "empty: kappa %d, " % kappa, dict(question=question)
@@ -153,7 +170,7 @@ def call_groups(drawn, seed):
     yield "empty slices", empty_calls()
     quick = [group for group in CHECK_GROUPS if group not in (honest_cases, place_cases)]
     quick += [group for group in PROOF_GROUPS if group is not honest_proofs]
-    for group in quick + [length_calls, place_cases]:
+    for group in quick + [interpolate_calls, length_calls, place_cases]:
         yield group.__name__, map(call_of, group())
     yield "drawn inputs", map(call_of, drawn_inputs(drawn, seed))
     for group in (commit_calls, open_calls, prove_calls, honest_proofs, honest_cases):
@@ -319,7 +336,7 @@ class Run:
         print("numbers expected: %s; entries called %d times, %d with NULL" % (numbers, *calls))
         if not self.program:
             print("no checking program was given: it is not compared")
-        kinds = "check", "commit", "length", "open", "prove", "proof", "program"
+        kinds = "check", "commit", "length", "open", "prove", "proof", "interpolate", "program"
         counts = ", ".join("%d %s" % (self.counts[kind], kind) for kind in kinds)
         outcome = "%d DIFFERENT, first: %s" % (len(self.failed), self.failed[0]) if self.failed else "all equal"
         print("conformance: %s inputs in %.0f s: %s" % (counts, seconds, outcome), flush=True)

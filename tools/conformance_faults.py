@@ -539,10 +539,168 @@ BLINDING_FAULTS = (
 )  # fmt: skip
 
 
+# The same for the interpolation; all in one file.
+REFUSED_13 = "        return 13;"
+
+SAME_LENGTHS = "value_count != point_count || coefficient_count != point_count"
+
+WRITTEN = "memcpy(coefficients, s, 4 * point_count);"
+
+
+def first_test(test, number):
+    """An edit that puts this test before all others."""
+    return "if (point_count < 1 ||", "if (%s)\n return %d;\n if (point_count < 1 ||" % (test, number)
+
+
+def taken_if(test):
+    """An edit that takes some equal points; the coefficients stay as they were."""
+    return REFUSED_13, "        return %s ? 0 : 13;" % test
+
+
+def refused_if(test):
+    """An edit that refuses some points that differ, with 13."""
+    return "    if (!divide(points,", "    if (%s)\n return 13;\n if (!divide(points," % test
+
+
+def taken_unless(pair):
+    """An edit that compares only some pairs of points, those of places j < i that the text chooses."""
+    loops = "for (size_t i = 1; i < point_count; i++)\n for (size_t j = 0; j < i; j++)\n"
+    return REFUSED_13, "{\n %s if (%s && points[i] == points[j])\n return 13;\n return 0;\n }" % (loops, pair)
+
+
+INTERPOLATION_FAULTS = tuple(
+    ("interpolate: " + name, "any_points.h", *edit)
+    for name, edit in (
+        ("no points are taken", ("point_count < 1 || ", "")),
+        ("one point is refused", ("point_count < 1 ||", "point_count < 2 ||")),
+        ("320 points are refused", ("point_count > MAX_SAMPLES", "point_count >= MAX_SAMPLES")),
+        ("321 points are taken", ("#define MAX_SAMPLES 320", "#define MAX_SAMPLES 321")),
+        ("the number of points is taken for 16 bits",
+         ("point_count > MAX_SAMPLES", "(uint16_t)point_count > MAX_SAMPLES")),
+        ("any number of values is counted", ("point_count > MAX_SAMPLES", "value_count > MAX_SAMPLES")),
+        ("2 before 1", first_test(SAME_LENGTHS, 2)),
+        ("3 before 1", first_test("!are_elements(points, point_count) || !are_elements(values, value_count)", 3)),
+        ("13 before 1", first_test("point_count > 1 && points[0] == points[point_count - 1]", 13)),
+        ("3 before 2",
+         ("if (value_count !=", "if (!are_elements(points, point_count) || !are_elements(values, value_count))\n"
+          " return 3;\n if (value_count !=")),
+        ("13 before 2",
+         ("if (value_count !=", "if (point_count > 1 && points[0] == points[point_count - 1])\n"
+          " return 13;\n if (value_count !=")),
+        ("13 before 3",
+         ("if (!are_elements(points,", "if (point_count > 1 && points[0] == points[point_count - 1])\n"
+          " return 13;\n if (!are_elements(points,")),
+        ("13 before 3 of values",
+         ("|| !are_elements(values, value_count))\n        return 3;",
+          ")\n return 3;\n if (point_count > 1 && points[0] == points[point_count - 1])\n return 13;\n"
+          " if (!are_elements(values, value_count))\n return 3;")),
+        ("the values' length is not tested", ("value_count != point_count || ", "")),
+        ("the room's length is not tested", (" || coefficient_count != point_count", "")),
+        ("more values are taken", ("value_count != point_count", "value_count < point_count")),
+        ("fewer values are taken", ("value_count != point_count", "value_count > point_count")),
+        ("more room is taken", ("coefficient_count != point_count", "coefficient_count < point_count")),
+        ("only the sum of lengths is tested", (SAME_LENGTHS, "value_count + coefficient_count != 2 * point_count")),
+        ("room is compared with values only",
+         (SAME_LENGTHS, "coefficient_count != value_count || value_count < point_count")),
+        ("points are not tested", ("!are_elements(points, point_count) || ", "")),
+        ("values are not tested", (" || !are_elements(values, value_count)", "")),
+        ("the last point is not tested",
+         ("are_elements(points, point_count)", "are_elements(points, point_count - 1)")),
+        ("the last value is not tested",
+         ("are_elements(values, value_count)", "are_elements(values, value_count - 1)")),
+        ("the first value is not tested",
+         ("are_elements(values, value_count)", "are_elements(values + 1, value_count - 1)")),
+        ("room is tested for elements",
+         ("if (!are_elements(points,", "if (!are_elements(coefficients, coefficient_count) || !are_elements(points,")),
+        ("points are reduced",
+         ("if (!are_elements(points, point_count) ||", "uint32_t own[MAX_SAMPLES];\n"
+          " for (size_t i = 0; i < point_count; i++)\n own[i] = points[i] % Q;\n points = own;\n if (")),
+        ("values are reduced",
+         (" || !are_elements(values, value_count))\n        return 3;",
+          ")\n return 3;\n uint32_t own[MAX_SAMPLES];\n for (size_t i = 0; i < point_count; i++)\n"
+          " own[i] = values[i] % Q;\n values = own;")),
+        ("equal points are taken", taken_if("1")),
+        ("4 for equal points", (REFUSED_13, "        return 4;")),
+        ("3 for equal points", (REFUSED_13, "        return 3;")),
+        ("the last two of many points are not compared",
+         taken_if("point_count > 17 && points[point_count - 1] == points[point_count - 2]")),
+        ("the first and the last of many points are not compared",
+         taken_if("point_count > 17 && points[point_count - 1] == points[0]")),
+        ("the points beside the first border of eight are not compared",
+         taken_if("point_count > 17 && points[7] == points[8]")),
+        ("the points beside the last border of eight are not compared",
+         taken_if("point_count == MAX_SAMPLES && points[311] == points[312]")),
+        ("the last of 319 points is not compared",
+         taken_if("point_count == 319 && points[317] == points[318]")),
+        ("neighbours only are compared", taken_unless("j + 1 == i")),
+        ("neighbours are not compared", taken_unless("j + 1 < i")),
+        ("points are compared with the first only", taken_unless("j == 0")),
+        ("points are compared with the last only", taken_unless("i == point_count - 1")),
+        ("points are compared within blocks only", taken_unless("i / INVERTED == j / INVERTED")),
+        ("points are compared with other blocks only", taken_unless("i / INVERTED != j / INVERTED")),
+        ("points eight apart are not compared", taken_unless("i - j != INVERTED")),
+        ("the first pair of points is not compared", taken_unless("i > 1")),
+        ("the ninth point is not compared", taken_unless("i != INVERTED")),
+        ("equal points 0 are taken", taken_unless("points[i] != 0")),
+        ("equal points with equal values are taken", taken_unless("values[i] != values[j]")),
+        ("only the first block's points are compared", ("if (all == 0)", "if (all == 0 && from == 0)")),
+        ("only the last block's points are compared", ("if (all == 0)", "if (all == 0 && count < INVERTED)")),
+        ("point 0 is refused", refused_if("points[0] == 0")),
+        ("point q - 1 is refused", refused_if("points[point_count - 1] == Q - 1")),
+        ("points are compared in 16 bits",
+         refused_if("point_count > 1 && (uint16_t)points[0] == (uint16_t)points[1]")),
+        ("value 0 is refused", refused_if("values[0] == 0")),
+        ("equal values are refused", refused_if("point_count > 1 && values[0] == values[1]")),
+        ("room is written before 13",
+         ("    if (!divide(points,", "    memcpy(coefficients, values, 4 * point_count);\n if (!divide(points,")),
+        ("room is written before 3",
+         ("    if (!are_elements(points,", "    coefficients[point_count - 1] = 0;\n if (!are_elements(points,")),
+        ("room is written before all tests", first_test("coefficient_count > 0 && (coefficients[0] = 0)", 1)),
+        ("the highest coefficient is left", (WRITTEN, "memcpy(coefficients, s, 4 * point_count - 4);")),
+        ("the constant is left", (WRITTEN, "memcpy(coefficients + 1, s + 1, 4 * point_count - 4);")),
+        ("zeros at the top are left",
+         (WRITTEN, "while (point_count > 0 && s[point_count - 1] == 0)\n point_count--;\n " + WRITTEN)),
+        ("one coefficient of 320 is left",
+         (WRITTEN, "s[200] = point_count == MAX_SAMPLES ? coefficients[200] : s[200];\n " + WRITTEN)),
+        ("the highest coefficient stands first",
+         (WRITTEN, "for (size_t i = 0; i < point_count; i++)\n coefficients[i] = s[point_count - 1 - i];")),
+        ("nothing is written", (WRITTEN, "")),
+        ("a word is written behind the room", (WRITTEN, WRITTEN + "\n coefficients[point_count] = 0;")),
+        ("a word is read behind the values",
+         (WRITTEN, WRITTEN + "\n (void)*(const volatile uint32_t *)(values + value_count);")),
+        ("the lent values change", (WRITTEN, WRITTEN + "\n ((uint32_t *)(uintptr_t)values)[0] = s[0];")),
+        ("the lent points change", (WRITTEN, WRITTEN + "\n ((uint32_t *)(uintptr_t)points)[0] ^= 1;")),
+        ("remembers the last points",
+         ("    if (!divide(points,", "    static uint32_t last[MAX_SAMPLES], kept[MAX_SAMPLES];\n"
+          " static size_t last_count;\n if (last_count == point_count && !memcmp(last, points, 4 * point_count))\n"
+          " return memcpy(coefficients, kept, 4 * point_count), 0;\n if (!divide(points,")),
+        ("remembers the last points",
+         (WRITTEN, WRITTEN + "\n memcpy(last, points, 4 * point_count);\n memcpy(kept, s, 4 * point_count);\n"
+          " last_count = point_count;")),
+        ("Newton's form is not expanded", ("    expand_any(points, s, point_count);\n", "")),
+        ("the expansion stops before the first points", ("for (; k > 0; k -= FACTORS)", "for (; k > FACTORS; k -= FACTORS)")),
+        ("the expansion leaves out a place", ("i = FACTORS; i < count;", "i = FACTORS; i + 2 < count;")),
+        ("one factor has the wrong sign", ("uint32_t minus = Q - point;", "uint32_t minus = point;")),
+        ("four factors have the wrong sign",
+         ("(uint64_t)(Q - points[k]) * e[j - 1]", "(uint64_t)points[k] * e[j - 1]")),
+        ("the factors' own coefficients are not expanded", ("expand_one(points[k], s + k, FACTORS - k);", ";")),
+        ("the last value is not divided", ("    if (i < n) {", "    if (i + 1 < n) {")),
+        ("the first point of a block is left out", ("size_t j = 0; j < k;", "size_t j = 1; j < k;")),
+        ("differences of points in 32 bits",
+         ("difference(points[from + k], points[from + j])", "(points[from + k] - points[from + j]) % Q")),
+        ("differences of points to earlier blocks in 32 bits",
+         ("difference(points[i + 1], x)", "(points[i + 1] - x) % Q")),
+        ("a short block is taken for a whole one", ("n - k < INVERTED ? n - k : INVERTED", "INVERTED")),
+        ("the last block's weights are those before",
+         ("k % INVERTED == 0 &&", "k % INVERTED == 0 && (k < INVERTED || k + 1 < n) &&")),
+    )
+)  # fmt: skip
+
+
 def grouped():
     """name: its edits."""
     faults = {"none": []}
-    for name, file, old, new in FAULTS + PROOF_FAULTS + BLINDING_FAULTS:
+    for name, file, old, new in FAULTS + PROOF_FAULTS + BLINDING_FAULTS + INTERPOLATION_FAULTS:
         faults.setdefault(name, []).append((file, old, new))
     return faults
 

@@ -12,8 +12,9 @@ from drafts import (
     proof_buffer, proof_question, reply_buffer, simulated, vanishing,
 )  # fmt: skip
 from faults import BAD_KAPPAS, BAD_MARKS, BAD_SIZES, spoil
+from interpolations import InterpolateCall, different, room
 from proofs import ProveCall, proof_case
-from smallwood import Q, Reply
+from smallwood import MAX_POINTS, Q, Reply
 
 BLOCK = 10000  # inputs for one seed
 POOL = 40  # drafts to take an input from
@@ -430,6 +431,35 @@ class Pool:
         found = S.open_reply(question, *given.values())
         return OpenCall("%s [%s]" % (label, name(s)), question, *given.values(), *found)
 
+    def interpolate_call(self):
+        """A call of the interpolation, with none, one or two faults; few have many points."""
+        self.next()
+        src = self.src
+        count = src.pick((1, 2, src.between(1, 9), src.between(1, 17), src.between(1, 40), src.between(1, 40)))
+        if src.below(12) == 0:
+            count = src.pick((MAX_POINTS, src.between(1, MAX_POINTS + 1)))
+        first = src.below(Q)
+        points = src.pick((different(src, count), [(first + x) % Q for x in range(count)]))
+        values = src.edgy(count) if src.below(2) else src.elements(count)
+        given = {"points": points, "values": values, "coefficients": room(count)}
+        label = "drawn %d.%d: interpolate, %d points" % (self.seed, self.count, count)
+        for _ in range(src.pick((0, 1, 1, 2))):
+            if src.below(3) == 0:
+                label += self.equal_points(given)
+            else:
+                label += self.slice_fault(given)
+        found = S.interpolate(**given)
+        return InterpolateCall(label, *given.values(), *found)
+
+    def equal_points(self, given):
+        """A point is set to another one, or next to it."""
+        src, points = self.src, given["points"]
+        if not points:
+            return ""
+        first, second = place(src, points), place(src, points)
+        given["points"] = with_word(points, second, src.pick((points[first], points[first], points[first] ^ 1)))
+        return ", points %d, %d" % (first, second)
+
     def slice_fault(self, given):
         """A slice of wrong length, or with another word or byte in it."""
         src = self.src
@@ -448,11 +478,12 @@ class Pool:
 
 def drawn_inputs(count, seed=1):
     """This many inputs, mostly of the checks: of 50, fifteen are proofs, one calls the committer, one the opener, one
-    the prover, four reply_length."""
+    the prover, four reply_length, four the interpolation."""
     pool = None
     others = {n: Pool.proof_case for n in range(0, 48, 3)}
     others.update({49: Pool.commit_call, 24: Pool.open_call, 34: Pool.prove_call})
     others.update(dict.fromkeys((10, 19, 29, 40), Pool.length_call))
+    others.update(dict.fromkeys((5, 17, 31, 43), Pool.interpolate_call))
     for n in range(count):
         if n % BLOCK == 0:
             pool = Pool(seed + n // BLOCK)

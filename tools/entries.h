@@ -1,7 +1,7 @@
 /* The entries of the library for C, declared under any prefix:
  *
  *     ENTRIES(smallwood)      declares smallwood_commit, smallwood_reply_length, smallwood_open, smallwood_check,
- *                             smallwood_prove and smallwood_check_proof
+ *                             smallwood_prove, smallwood_check_proof and smallwood_interpolate
  *
  * A slice is a pointer and its number of elements. Each entry returns the verdict's number. */
 #ifndef ENTRIES_H
@@ -39,6 +39,9 @@
                             uint64_t *length);                                                     \
     uint32_t prefix##_check_proof(const uint8_t *question, size_t question_bytes, uint32_t kappa,  \
                                   const uint8_t *proof, size_t proof_bytes, uint8_t *values,       \
-                                  size_t value_bytes)
+                                  size_t value_bytes);                                             \
+    uint32_t prefix##_interpolate(const uint32_t *points, size_t point_count,                      \
+                                  const uint32_t *values, size_t value_count,                      \
+                                  uint32_t *coefficients, size_t coefficient_count)
 
 #endif

@@ -1,14 +1,15 @@
 /* Verdicts without a restart:  soak FILE [SECONDS]     (12 hours unless told otherwise)
  *
- * FILE has inputs of the check and of the check of a proof with their expected outcomes (soak_inputs.py). They
- * are checked in drawn order. In between, questions are drawn for commitments made at the start: the reply's
- * length must be the counted one, the opener's reply must be accepted with the polynomials' values, and the
- * same reply with one bit changed must be refused with the number that the bit's place tells. Then a proof is
- * made for the same points: it must be accepted with the same values, as it is and as a reply in the
- * conversation, with one bit changed behind its answers it must be refused, and with its counter for a limit
- * the prover must find none. Every number and every byte of the value buffer is compared. From the end of a
- * first pass over all inputs on, the resident memory must not grow. Exit status 1 after a difference or
- * growth. */
+ * FILE has inputs of the check, of the check of a proof and of the interpolation with their expected outcomes
+ * (soak_inputs.py). They are called in drawn order. In between, questions are drawn for commitments made at the
+ * start: the reply's length must be the counted one, the opener's reply must be accepted with the polynomials'
+ * values, and the same reply with one bit changed must be refused with the number that the bit's place tells.
+ * Then a proof is made for the same points: it must be accepted with the same values, as it is and as a reply in
+ * the conversation, with one bit changed behind its answers it must be refused, and with its counter for a limit
+ * the prover must find none. A drawn polynomial's values at drawn points must give its coefficients, and be
+ * refused with one word or two points changed. Every number, every byte of the value buffer and every lent
+ * coefficient is compared. From the end of a first pass over all inputs on, the resident memory must not grow.
+ * Exit status 1 after a difference or growth. */
 #define _POSIX_C_SOURCE 200809L
 #include <inttypes.h>
 #include <stdio.h>
@@ -25,11 +26,13 @@ ENTRIES(smallwood);
 #define GUARD 64
 #define GUARD_BYTE 0xa5
 #define ALLOWED_GROWTH 256 /* kB of resident memory: what the C library and the kernel may need */
-#define FRESH_EVERY 64     /* inputs from the file to one drawn question */
-#define NUMBERS 13         /* that a call may return, from 0 on */
+#define FRESH_EVERY 64     /* checks from the file to one drawn question and one drawn interpolation */
+#define INTERPOLATIONS 8   /* and interpolations from the file to these */
+#define NUMBERS 14         /* that a call may return, from 0 on */
 #define MOST_KAPPA 8       /* of a drawn proof */
 #define COUNTER_BYTES 4
 #define MAX_QUESTION 223
+#define MOST_SAMPLES 320   /* of a drawn interpolation */
 
 static void differ(const char *what, size_t number, uint32_t found, uint32_t expected)
 {
@@ -43,6 +46,22 @@ static void differ(const char *what, size_t number, uint32_t found, uint32_t exp
 static uint8_t *values; /* between guard bytes */
 static size_t values_room;
 static uint64_t verdicts, by_number[NUMBERS];
+
+static uint32_t counted(uint32_t number)
+{
+    verdicts++;
+    by_number[number < NUMBERS ? number : NUMBERS - 1]++;
+    return number;
+}
+
+static void expect_guards(const uint8_t *from, size_t bytes)
+{
+    for (size_t i = 0; i < GUARD; i++)
+        if (from[-1 - (ptrdiff_t)i] != GUARD_BYTE || from[bytes + i] != GUARD_BYTE) {
+            puts("soak: DIFFERENT: bytes beside a buffer changed");
+            exit(1);
+        }
+}
 
 /* What is checked: a reply, or a proof under its kappa. */
 struct checked {
@@ -67,14 +86,8 @@ static uint32_t check(const struct checked *c, const uint8_t *before, size_t val
                                                  c->count, values, value_bytes)
                          : smallwood_check(c->question, c->question_bytes, c->bytes, c->count,
                                            values, value_bytes);
-    for (size_t i = 0; i < GUARD; i++)
-        if (values[-1 - (ptrdiff_t)i] != GUARD_BYTE || values[value_bytes + i] != GUARD_BYTE) {
-            puts("soak: DIFFERENT: bytes beside the value buffer changed");
-            exit(1);
-        }
-    verdicts++;
-    by_number[number < NUMBERS ? number : NUMBERS - 1]++;
-    return number;
+    expect_guards(values, value_bytes);
+    return counted(number);
 }
 
 static void expect_values(const char *what, size_t number, const uint8_t *expected, size_t bytes)
@@ -123,14 +136,21 @@ static const uint8_t *take(const uint8_t **at, const uint8_t *end, size_t bytes)
     return taken;
 }
 
-static void load_inputs(const char *path)
+/* A number of inputs, at least 1 and at most one for each byte. */
+static uint32_t take_count(const uint8_t **at, const uint8_t *end)
 {
-    size_t length;
-    const uint8_t *at = read_file(path, &length), *end = at + length;
+    uint32_t count;
 
-    memcpy(&input_count, take(&at, end, 4), 4);
-    if (input_count == 0 || input_count > length)
+    memcpy(&count, take(at, end, sizeof count), sizeof count);
+    if (count == 0 || count > (size_t)(end - *at))
         fail("the file of inputs is empty or damaged");
+    return count;
+}
+
+/* Returns what follows. */
+static const uint8_t *load_checks(const uint8_t *at, const uint8_t *end)
+{
+    input_count = take_count(&at, end);
     inputs = allocate(input_count * sizeof *inputs);
     for (uint32_t i = 0; i < input_count; i++) {
         struct input *input = &inputs[i];
@@ -150,6 +170,7 @@ static void load_inputs(const char *path)
         if (input->value_bytes > values_room)
             values_room = input->value_bytes;
     }
+    return at;
 }
 
 static void check_input(uint32_t i)
@@ -160,6 +181,83 @@ static void check_input(uint32_t i)
     if (number != input->number)
         differ("input", i, number, input->number);
     expect_values("input", i, input->after, input->value_bytes);
+}
+
+/* ---- Interpolations ------------------------------------------------------------------------------ */
+
+/* Words of points, values and coefficients: what is lent, and in `after` the coefficients as they have to be then. */
+struct interpolation {
+    uint32_t counts[3], number;
+    uint32_t *points, *values, *before, *after;
+};
+
+static struct interpolation *interpolations;
+static uint32_t interpolation_count;
+static uint32_t *coefficients; /* between guard bytes */
+static size_t coefficients_room = MOST_SAMPLES;
+static uint64_t interpolated;
+
+static uint32_t *take_words(const uint8_t **at, const uint8_t *end, size_t count)
+{
+    uint32_t *words = allocate(4 * count);
+
+    if (count > 0)
+        memcpy(words, take(at, end, 4 * count), 4 * count);
+    return words;
+}
+
+static void load_interpolations(const uint8_t *at, const uint8_t *end)
+{
+    interpolation_count = take_count(&at, end);
+    interpolations = allocate(interpolation_count * sizeof *interpolations);
+    for (uint32_t i = 0; i < interpolation_count; i++) {
+        struct interpolation *p = &interpolations[i];
+        memcpy(p->counts, take(&at, end, sizeof p->counts), sizeof p->counts);
+        memcpy(&p->number, take(&at, end, sizeof p->number), sizeof p->number);
+        p->points = take_words(&at, end, p->counts[0]);
+        p->values = take_words(&at, end, p->counts[1]);
+        p->before = take_words(&at, end, p->counts[2]);
+        p->after = take_words(&at, end, p->counts[2]);
+        if (p->counts[2] > coefficients_room)
+            coefficients_room = p->counts[2];
+    }
+    if (at != end)
+        fail("the file of inputs is longer than expected");
+}
+
+static void load_inputs(const char *path)
+{
+    size_t length;
+    const uint8_t *data = read_file(path, &length);
+
+    load_interpolations(load_checks(data, data + length), data + length);
+    coefficients = (uint32_t *)(void *)((uint8_t *)allocate(4 * coefficients_room + 2 * GUARD) + GUARD);
+}
+
+static void expect_interpolation(const char *what, size_t which, const struct interpolation *p)
+{
+    size_t bytes = 4 * (size_t)p->counts[2];
+    uint8_t *room = (uint8_t *)coefficients;
+    uint32_t number;
+
+    memset(room - GUARD, GUARD_BYTE, GUARD);
+    memset(room + bytes, GUARD_BYTE, GUARD);
+    memcpy(room, p->before, bytes);
+    interpolated++;
+    number = counted(smallwood_interpolate(p->points, p->counts[0], p->values, p->counts[1], coefficients,
+                                           p->counts[2]));
+    expect_guards(room, bytes);
+    if (number != p->number)
+        differ(what, which, number, p->number);
+    if (memcmp(room, p->after, bytes) != 0) {
+        printf("soak: DIFFERENT: %s %zu: coefficients\n", what, which);
+        exit(1);
+    }
+}
+
+static void interpolate_input(uint32_t i)
+{
+    expect_interpolation("interpolation", i, &interpolations[i]);
 }
 
 /* ---- Drawn questions ----------------------------------------------------------------------------- */
@@ -201,6 +299,45 @@ static uint32_t value_at(const uint32_t *coefficients, size_t count, uint32_t z)
     for (size_t i = count; i-- > 0;)
         value = (uint32_t)((coefficients[i] + (uint64_t)z * value) % Q);
     return value;
+}
+
+static int is_among(uint32_t x, const uint32_t *words, size_t count)
+{
+    for (size_t i = 0; i < count; i++)
+        if (words[i] == x)
+            return 1;
+    return 0;
+}
+
+/* A drawn polynomial from its values at drawn points; then with two points equal, and with a word that is no element:
+ * coefficients that are not refused stand in the slice then, and stay. */
+static void interpolate_fresh(void)
+{
+    static uint32_t points[MOST_SAMPLES], at[MOST_SAMPLES], drawn[MOST_SAMPLES], before[MOST_SAMPLES];
+    uint32_t n = 1 + draw_below(draw_below(4) == 0 ? MOST_SAMPLES : 20), spoilt = draw_below(n);
+    struct interpolation p = {{n, n, n}, 0, points, at, before, drawn};
+
+    for (uint32_t i = 0; i < n; i++) {
+        do
+            points[i] = draw_below(8) == 0 ? draw_below(2 * MOST_SAMPLES) : draw_below(Q);
+        while (is_among(points[i], points, i));
+        drawn[i] = draw_below(8) == 0 ? 0 : draw_below(Q);
+        before[i] = ~draw_below(Q);
+    }
+    for (uint32_t i = 0; i < n; i++)
+        at[i] = value_at(drawn, n, points[i]);
+    expect_interpolation("drawn interpolation of size", n, &p);
+    p.after = p.before;
+    if (n > 1) {
+        uint32_t other = (spoilt + 1 + draw_below(n - 1)) % n, kept = points[spoilt];
+        points[spoilt] = points[other];
+        p.number = 13;
+        expect_interpolation("equal points of", n, &p);
+        points[spoilt] = kept;
+    }
+    p.number = 3;
+    (draw_below(2) ? points : at)[spoilt] = Q + draw_below(5);
+    expect_interpolation("a word over q in", n, &p);
 }
 
 /* The polynomials' values, straight from the coefficients. */
@@ -370,8 +507,9 @@ static long resident(void)
 
 static void progress(double seconds, long size)
 {
-    printf("%8.0f s  %" PRIu64 " verdicts (%.0f a second), %" PRIu64 " openings, %" PRIu64 " proofs, VmRSS %ld kB;",
-           seconds, verdicts, (double)verdicts / seconds, opened, proved, size);
+    printf("%8.0f s  %" PRIu64 " verdicts (%.0f a second), %" PRIu64 " openings, %" PRIu64 " proofs, %" PRIu64
+           " interpolations, VmRSS %ld kB;",
+           seconds, verdicts, (double)verdicts / seconds, opened, proved, interpolated, size);
     for (int i = 0; i < NUMBERS; i++)
         printf(" %d:%" PRIu64, i, by_number[i]);
     puts("");
@@ -392,6 +530,8 @@ int main(int count, char **words)
     begun = now();
     for (uint32_t i = 0; i < input_count; i++)
         check_input(i);
+    for (uint32_t i = 0; i < interpolation_count; i++)
+        interpolate_input(i);
     for (size_t i = 0; i < COMMITMENTS; i++)
         check_fresh(i);
     progress(now() - begun, resident());
@@ -400,7 +540,10 @@ int main(int count, char **words)
         long size;
         for (int i = 0; i < FRESH_EVERY; i++)
             check_input(draw_below(input_count));
+        for (int i = 0; i < INTERPOLATIONS; i++)
+            interpolate_input(draw_below(interpolation_count));
         check_fresh(draw_below(COMMITMENTS));
+        interpolate_fresh();
         elapsed = now() - begun;
         if (elapsed < sampled + 1 && elapsed < limit)
             continue;

@@ -3,6 +3,7 @@
  * hash is OpenSSL's with -DPLAIN_OPENSSL, otherwise keccak.c's; plain.h has the other choices. */
 #include "plain.h"
 
+#include "any_points.h"
 #include "check.h"
 #include "commit.h"
 #include "open.h"
