@@ -1,9 +1,9 @@
 /*
  * SmallWood: a polynomial commitment over the field of q = 4294967291 elements.
  *
- * Six entries: commit, reply_length, open, check; and without a conversation prove, check_proof. Each is proved to return the number and
- * to leave the contents that the definitions give, for every input that keeps the rules below. Link with libsmallwood.a (x86-64, ELF,
- * System V calls); it needs memcpy and memset.
+ * Seven entries: commit, reply_length, open, check; without a conversation prove, check_proof; and apart from commitments interpolate.
+ * Each is proved to return the number and to leave the contents that the definitions give, for every input that keeps the rules below.
+ * Link with libsmallwood.a (x86-64, ELF, System V calls); it needs memcpy and memset.
  *
  * Rules for a caller
  *
@@ -14,6 +14,7 @@
  *               of their own; slices that are only read may be shared.
  *   Stack       A commit takes about 18 kilobytes, an open 7, a check 52 (measured). It is not wiped: see below.
  *               A prove and a check_proof hold the string that draws the leaves: at most 17 kilobytes more than an open and a check.
+ *               An interpolate takes about 4 kilobytes.
  *   Numbers     Words are in the machine's order. Multi-byte numbers in questions, replies, proofs and checked values are little-endian.
  *
  * What a reply shows
@@ -34,8 +35,9 @@
  *
  *   From the dead stack after a commit every mask and some whole rows can be computed, and after an open, at some sizes, a mask
  *   (measured before there were blinding rows). Overwrite 32 kilobytes of stack after either call, or call on a stack of your own and wipe
- *   that. A prove makes its answers as an open does: do the same after it. Coefficients, tails, blinds, masks, nonces and the table are
- *   the caller's to wipe.
+ *   that. A prove makes its answers as an open does: do the same after it. An interpolate leaves on the dead stack what gives, with the
+ *   points, every value and coefficient, and after a 13 values or what is left of them (by its source, not measured): do the same after it
+ *   where values are secret. Coefficients, tails, blinds, masks, nonces and the table are the caller's to wipe.
  *
  * What an accepted reply shows
  *
@@ -56,7 +58,8 @@
  *   0 where none of the tests below holds, and then the slices are filled. Otherwise the number of the first test that holds, and then
  *   every slice, and *length, is as it was: all tests come before the first write.
  *
- *    1   a size is outside its range, or w nu + l > N, or beta > mu, or mu + beta > 64, or kappa is above 16
+ *    1   a size is outside its range, or w nu + l > N, or beta > mu, or mu + beta > 64, or kappa is above 16; or there are no points to
+ *        interpolate over, or more than 320
  *    2   a lent slice is of wrong length
  *    3   an element is not below q
  *    4   the indices do not rise strictly, or one of them is not below N
@@ -68,6 +71,7 @@
  *   10   an evaluation answer fails at an opened leaf
  *   11   no counter below the limit qualifies
  *   12   the proof's counter does not qualify
+ *   13   two points are equal (interpolate only; those of a question may be)
  *
  * Sizes
  *
@@ -242,6 +246,25 @@ uint32_t smallwood_check_proof(const uint8_t *question, size_t question_length,
                                uint32_t kappa,
                                const uint8_t *proof, size_t proof_length,
                                uint8_t *values, size_t values_length);
+
+/*
+ * Interpolates over points of the caller's own: finds the one polynomial of degree below the number of points that has the values there.
+ *
+ *   Reads                                                                             length
+ *     points         elements, each once, in any order                                1 to 320
+ *     values         what the polynomial is at each point, in the points' order; elements   as many as points
+ *   Fills
+ *     coefficients   lowest first; where the degree is smaller, the last ones are 0   as many as points
+ *
+ * Returns 0, or the first of: 1, for the number of points; 2, where values or coefficients are not as many; 3, in points or values; 13.
+ * What stood in coefficients before is not looked at, and may be anything.
+ *
+ * The time grows with the square of the number of points, and depends on the points: they are compared, and inverses take a number of steps
+ * that depends on them. No branch and no address depends on the values, but for whether all are below q (by the source, not measured).
+ */
+uint32_t smallwood_interpolate(const uint32_t *points, size_t points_length,
+                               const uint32_t *values, size_t values_length,
+                               uint32_t *coefficients, size_t coefficients_length);
 
 #ifdef __cplusplus
 }
