@@ -14,7 +14,7 @@
  *               of their own; slices that are only read may be shared.
  *   Stack       A commit takes about 18 kilobytes, an open 7, a check 52 (measured). It is not wiped: see below.
  *               A prove and a check_proof hold the string that draws the leaves: at most 17 kilobytes more than an open and a check.
- *               An interpolate takes about 4 kilobytes.
+ *               An interpolate takes about 5 kilobytes.
  *   Numbers     Words are in the machine's order. Multi-byte numbers in questions, replies, proofs and checked values are little-endian.
  *
  * What a reply shows
@@ -259,8 +259,8 @@ uint32_t smallwood_check_proof(const uint8_t *question, size_t question_length,
  * Returns 0, or the first of: 1, for the number of points; 2, where values or coefficients are not as many; 3, in points or values; 13.
  * What stood in coefficients before is not looked at, and may be anything.
  *
- * The time grows with the square of the number of points, and depends on the points: they are compared, and inverses take a number of steps
- * that depends on them. No branch and no address depends on the values, but for whether all are below q (by the source, not measured).
+ * The time grows with the square of the number of points, and depends on the points: inversions take a number of steps that depends on
+ * them, and divide. No branch and no address depends on the values, but for whether all are below q (measured, not proved).
  */
 uint32_t smallwood_interpolate(const uint32_t *points, size_t points_length,
                                const uint32_t *values, size_t values_length,

@@ -41,11 +41,44 @@ fi
 # shellcheck disable=SC2086
 "$CC" $CFLAGS "$tools/bench.c" "$tools/instance.c" $objects "$archive" $with -lpthread -Wl,-z,now -o "$build/bench"
 
-# count OPERATION SIZE NAME: instructions inside that call
-count() {
-    entry=$1
+# cells HAS COUNT: what COUNT says of each of $names, and the ratios of the library to the others; empty where HAS fails.
+cells() {
+    ratios=
+    for name in $names; do
+        if ! "$1" "$name"; then
+            printf '| '
+            ratios="$ratios| "
+            continue
+        fi
+        found=$("$2" "$name")
+        printf '| %s ' "$found"
+        if [ "$name" = smallwood ]; then
+            library=$found
+        else
+            ratios="$ratios| $(awk "BEGIN { printf \"%.2f\", $library / $found }") "
+        fi
+    done
+    echo "$ratios|"
+}
+
+# Instructions inside a call of $operation at $size.
+has_call() {
+    "$build/bench" has "$operation" "$size" "$1"
+}
+
+count_call() {
+    entry=$operation
     [ "$entry" != length ] || entry=reply_length
-    count_inside "$3_$entry" "$build/bench" once "$1" "$2" "$3"
+    count_inside "$1_$entry" "$build/bench" once "$operation" "$size" "$1"
+}
+
+# Instructions inside an interpolation over $count points.
+has_interpolation() {
+    "$build/bench" has-any "$1"
+}
+
+count_interpolation() {
+    count_inside "$1_interpolate" "$build/bench" once-any "$count" "$1"
 }
 
 instructions() {
@@ -61,22 +94,7 @@ instructions() {
     for size in $("$build/bench" sizes); do
         for operation in commit open check length prove check_proof; do
             "$build/bench" row "$operation" "$size"
-            ratios=
-            for name in $names; do
-                if ! "$build/bench" has "$operation" "$size" "$name"; then
-                    printf '| '
-                    ratios="$ratios| "
-                    continue
-                fi
-                found=$(count "$operation" "$size" "$name")
-                printf '| %s ' "$found"
-                if [ "$name" = smallwood ]; then
-                    library=$found
-                else
-                    ratios="$ratios| $(awk "BEGIN { printf \"%.2f\", $library / $found }") "
-                fi
-            done
-            echo "$ratios|"
+            cells has_call count_call
         done
     done
 }
@@ -93,22 +111,7 @@ instructions_of_interpolation() {
     echo
     for count in 1 2 8 32 128 160 320; do
         printf '| %s ' "$count"
-        ratios=
-        for name in $names; do
-            if ! "$build/bench" has-any "$name"; then
-                printf '| '
-                ratios="$ratios| "
-                continue
-            fi
-            found=$(count_inside "${name}_interpolate" "$build/bench" once-any "$count" "$name")
-            printf '| %s ' "$found"
-            if [ "$name" = smallwood ]; then
-                library=$found
-            else
-                ratios="$ratios| $(awk "BEGIN { printf \"%.2f\", $library / $found }") "
-            fi
-        done
-        echo "$ratios|"
+        cells has_interpolation count_interpolation
     done
 }
 

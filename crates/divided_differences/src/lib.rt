@@ -187,7 +187,7 @@ fn rest_after(rest: u64, minus: u32, p: Element) -> u64
 }
 
 // Takes the coefficient of point k off the rests behind it, and the point into the products.
-// Two places at a time, and both are read before anything is written: the compiler cannot know that the slices do not overlap.
+// Two places at a time, and both are read before anything is written, so that no read waits for a store.
 fn take_off(points: &[u32], k: usize, minus: u32, rests: &mut [u64], products: &mut [u32])
     requires { ⌜ Elements (now points) × (k < length (now points)) × (length (now rests) ≡ length (now points)) × (length (now products) ≡ length (now points)) × Held (now rests) (k + 1) (length (now points)) ⌝ }
     ensures { λ _. ⌜ Filled (restTurn minus (now (rests .entry)) (now (products .entry))) (now (rests .exit)) (k + 1) (length (now (points .entry))) × Filled (productTurn (now (points .entry)) k (now (products .entry))) (now (products .exit)) (k + 1) (length (now (points .entry))) ⌝ }

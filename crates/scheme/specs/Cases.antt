@@ -113,5 +113,5 @@ further =
     ∷ (verdictI [] [] 0 ∷ verdictI (replicate 320 0) (replicate 320 0) 320 ∷ verdictI (replicate 321 0) [] 0 ∷ [], 1 ∷ 13 ∷ 1 ∷ [])
     ∷ (verdictI (q ∷ []) [] 1 ∷ verdictI (1 ∷ []) (q ∷ 1 ∷ []) 1 ∷ verdictI (1 ∷ []) (q ∷ []) 0 ∷ [], 2 ∷ 2 ∷ 2 ∷ [])
     ∷ (verdictI (q ∷ q ∷ []) (0 ∷ 0 ∷ []) 2 ∷ verdictI (1 ∷ 1 ∷ []) (0 ∷ q ∷ []) 2 ∷ [], 3 ∷ 3 ∷ [])
-    ∷ (verdictI (1 ∷ 2 ∷ 1 ∷ []) (0 ∷ 0 ∷ 0 ∷ []) 3 ∷ verdictI (1 ∷ 2 ∷ 2 ∷ []) (0 ∷ 0 ∷ 0 ∷ []) 3 ∷ verdictI (0 ∷ (q - 1) ∷ []) ((q - 1) ∷ 0 ∷ []) 2 ∷ [], 13 ∷ 13 ∷ 0 ∷ [])
+    ∷ (verdictI (1 ∷ 2 ∷ 1 ∷ []) (0 ∷ 1 ∷ 2 ∷ []) 3 ∷ verdictI (1 ∷ 2 ∷ 2 ∷ []) (0 ∷ 0 ∷ 0 ∷ []) 3 ∷ verdictI (0 ∷ (q - 1) ∷ []) ((q - 1) ∷ 0 ∷ []) 2 ∷ [], 13 ∷ 13 ∷ 0 ∷ [])
     ∷ []
