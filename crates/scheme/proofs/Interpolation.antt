@@ -102,7 +102,7 @@ module _ (points values room : List ℕ) where
 
 -- ---- the one polynomial
 
-one-polynomial : (points values : List ℕ) → Elements points → Distinct points → Elements values → length values ≡ length points → OnePolynomial points values (interpN points values)
+pub one-polynomial : (points values : List ℕ) → Elements points → Distinct points → Elements values → length values ≡ length points → OnePolynomial points values (interpN points values)
 one-polynomial points values bx d by l = record {
   count = interpN-length points values l;
   below = interpN-below points values;

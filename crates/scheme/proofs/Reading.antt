@@ -1,20 +1,17 @@
 -- Reading aids: short laws that say of a definition what the paper says of its word.
-use mathlib.Core.Path.{_≡_, sym, ap}
+use mathlib.Core.Path.{_≡_, ap}
 use mathlib.Core.Logic.{⊎-elim, _≢_}
 use mathlib.Core.Bool.{Bool, true, false}
-use mathlib.Core.List.{List, map, List·Memᴰ as Mem}
+use mathlib.Core.List.{List, List·Memᴰ as Mem}
 use Prim.Native.Nat.{ℕ, _≤_, _<_}
 use native.Mathlib.Omega.{arith}
 use lib.Dec.{eqb}
-use lib.ListN.{length}
 use borrow.Author.Tests.{eqb-true}
 use Rattle.lists.specs.Choice.{pick, tested}
-use Rattle.lists.specs.All.{All, Distinct, all-append}
+use Rattle.lists.specs.All.{All, all-append}
 use Rattle.lists.specs.Bytes.{Bytes}
 use Rattle.lists.specs.Pieces.{piece}
 use Rattle.lists.specs.Tests.{Test, verdict-within}
-use Rattle.algebra.specs.Numbers.{evalN, interpN, interpN-values, Elements}
-use Rattle.algebra.specs.Cases.{interpN-is}
 use Rattle.tree.specs.Sets.{missing}
 use Rattle.tree.proofs.Missing.{Above, Missing, sibling, missing-of, missing-in, missing-sibling, sibling-missing}
 use Rattle.scheme.specs.Sizes.{Sizes, columns}
@@ -30,15 +27,6 @@ use Rattle.scheme.specs.Honest.{WellLent}
 use Rattle.scheme.proofs.Lent.{counted, lent-facts}
 use Rattle.scheme.proofs.Entries.{column-unblinded}
 use Rattle.scheme.proofs.Held.{held-committed}
-
--- ---- `interpN xs ys` is the one polynomial of degree below the number of points that takes the values ys at the points xs
-
-pub interpolation-takes : (xs ys : List ℕ) → Elements xs → Distinct xs → Elements ys → length ys ≡ length xs → map (λ (x : ℕ). evalN (interpN xs ys) x) xs ≡ ys
-interpolation-takes = interpN-values
-
-pub interpolation-only : (xs ys p : List ℕ) → Elements xs → Distinct xs → Elements ys → length ys ≡ length xs → Elements p → length p ≡ length xs
-    → map (λ (x : ℕ). evalN p x) xs ≡ ys → p ≡ interpN xs ys
-interpolation-only xs ys p bx d by ly bp lp e = sym (interpN-is xs ys p bx d by bp lp ly e)
 
 -- ---- the rows of a commitment hold the committed polynomials: all their coefficients, whatever the blinds
 
