@@ -1,6 +1,6 @@
 -- The rows with their tails: they are field elements, and what is lent gives their combinations.
 use mathlib.Core.Path.{_≡_, sym, ap, ap₂, _∙_, subst}
-use mathlib.Core.List.{List, [], _++_}
+use mathlib.Core.List.{List, _++_}
 use Prim.Native.Nat.{ℕ, _+_, _-_, _*_, _≤_, _<_}
 use native.Mathlib.Nat.{mul-comm}
 use native.Mathlib.Omega.{arith}
@@ -17,6 +17,8 @@ use Rattle.algebra.specs.Columns.{powN}
 use Rattle.algebra.specs.Numbers.{Polys}
 use Rattle.scheme.specs.Sizes.{Sizes, SizesInOrder, leaves, rows, columns, width}
 use Rattle.scheme.specs.Layers.{Lent, lentOf, extended, extendedRows, combination}
+use Rattle.lent.specs.Partly.{lentRows}
+use Rattle.tree.specs.Leaf.{saltLength}
 use Rattle.scheme.proofs.Lent.{LentFacts}
 use Rattle.scheme.proofs.HonestAnswers.{ext-polys, answer-parts}
 use Rattle.lists.specs.Parts.{rest-length, two-parts}
@@ -29,14 +31,14 @@ use Rattle.commitment.proofs.Places.{width-high}
 
 module _ (t : Sizes) (coefficients tails blinds : List ℕ) (can : CanCombine t coefficients tails blinds) where
   abbrev ext : List (List ℕ)
-  ext = extendedRows t (lentOf coefficients tails blinds [] [])
+  ext = extendedRows t (lentRows coefficients tails blinds)
 
   g : SizesInOrder t
   g = can .extend .laid .sizes
 
-  -- masks and nonces matter to no row: zeros serve
+  -- masks, nonces and salt matter to no row: zeros serve
   abbrev lent : Lent
-  lent = lentOf coefficients tails blinds (replicate (t .η * width t) 0) (replicate (32 * leaves t) 0)
+  lent = lentOf coefficients tails blinds (replicate (t .η * width t) 0) (replicate (32 * leaves t) 0) (replicate saltLength 0)
 
   r : LentFacts t lent
   r = record {
@@ -46,6 +48,7 @@ module _ (t : Sizes) (coefficients tails blinds : List ℕ) (can : CanCombine t 
     b-length = can .extend .laid .blinds-length;
     m-length = length-replicate (t .η * width t) 0;
     n-length = length-replicate (32 * leaves t) 0;
+    s-length = length-replicate {A = ℕ} saltLength 0;
     c-below = can .coefficients-below;
     t-below = can .tails-below;
     b-below = can .extend .laid .blinds-below;
@@ -53,13 +56,13 @@ module _ (t : Sizes) (coefficients tails blinds : List ℕ) (can : CanCombine t 
   }
 
   same-rows : ext ≡ extendedRows t lent
-  same-rows = rows-lent t coefficients tails blinds (lent .masks) (lent .nonces)
+  same-rows = rows-lent t coefficients tails blinds (lent .masks) (lent .nonces) (lent .salt)
 
   pub rows-polys : Polys (width t) ext
   rows-polys = subst (Polys (width t)) (sym same-rows) (ext-polys t lent r)
 
   pub rows-some : 0 < length ext
-  rows-some = omega (arith, length-map (upFrom 0 (rows t)) (extended t (lentOf coefficients tails blinds [] [])) ∙ length-upFrom 0 (rows t), g .μ-low)
+  rows-some = omega (arith, length-map (upFrom 0 (rows t)) (extended t (lentRows coefficients tails blinds)) ∙ length-upFrom 0 (rows t), g .μ-low)
 
   -- ---- a combination, its columns first
 

@@ -1,6 +1,6 @@
 // The answers of an opening: sums over the rows, each times a power of a point, and polynomials through them, as bytes of a reply.
 ghost use mathlib.Core.Path.{_≡_};
-ghost use mathlib.Core.List.{[], map, flatten};
+ghost use mathlib.Core.List.{map, flatten};
 ghost use Prim.Native.Nat.{_+_, _*_, _≤_};
 ghost use lib.ListN.{length, drop};
 ghost use Rattle.lists.specs.Pieces.{pieces};
@@ -10,7 +10,8 @@ ghost use Rattle.lists.specs.Tabulate.{tabulate};
 ghost use Rattle.algebra.specs.Columns.{powN};
 ghost use Rattle.algebra.specs.Dot.{longest, dotsOf};
 ghost use Rattle.algebra.specs.Pairs.{pointsEnd};
-ghost use Rattle.scheme.specs.Layers.{lentOf, extendedRows, combination};
+ghost use Rattle.scheme.specs.Layers.{extendedRows, combination};
+ghost use Rattle.lent.specs.Partly.{lentRows};
 ghost use Rattle.scheme.specs.Sizes.{rows, columns, width};
 ghost use Rattle.commitment.specs.Shape.{sizesIn};
 ghost use Rattle.lists.specs.Spliced.{spliced};
@@ -106,7 +107,7 @@ fn combine_lent(
     out: &mut [u32],
 )
     requires { ⌜ CanCombine (sizesIn s) (now coefficients) (now tails) (now blinds) × (length (now out) ≡ width (sizesIn s)) ⌝ }
-    ensures { λ _. ⌜ now (out .exit) ≡ combination (width (sizesIn s)) (z .0) (extendedRows (sizesIn s) (lentOf (now (coefficients .entry)) (now (tails .entry)) (now (blinds .entry)) [] [])) ⌝ }
+    ensures { λ _. ⌜ now (out .exit) ≡ combination (width (sizesIn s)) (z .0) (extendedRows (sizesIn s) (lentRows (now (coefficients .entry)) (now (tails .entry)) (now (blinds .entry)))) ⌝ }
 {
     let rows = row_count(s);
     let columns = column_count(s);
@@ -135,7 +136,7 @@ fn batching_answer(
     out: &mut [u32],
 )
     requires { ⌜ CanCombine (sizesIn s) (now coefficients) (now tails) (now blinds) × (length (now out) ≡ width (sizesIn s)) × (first .0 + length (now out) ≤ pointsEnd) × (length (now mask) ≡ length (now out)) × (length (now sum) ≡ length (now out)) ⌝ }
-    ensures { λ _. ⌜ now (out .exit) ≡ batchingOver (first .0) (length (now (out .entry))) (extendedRows (sizesIn s) (lentOf (now (coefficients .entry)) (now (tails .entry)) (now (blinds .entry)) [] [])) (now (mask .entry)) (gamma .0) ⌝ }
+    ensures { λ _. ⌜ now (out .exit) ≡ batchingOver (first .0) (length (now (out .entry))) (extendedRows (sizesIn s) (lentRows (now (coefficients .entry)) (now (tails .entry)) (now (blinds .entry)))) (now (mask .entry)) (gamma .0) ⌝ }
 {
     combine_lent(s, coefficients, tails, blinds, gamma, sum);
     interpolate_from(first, sum, out);
@@ -173,7 +174,7 @@ fn put_batching_in(
     at: usize,
 )
     requires { ⌜ CanCombine (sizesIn s) (now coefficients) (now tails) (now blinds) × (length (now mask) ≡ width (sizesIn s)) × (first .0 + length (now mask) ≤ pointsEnd) × (at + 4 * length (now mask) ≤ length (now out)) × (length (now sum) ≡ length (now mask)) × (length (now answer) ≡ length (now mask)) ⌝ }
-    ensures { λ _. ⌜ now (out .exit) ≡ spliced at (4 * length (now (mask .entry))) (bytesOf (batchingOver (first .0) (length (now (mask .entry))) (extendedRows (sizesIn s) (lentOf (now (coefficients .entry)) (now (tails .entry)) (now (blinds .entry)) [] [])) (now (mask .entry)) (gamma .0))) (now (out .entry)) ⌝ }
+    ensures { λ _. ⌜ now (out .exit) ≡ spliced at (4 * length (now (mask .entry))) (bytesOf (batchingOver (first .0) (length (now (mask .entry))) (extendedRows (sizesIn s) (lentRows (now (coefficients .entry)) (now (tails .entry)) (now (blinds .entry)))) (now (mask .entry)) (gamma .0))) (now (out .entry)) ⌝ }
 {
     batching_answer(
         s,
@@ -202,7 +203,7 @@ fn put_batching(
     at: usize,
 )
     requires { ⌜ CanCombine (sizesIn s) (now coefficients) (now tails) (now blinds) × (length (now mask) ≡ width (sizesIn s)) × (first .0 + length (now mask) ≤ pointsEnd) × (at + 4 * length (now mask) ≤ length (now out)) ⌝ }
-    ensures { λ _. ⌜ now (out .exit) ≡ spliced at (4 * length (now (mask .entry))) (bytesOf (batchingOver (first .0) (length (now (mask .entry))) (extendedRows (sizesIn s) (lentOf (now (coefficients .entry)) (now (tails .entry)) (now (blinds .entry)) [] [])) (now (mask .entry)) (gamma .0))) (now (out .entry)) ⌝ }
+    ensures { λ _. ⌜ now (out .exit) ≡ spliced at (4 * length (now (mask .entry))) (bytesOf (batchingOver (first .0) (length (now (mask .entry))) (extendedRows (sizesIn s) (lentRows (now (coefficients .entry)) (now (tails .entry)) (now (blinds .entry)))) (now (mask .entry)) (gamma .0))) (now (out .entry)) ⌝ }
 {
     let n = mask.len();
     if n <= FEW {
@@ -252,7 +253,7 @@ fn put_answer_in(
     at: usize,
 )
     requires { ⌜ CanCombine (sizesIn s) (now coefficients) (now tails) (now blinds) × (length (now answer) ≡ width (sizesIn s)) × (at + 4 * length (now answer) ≤ length (now out)) ⌝ }
-    ensures { λ _. ⌜ now (out .exit) ≡ spliced at (4 * length (now (answer .entry))) (bytesOf (combination (length (now (answer .entry))) (z .0) (extendedRows (sizesIn s) (lentOf (now (coefficients .entry)) (now (tails .entry)) (now (blinds .entry)) [] [])))) (now (out .entry)) ⌝ }
+    ensures { λ _. ⌜ now (out .exit) ≡ spliced at (4 * length (now (answer .entry))) (bytesOf (combination (length (now (answer .entry))) (z .0) (extendedRows (sizesIn s) (lentRows (now (coefficients .entry)) (now (tails .entry)) (now (blinds .entry)))))) (now (out .entry)) ⌝ }
 {
     combine_lent(s, coefficients, tails, blinds, z, answer);
     put_words(out, at, &answer[..]);
@@ -270,7 +271,7 @@ fn put_answer(
     at: usize,
 )
     requires { ⌜ CanCombine (sizesIn s) (now coefficients) (now tails) (now blinds) × (n ≡ width (sizesIn s)) × (at + 4 * n ≤ length (now out)) ⌝ }
-    ensures { λ _. ⌜ now (out .exit) ≡ spliced at (4 * n) (bytesOf (combination n (z .0) (extendedRows (sizesIn s) (lentOf (now (coefficients .entry)) (now (tails .entry)) (now (blinds .entry)) [] [])))) (now (out .entry)) ⌝ }
+    ensures { λ _. ⌜ now (out .exit) ≡ spliced at (4 * n) (bytesOf (combination n (z .0) (extendedRows (sizesIn s) (lentRows (now (coefficients .entry)) (now (tails .entry)) (now (blinds .entry)))))) (now (out .entry)) ⌝ }
 {
     if n <= FEW {
         let mut answer = blank_few();
@@ -298,7 +299,7 @@ pub fn put_batchings(
     at: usize,
 )
     requires { ⌜ CanCombine (sizesIn s) (now coefficients) (now tails) (now blinds) × (n ≡ width (sizesIn s)) × (first .0 + n ≤ pointsEnd) × (length (now masks) ≡ s .eta * n) × (challenges + 4 * s .eta ≤ length (now question)) × (at + 4 * n * s .eta ≤ length (now out)) ⌝ }
-    ensures { λ _. ⌜ now (out .exit) ≡ spliced at (4 * n * s .eta) (bytesOf (flatten (map (batchingAt (first .0) n (extendedRows (sizesIn s) (lentOf (now (coefficients .entry)) (now (tails .entry)) (now (blinds .entry)) [] [])) (now (masks .entry)) (words (s .eta) (drop challenges (now (question .entry))))) (upFrom 0 (s .eta))))) (now (out .entry)) ⌝ }
+    ensures { λ _. ⌜ now (out .exit) ≡ spliced at (4 * n * s .eta) (bytesOf (flatten (map (batchingAt (first .0) n (extendedRows (sizesIn s) (lentRows (now (coefficients .entry)) (now (tails .entry)) (now (blinds .entry)))) (now (masks .entry)) (words (s .eta) (drop challenges (now (question .entry))))) (upFrom 0 (s .eta))))) (now (out .entry)) ⌝ }
 {
     let eta = s.eta as usize;
     let size = 4 * n;
@@ -334,7 +335,7 @@ pub fn put_answers(
     at: usize,
 )
     requires { ⌜ CanCombine (sizesIn s) (now coefficients) (now tails) (now blinds) × (n ≡ width (sizesIn s)) × (points + 4 * m ≤ length (now question)) × (at + 4 * n * m ≤ length (now out)) ⌝ }
-    ensures { λ _. ⌜ now (out .exit) ≡ spliced at (4 * n * m) (bytesOf (flatten (map (answerAt n (extendedRows (sizesIn s) (lentOf (now (coefficients .entry)) (now (tails .entry)) (now (blinds .entry)) [] []))) (words m (drop points (now (question .entry))))))) (now (out .entry)) ⌝ }
+    ensures { λ _. ⌜ now (out .exit) ≡ spliced at (4 * n * m) (bytesOf (flatten (map (answerAt n (extendedRows (sizesIn s) (lentRows (now (coefficients .entry)) (now (tails .entry)) (now (blinds .entry))))) (words m (drop points (now (question .entry))))))) (now (out .entry)) ⌝ }
 {
     let size = 4 * n;
     for p in 0..m {

@@ -12,9 +12,11 @@ use Rattle.lists.specs.All.{Below}
 use Rattle.lists.specs.Rising.{Rising}
 use Rattle.lists.specs.Bytes.{Bytes, length-words}
 use Rattle.lists.specs.Choice.{pick}
+use Rattle.lists.specs.Parts.{span-length}
 use Rattle.lists.specs.Tests.{verdictOf, passed, verdict-hit, verdict-miss, verdict-go, verdict-stop}
+use Rattle.tree.specs.Leaf.{saltLength}
 use Rattle.scheme.specs.Sizes.{Sizes, leaves}
-use Rattle.scheme.specs.Question.{Question, readQuestion, headerLength, challengesAt, pointsAt, questionTests}
+use Rattle.scheme.specs.Question.{Question, readQuestion, headerLength, saltAt, challengesAt, pointsAt, questionTests}
 use Rattle.scheme.specs.Reply.{readReply, replyLength, recordsAt}
 use Rattle.scheme.specs.Commit.{after}
 use Rattle.scheme.specs.Check.{replyTests, checkValues, checkVerdict, checking}
@@ -30,14 +32,15 @@ use Rattle.checker.specs.Answered.{checkingReply}
 -- ---- the question as the code holds it
 
 -- the lists that were read, each the front of its room
-pub was-posed : (b : Bytes) (s : Shape) (m : ℕ) (challenges points indices : List ℕ) → questioned b ≡ WellFormed s m
-    → challenges ≡ readQuestion b .challenges → points ≡ readQuestion b .evaluationPoints → indices ≡ readQuestion b .indices
-    → Posed (sizesIn s) challenges points indices
-was-posed b s m challenges points indices e ec ep ei =
+pub was-posed : (b : Bytes) (s : Shape) (m : ℕ) (salt challenges points indices : List ℕ) → questioned b ≡ WellFormed s m
+    → salt ≡ take saltLength (drop saltAt b) → challenges ≡ readQuestion b .challenges → points ≡ readQuestion b .evaluationPoints → indices ≡ readQuestion b .indices
+    → Posed (sizesIn s) salt challenges points indices
+was-posed b s m salt challenges points indices e es ec ep ei =
     let t : Taken b s m = taken b s m e in
     let k = asked-indices b s m e in
     record {
       in-order = sizes-in-order (sizesIn s) (t .sizes-ok);
+      salted = ap length es ∙ span-length saltAt saltLength b (omega (arith, t .long));
       repetitions = ap length (ec ∙ t .challenges) ∙ length-words (s .eta) (drop challengesAt b);
       few-points = subst (λ (n : ℕ). n ≤ 8) (sym (ap length (ep ∙ t .points) ∙ length-words m (drop (pointsAt (sizesIn s)) b))) (t .m-high);
       opened = ap length ei ∙ k .0;
@@ -45,10 +48,11 @@ was-posed b s m challenges points indices e ec ep ei =
       below = subst (Below (leaves (sizesIn s))) (sym ei) (k .1 .leaves);
     }
 
-pub posed-is : (b : Bytes) (s : Shape) (m : ℕ) (root challenges points indices : List ℕ) → questioned b ≡ WellFormed s m → root ≡ take 32 (drop headerLength b)
+pub posed-is : (b : Bytes) (s : Shape) (m : ℕ) (root salt challenges points indices : List ℕ) → questioned b ≡ WellFormed s m
+    → root ≡ take 32 (drop headerLength b) → salt ≡ take saltLength (drop saltAt b)
     → challenges ≡ readQuestion b .challenges → points ≡ readQuestion b .evaluationPoints → indices ≡ readQuestion b .indices
-    → posed (sizesIn s) root challenges points indices ≡ readQuestion b
-posed-is b s m root challenges points indices e er ec ep ei =
+    → posed (sizesIn s) root salt challenges points indices ≡ readQuestion b
+posed-is b s m root salt challenges points indices e er es ec ep ei =
     let t : Taken b s m = taken b s m e in
     let a = well-asked b s m e in
     let n : length points ≡ readQuestion b .m = ap length (ep ∙ t .points) ∙ length-words m (drop (pointsAt (sizesIn s)) b) ∙ a .2 in
@@ -56,6 +60,7 @@ posed-is b s m root challenges points indices e er ec ep ei =
       sizes = (a .1) i;
       m = n i;
       root = (er ∙ sym (t .root)) i;
+      salt = (es ∙ sym (t .salt)) i;
       challenges = ec i;
       evaluationPoints = ep i;
       indices = ei i;

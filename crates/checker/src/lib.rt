@@ -9,6 +9,7 @@ ghost use Rattle.checker.specs.Answered.{checkingReply};
 use commitment::Shape;
 use commitment::challenges_at;
 use commitment::root_at;
+use commitment::salt_at;
 use question::Questioned;
 use question::ask;
 use question::blank_challenges;
@@ -20,7 +21,7 @@ use question::question_points;
 use reply_tests::reply_verdict;
 use reply_values::fill_values;
 
-// The reply's tests, with the challenges, points, indices and root of the question.
+// The reply's tests, with the challenges, points, indices, root and salt of the question.
 fn asked_verdict(question: &[u8], s: Shape, m: u32, reply: &[u8]) -> u32
     requires { ⌜ questioned (now question) ≡ WellFormed s m ⌝ }
     ensures { λ r. ⌜ r ≡ verdictOf (replyTests (readQuestion (now (question .entry))) (now (reply .entry))) ⌝ }
@@ -34,14 +35,16 @@ fn asked_verdict(question: &[u8], s: Shape, m: u32, reply: &[u8]) -> u32
     question_points(question, s, m, &mut points);
     let mut indices = blank_indices();
     question_indices(question, s, m, &mut indices);
-    let from = root_at();
-    let to = challenges_at();
+    let root = root_at();
+    let salt = salt_at();
+    let end = challenges_at();
     reply_verdict(
         s,
         &challenges[..eta],
         &points[..count],
         &indices[..l],
-        &question[from..to],
+        &question[root..salt],
+        &question[salt..end],
         reply,
     )
 }

@@ -20,7 +20,8 @@ use Rattle.algebra.specs.Dot.{longest, dotN, dotN-below, dotsOf, dots-entry, do
 use Rattle.algebra.specs.Numbers.{evalN}
 use Rattle.scheme.specs.Sizes.{Sizes, rows, columns, coefficientCount}
 use Rattle.scheme.specs.Matrix.{polynomial, blindingRows, loweredBy, columnOf}
-use Rattle.scheme.specs.Layers.{Lent, lentOf, column}
+use Rattle.scheme.specs.Layers.{Lent, column}
+use Rattle.lent.specs.Partly.{lentRows}
 use Rattle.scheme.proofs.Lent.{Counted}
 use Rattle.scheme.proofs.Columns.{lent-blinds, top-coefficients, part-length, blinding-length, columnOf-length, column-value-is, columns-are, column-length}
 use Rattle.scheme.proofs.Entries.{column-unblinded}
@@ -186,7 +187,7 @@ module _ (s : Sizes) (c d : List ℕ) (h : CanLayOut s c d) where
     -- ---- all columns
 
     abbrev lent : Lent
-    lent = lentOf c [] d [] []
+    lent = lentRows c [] d
 
     column-in : (a : ℕ) → Mem a (upFrom 0 (columns s)) → a < columns s
     column-in a m = subst (λ (n : ℕ). a < n) (zero-add (columns s)) (upFrom-of 0 (columns s) a m .1)

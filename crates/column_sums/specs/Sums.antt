@@ -8,7 +8,8 @@ use Rattle.algebra.specs.Columns.{powN}
 use Rattle.algebra.specs.Dot.{dotN}
 use Rattle.scheme.specs.Sizes.{Sizes, columns}
 use Rattle.scheme.specs.Matrix.{columnOf}
-use Rattle.scheme.specs.Layers.{lentOf, column}
+use Rattle.scheme.specs.Layers.{column}
+use Rattle.lent.specs.Partly.{lentRows}
 
 -- weights that are the first n powers of a point
 pub record Powers (n : ℕ) (weights : List ℕ) : Type 0 where
@@ -20,4 +21,4 @@ abbrev pub polynomialSums : Sizes → List ℕ → List ℕ → List ℕ → ℕ
 polynomialSums s coefficients blinds weights i = map (λ t. dotN weights (columnOf s coefficients blinds i t)) (upFrom 0 (s .ν))
 
 abbrev pub columnSums : Sizes → List ℕ → List ℕ → List ℕ → List ℕ
-columnSums s coefficients blinds weights = map (λ a. dotN weights (column s (lentOf coefficients [] blinds [] []) a)) (upFrom 0 (columns s))
+columnSums s coefficients blinds weights = map (λ a. dotN weights (column s (lentRows coefficients [] blinds) a)) (upFrom 0 (columns s))

@@ -5,7 +5,7 @@ ghost use Prim.Native.Nat.{_+_, _*_, _^_, _≤_};
 ghost use lib.Dec.{leb};
 ghost use Rattle.lists.specs.Tests.{every, within};
 ghost use Rattle.scheme.specs.Sizes.{SizesInOrder, sizesOk, columns, rows, coefficientCount, blindCount, width, recordValues, mostPoints};
-ghost use Rattle.scheme.specs.Question.{headerLength, challengesAt, pointsAt, indicesAt, questionLength};
+ghost use Rattle.scheme.specs.Question.{headerLength, saltAt, challengesAt, pointsAt, indicesAt, questionLength};
 ghost use Rattle.scheme.specs.Reply.{recordLength, answersAt, recordsAt, nodesAt};
 ghost use Rattle.commitment.specs.Shape.{sizesIn};
 use codec::both;
@@ -109,6 +109,8 @@ pub fn row_width(s: Shape) -> usize
 
 // ---- the layout of a question
 
+pub const SALT_LENGTH: usize = 32;
+
 // The bytes of the header; the root begins after them.
 pub fn root_at() -> usize
     ensures { λ r. ⌜ r ≡ headerLength ⌝ }
@@ -116,11 +118,17 @@ pub fn root_at() -> usize
     15
 }
 
-// Where the challenges begin, the evaluation points and the indices, and how long a question is.
+// Where the salt begins, the challenges, the evaluation points and the indices, and how long a question is.
+pub fn salt_at() -> usize
+    ensures { λ r. ⌜ r ≡ saltAt ⌝ }
+{
+    root_at() + 32
+}
+
 pub fn challenges_at() -> usize
     ensures { λ r. ⌜ r ≡ challengesAt ⌝ }
 {
-    root_at() + 32
+    salt_at() + SALT_LENGTH
 }
 
 pub fn points_at(s: Shape) -> usize

@@ -39,23 +39,23 @@ module _ (values : List ℕ) (nonce old one two : Bytes) (at : ℕ) (ha : at ≡
   pub record-length : length (take (at + 32) two) ≡ at + 32
   record-length = ap length record-is ∙ record-count
 
-pub digestOf-length : (k : ℕ) (table nonces : List ℕ) (i : ℕ) → length (digestOf k table nonces i) ≡ 32
+pub digestOf-length : (k : ℕ) (table nonces salt : List ℕ) (i : ℕ) → length (digestOf k table nonces salt i) ≡ 32
 unfolding digestOf
-digestOf-length k table nonces i = digest-length (leafString i (bytesOf (piece k i table) ++ piece 32 i nonces))
+digestOf-length k table nonces salt i = digest-length (leafString salt i (bytesOf (piece k i table) ++ piece 32 i nonces))
 
 -- leaf i is hashed from its parts of the table and of the nonces
-pub digest-is : (k i : ℕ) (table nonces ys : List ℕ)
-    → ys ≡ digest (leafString i (bytesOf (take (k * i + k - k * i) (drop (k * i) table)) ++ take (32 * i + 32 - 32 * i) (drop (32 * i) nonces))) → ys ≡ digestOf k table nonces i
+pub digest-is : (k i : ℕ) (table nonces salt ys : List ℕ)
+    → ys ≡ digest (leafString salt i (bytesOf (take (k * i + k - k * i) (drop (k * i) table)) ++ take (32 * i + 32 - 32 * i) (drop (32 * i) nonces))) → ys ≡ digestOf k table nonces salt i
 unfolding digestOf
-digest-is k i table nonces ys h =
-    h ∙ ap₂ (λ (x y : List ℕ). digest (leafString i (bytesOf x ++ y))) (part-is k i table) (part-is 32 i nonces)
+digest-is k i table nonces salt ys h =
+    h ∙ ap₂ (λ (x y : List ℕ). digest (leafString salt i (bytesOf x ++ y))) (part-is k i table) (part-is 32 i nonces)
 
 -- all leaves hashed
-pub digests-done : (s : Sizes) (k i : ℕ) (table nonces old : List ℕ) → k ≡ recordValues s → i ≡ leaves s
-    → rowsOf (digestOf k table nonces) i ++ drop (32 * i) old ≡ flatten (leafDigests s table nonces) ++ drop (32 * leaves s) old
+pub digests-done : (s : Sizes) (k i : ℕ) (table nonces salt old : List ℕ) → k ≡ recordValues s → i ≡ leaves s
+    → rowsOf (digestOf k table nonces salt) i ++ drop (32 * i) old ≡ flatten (leafDigests s table nonces salt) ++ drop (32 * leaves s) old
 unfolding rowsOf digestOf leafDigests leafRecord
-digests-done s k i table nonces old hk hi =
-    ap₂ (λ (m n : ℕ). flatten (map (λ j. digest (leafString j (bytesOf (piece m j table) ++ piece 32 j nonces))) (upFrom 0 n)) ++ drop (32 * n) old) hk hi
+digests-done s k i table nonces salt old hk hi =
+    ap₂ (λ (m n : ℕ). flatten (map (λ j. digest (leafString salt j (bytesOf (piece m j table) ++ piece 32 j nonces))) (upFrom 0 n)) ++ drop (32 * n) old) hk hi
 
 -- where leaf i of n stands: in the table, with k values a leaf, among the nonces and among the digests
 pub record LeafFits (k i : ℕ) (table nonces nodes : List ℕ) : Type 0 where
@@ -66,8 +66,8 @@ pub record LeafFits (k i : ℕ) (table nonces nodes : List ℕ) : Type 0 where
   pub index-small : i < 4096
   pub few-values : k ≤ 68
 
-pub leaf-fits : (s : Sizes) (table nonces nodes : List ℕ) (k n i : ℕ) → Hashable s table nonces nodes → k ≡ recordValues s → n ≡ leaves s → i < n → LeafFits k i table nonces nodes
-leaf-fits s table nonces nodes k n i h hk hn l =
+pub leaf-fits : (s : Sizes) (table nonces salt nodes : List ℕ) (k n i : ℕ) → Hashable s table nonces salt nodes → k ≡ recordValues s → n ≡ leaves s → i < n → LeafFits k i table nonces nodes
+leaf-fits s table nonces salt nodes k n i h hk hn l =
     let g : SizesInOrder s = h .sizes in
     let m : i < leaves s = subst (λ (j : ℕ). i < j) hn l in
     let e : length table ≡ leaves s * k = h .table-length ∙ ap (λ (j : ℕ). leaves s * j) (sym hk) in

@@ -5,7 +5,7 @@ ghost use Prim.Native.Nat.{_*_, _<_, _≤_};
 ghost use lib.ListN.{length, drop};
 ghost use Rattle.lists.specs.Bytes.{bytesOf};
 ghost use Rattle.sponge.specs.Digest.{digest};
-ghost use Rattle.tree.specs.Leaf.{leafString, indexEnd};
+ghost use Rattle.tree.specs.Leaf.{leafString, saltLength, indexEnd};
 ghost use Rattle.scheme.specs.Sizes.{sizesOf, leaves, mostValues};
 ghost use Rattle.scheme.specs.Layers.{lentOf};
 ghost use Rattle.scheme.specs.Commit.{tableOf, leafDigests, treeOf, commitVerdict, committing};
@@ -32,23 +32,23 @@ fn blank_record() -> [u8; 304] {
     [0u8; 304]
 }
 
-// The digest of a leaf, given its values and its nonce.
-fn hash_leaf(index: LeafIndex, values: &[u32], nonce: &[u8], out: &mut [u8])
-    requires { ⌜ (index .0 < indexEnd) × (length (now values) ≤ mostValues) × (length (now nonce) ≡ 32) × (length (now out) ≡ 32) ⌝ }
-    ensures { λ _. ⌜ now (out .exit) ≡ digest (leafString (index .0) (bytesOf (now (values .entry)) ++ now (nonce .entry))) ⌝ }
+// The digest of a leaf, given the salt, its values and its nonce.
+fn hash_leaf(salt: &[u8], index: LeafIndex, values: &[u32], nonce: &[u8], out: &mut [u8])
+    requires { ⌜ (length (now salt) ≡ saltLength) × (index .0 < indexEnd) × (length (now values) ≤ mostValues) × (length (now nonce) ≡ 32) × (length (now out) ≡ 32) ⌝ }
+    ensures { λ _. ⌜ now (out .exit) ≡ digest (leafString (now (salt .entry)) (index .0) (bytesOf (now (values .entry)) ++ now (nonce .entry))) ⌝ }
 {
     let mut leaf = blank_record();
     let at = 4 * values.len();
     let end = at + 32;
     put_words(&mut leaf, 0, values);
     put_bytes(&mut leaf, at, nonce);
-    leaf_digest(index, &leaf[..end], out);
+    leaf_digest(salt, index, &leaf[..end], out);
 }
 
 // The digests of the leaves, in front of the tree.
-fn hash_leaves(s: Shape, table: &[u32], nonces: &[u8], tree: &mut [u8])
-    requires { ⌜ Hashable (sizesIn s) (now table) (now nonces) (now tree) ⌝ }
-    ensures { λ _. ⌜ now (tree .exit) ≡ flatten (leafDigests (sizesIn s) (now (table .entry)) (now (nonces .entry))) ++ drop (32 * leaves (sizesIn s)) (now (tree .entry)) ⌝ }
+fn hash_leaves(s: Shape, table: &[u32], nonces: &[u8], salt: &[u8], tree: &mut [u8])
+    requires { ⌜ Hashable (sizesIn s) (now table) (now nonces) (now salt) (now tree) ⌝ }
+    ensures { λ _. ⌜ now (tree .exit) ≡ flatten (leafDigests (sizesIn s) (now (table .entry)) (now (nonces .entry)) (now (salt .entry))) ++ drop (32 * leaves (sizesIn s)) (now (tree .entry)) ⌝ }
 {
     let n = leaf_count(s.h);
     let values = record_values(s);
@@ -58,6 +58,7 @@ fn hash_leaves(s: Shape, table: &[u32], nonces: &[u8], tree: &mut [u8])
         let start = 32 * index;
         let end = start + 32;
         hash_leaf(
+            salt,
             LeafIndex(index as u32),
             &table[from..to],
             &nonces[start..end],
@@ -76,16 +77,17 @@ fn fill(
     blinds: &[u32],
     masks: &[u32],
     nonces: &[u8],
+    salt: &[u8],
     table: &mut [u32],
     tree: &mut [u8],
 )
-    requires { ⌜ Committable (sizesIn s) (lentOf (now coefficients) (now tails) (now blinds) (now masks) (now nonces)) (now table) (now tree) ⌝ }
-    ensures { λ _. ⌜ now (table .exit) ≡ tableOf (sizesIn s) (lentOf (now (coefficients .entry)) (now (tails .entry)) (now (blinds .entry)) (now (masks .entry)) (now (nonces .entry))) ⌝ }
-    ensures { λ _. ⌜ now (tree .exit) ≡ treeOf (sizesIn s) (lentOf (now (coefficients .entry)) (now (tails .entry)) (now (blinds .entry)) (now (masks .entry)) (now (nonces .entry))) ⌝ }
+    requires { ⌜ Committable (sizesIn s) (lentOf (now coefficients) (now tails) (now blinds) (now masks) (now nonces) (now salt)) (now table) (now tree) ⌝ }
+    ensures { λ _. ⌜ now (table .exit) ≡ tableOf (sizesIn s) (lentOf (now (coefficients .entry)) (now (tails .entry)) (now (blinds .entry)) (now (masks .entry)) (now (nonces .entry)) (now (salt .entry))) ⌝ }
+    ensures { λ _. ⌜ now (tree .exit) ≡ treeOf (sizesIn s) (lentOf (now (coefficients .entry)) (now (tails .entry)) (now (blinds .entry)) (now (masks .entry)) (now (nonces .entry)) (now (salt .entry))) ⌝ }
 {
     fill_table(s, coefficients, tails, blinds, masks, table);
-    hash_leaves(s, table, nonces, tree);
-    fill_tree(s.h as usize, leaf_count(s.h), tree);
+    hash_leaves(s, table, nonces, salt, tree);
+    fill_tree(salt, s.h as usize, leaf_count(s.h), tree);
 }
 
 // The number of the first test that holds, or 0.
@@ -96,15 +98,16 @@ fn verdict(
     blinds: &[u32],
     masks: &[u32],
     nonces: &[u8],
+    salt: &[u8],
     table: &[u32],
     tree: &[u8],
 ) -> u32
-    ensures { λ r. ⌜ r ≡ commitVerdict (sizesIn s) (lentOf (now (coefficients .entry)) (now (tails .entry)) (now (blinds .entry)) (now (masks .entry)) (now (nonces .entry))) (now (table .entry)) (now (tree .entry)) ⌝ }
+    ensures { λ r. ⌜ r ≡ commitVerdict (sizesIn s) (lentOf (now (coefficients .entry)) (now (tails .entry)) (now (blinds .entry)) (now (masks .entry)) (now (nonces .entry)) (now (salt .entry))) (now (table .entry)) (now (tree .entry)) ⌝ }
 {
     if !sizes_ok(s) {
         return 1;
     }
-    if !lent_ok(s, coefficients, tails, blinds, masks, nonces) {
+    if !lent_ok(s, coefficients, tails, blinds, masks, nonces, salt) {
         return 2;
     }
     if !filled_ok(s, table, tree) {
@@ -130,10 +133,11 @@ pub fn commit(
     blinds: &[u32],
     masks: &[u32],
     nonces: &[u8],
+    salt: &[u8],
     table: &mut [u32],
     tree: &mut [u8],
 ) -> u32
-    ensures { λ r. ⌜ (r, now (table .exit), now (tree .exit)) ≡ committing (sizesOf h mu nu w l eta beta) (lentOf (now (coefficients .entry)) (now (tails .entry)) (now (blinds .entry)) (now (masks .entry)) (now (nonces .entry))) (now (table .entry)) (now (tree .entry)) ⌝ }
+    ensures { λ r. ⌜ (r, now (table .exit), now (tree .exit)) ≡ committing (sizesOf h mu nu w l eta beta) (lentOf (now (coefficients .entry)) (now (tails .entry)) (now (blinds .entry)) (now (masks .entry)) (now (nonces .entry)) (now (salt .entry))) (now (table .entry)) (now (tree .entry)) ⌝ }
 {
     let s = Shape {
         h: h,
@@ -144,10 +148,30 @@ pub fn commit(
         eta: eta,
         beta: beta,
     };
-    let v = verdict(s, coefficients, tails, blinds, masks, nonces, table, tree);
+    let v = verdict(
+        s,
+        coefficients,
+        tails,
+        blinds,
+        masks,
+        nonces,
+        salt,
+        table,
+        tree,
+    );
     if v != 0 {
         return v;
     }
-    fill(s, coefficients, tails, blinds, masks, nonces, table, tree);
+    fill(
+        s,
+        coefficients,
+        tails,
+        blinds,
+        masks,
+        nonces,
+        salt,
+        table,
+        tree,
+    );
     0
 }

@@ -2,13 +2,23 @@
 //
 // A digest has 32 bytes; in a row they stand one after the other.
 ghost use mathlib.Core.Path.{_≡_};
-ghost use mathlib.Core.List.{[], _∷_, _++_};
+ghost use mathlib.Core.List.{_∷_, _++_};
 ghost use Prim.Native.Nat.{_+_, _*_, _≤_, _<_};
 ghost use lib.ListN.{length, take, drop};
 ghost use lib.Seq.{paste};
 ghost use Rattle.sponge.specs.Digest.{digest};
-ghost use Rattle.tree.specs.Leaf.{leafString, indexEnd, longestRecord};
+ghost use Rattle.tree.specs.Leaf.{leafString, saltLength, prefixLength, recordStart, indexEnd, longestRecord};
 use node_sets::LeafIndex;
+
+const SALT: usize = 32; // bytes of a salt
+
+pub const PREFIX: usize = 33; // what every string begins with: a byte, the salt
+
+const RECORD_START: usize = 35; // where a leaf's record begins in its string: after the prefix, the index
+
+const LONGEST_LEAF: usize = 339; // a string with the longest record
+
+const NODE: usize = 97; // a node's string: the prefix, two digests
 
 // ---- Copies and digests
 
@@ -64,32 +74,36 @@ pub fn write_digest(s: &[u8], row: &mut [u8], p: usize)
 // ---- Leaves
 
 // Writes a leaf's string to the front of buf.
-fn leaf_string(index: LeafIndex, leaf: &[u8], buf: &mut [u8])
-    requires { ⌜ 3 + length (now leaf) ≤ length (now buf) ⌝ }
-    ensures { λ _. ⌜ take (3 + length (now (leaf .entry))) (now (buf .exit)) ≡ leafString (index .0) (now (leaf .entry)) ⌝ }
+fn leaf_string(salt: &[u8], index: LeafIndex, leaf: &[u8], buf: &mut [u8])
+    requires { ⌜ (length (now salt) ≡ saltLength) × (recordStart + length (now leaf) ≤ length (now buf)) ⌝ }
+    ensures { λ _. ⌜ take (recordStart + length (now (leaf .entry))) (now (buf .exit)) ≡ leafString (now (salt .entry)) (index .0) (now (leaf .entry)) ⌝ }
 {
     buf[0] = 0;
-    buf[1] = (index.0 % 256) as u8;
-    buf[2] = (index.0 / 256 % 256) as u8;
-    copy(buf, 3, leaf, 0, leaf.len());
+    copy(buf, 1, salt, 0, SALT);
+    buf[PREFIX] = (index.0 % 256) as u8;
+    buf[PREFIX + 1] = (index.0 / 256 % 256) as u8;
+    copy(buf, RECORD_START, leaf, 0, leaf.len());
 }
 
-// The digest of a leaf, given its index and its record of values and nonce.
-pub fn leaf_digest(index: LeafIndex, leaf: &[u8], out: &mut [u8])
-    requires { ⌜ (index .0 < indexEnd) × (length (now leaf) ≤ longestRecord) × (length (now out) ≡ 32) ⌝ }
-    ensures { λ _. ⌜ now (out .exit) ≡ digest (leafString (index .0) (now (leaf .entry))) ⌝ }
+// The digest of a leaf, given the commitment's salt, the leaf's index and its record of values and nonce.
+pub fn leaf_digest(salt: &[u8], index: LeafIndex, leaf: &[u8], out: &mut [u8])
+    requires { ⌜ (length (now salt) ≡ saltLength) × (index .0 < indexEnd) × (length (now leaf) ≤ longestRecord) × (length (now out) ≡ 32) ⌝ }
+    ensures { λ _. ⌜ now (out .exit) ≡ digest (leafString (now (salt .entry)) (index .0) (now (leaf .entry))) ⌝ }
 {
-    let mut buf = [0u8; 307];
-    let n = 3 + leaf.len();
-    leaf_string(index, leaf, &mut buf);
+    let mut buf = [0u8; LONGEST_LEAF];
+    let n = RECORD_START + leaf.len();
+    leaf_string(salt, index, leaf, &mut buf);
     digest_into(&buf[0..n], out);
 }
 
 // ---- Nodes
 
-// The string of a node with two children, before their digests are written: 0x01 stands in front.
-pub fn node_buffer() -> [u8; 65]
-    ensures { λ r. ⌜ (length r ≡ 65) × (take 1 r ≡ 1 ∷ []) ⌝ }
+// The string of a node with two children, before their digests are written: 0x01 and the salt stand in front.
+pub fn node_buffer(salt: &[u8]) -> [u8; NODE]
+    requires { ⌜ length (now salt) ≡ saltLength ⌝ }
+    ensures { λ r. ⌜ (length r ≡ 97) × (take prefixLength r ≡ 1 ∷ now (salt .entry)) ⌝ }
 {
-    [1u8; 65]
+    let mut buf = [1u8; NODE];
+    copy(&mut buf, 1, salt, 0, SALT);
+    buf
 }

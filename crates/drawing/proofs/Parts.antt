@@ -15,7 +15,7 @@ use Rattle.lists.specs.Pieces.{pieces, length-pieces}
 use Rattle.lists.specs.Spliced.{spliced, spliced-more}
 use Rattle.scheme.specs.Sizes.{Sizes}
 use Rattle.scheme.specs.Question.{challengesAt, pointsAt, indicesAt, questionLength, headerSizes}
-use Rattle.fiat_shamir.specs.Offline.{headerRoot}
+use Rattle.fiat_shamir.specs.Offline.{headerRootSalt}
 use Rattle.fiat_shamir.specs.Draw.{drawnChallenges, qualifies}
 use Rattle.fiat_shamir.proofs.Counter.{qualifies-number}
 use Rattle.offline_question.specs.Offline.{Offline}
@@ -52,12 +52,12 @@ challenges-next d o l i v h e f =
     ∙ ap (λ (t : List ℕ). t ++ drop (i + 1) o)
     (sym (map-append (λ x. x % q) (numbers 8 i 0 d) (fromBytes (take 8 (drop (0 + 8 * i) d)) ∷ [])) ∙ ap reduced (numbers-next 8 i 0 d))
 
-pub challenges-all : (b : Bytes) (o : List ℕ) (i : ℕ) → i ≡ length o → length o ≡ headerSizes (headerRoot b) .η
-    → challengesIn (digest (2 ∷ headerRoot b)) i ++ drop i o ≡ drawnChallenges (headerRoot b)
+pub challenges-all : (b : Bytes) (o : List ℕ) (i : ℕ) → i ≡ length o → length o ≡ headerSizes (headerRootSalt b) .η
+    → challengesIn (digest (2 ∷ headerRootSalt b)) i ++ drop i o ≡ drawnChallenges (headerRootSalt b)
 unfolding drawnChallenges
 challenges-all b o i e f =
-    ap₂ (λ (n : ℕ) (t : List ℕ). challengesIn (digest (2 ∷ headerRoot b)) n ++ t) (e ∙ f) (drop-of-length-le o (le-of-eq (sym e)))
-    ∙ append-nil (challengesIn (digest (2 ∷ headerRoot b)) (headerSizes (headerRoot b) .η))
+    ap₂ (λ (n : ℕ) (t : List ℕ). challengesIn (digest (2 ∷ headerRootSalt b)) n ++ t) (e ∙ f) (drop-of-length-le o (le-of-eq (sym e)))
+    ∙ append-nil (challengesIn (digest (2 ∷ headerRootSalt b)) (headerSizes (headerRootSalt b) .η))
 
 -- ---- the first bits of a draw, as one number
 
@@ -95,17 +95,17 @@ module _ (b : Bytes) (s : Sizes) (m : ℕ) (offline : Offline b s m) (is : List 
   pub long : length b ≡ challengesAt + 4 * m
   long = offline-facts b s m offline .long
 
-  front-length : length (headerRoot b) ≡ challengesAt
+  front-length : length (headerRootSalt b) ≡ challengesAt
   front-length = length-take-le challengesAt b (omega (arith, long))
 
   points-length : length (drop challengesAt b) ≡ 4 * m
   points-length = length-drop challengesAt b ∙ omega (arith, long)
 
   pub parts-put : (γ : List ℕ) (i j k : ℕ) (a c o₁ o₂ o₃ o₄ : Bytes) → length γ ≡ s .η → i ≡ challengesAt → j ≡ pointsAt s → k ≡ indicesAt s m
-      → a ≡ headerRoot b → c ≡ drop challengesAt b → o₁ ≡ spliced 0 (length a) a o
+      → a ≡ headerRootSalt b → c ≡ drop challengesAt b → o₁ ≡ spliced 0 (length a) a o
       → o₂ ≡ spliced i (4 * length γ) (bytesOf γ) o₁ → o₃ ≡ spliced j (length c) c o₂
       → o₄ ≡ spliced k (2 * length is) (flatten (map (littleEndian 2) is)) o₃
-      → o₄ ≡ headerRoot b ++ (bytesOf γ ++ (drop challengesAt b ++ flatten (map (littleEndian 2) is)))
+      → o₄ ≡ headerRootSalt b ++ (bytesOf γ ++ (drop challengesAt b ++ flatten (map (littleEndian 2) is)))
   parts-put γ i j k a c o₁ o₂ o₃ o₄ lγ ei ej ek ea ec h₁ h₂ h₃ h₄ =
       let I : Bytes = flatten (map (littleEndian 2) is) in
       let G : length (bytesOf γ) ≡ 4 * length γ = length-bytesOf γ in
@@ -125,7 +125,7 @@ module _ (b : Bytes) (s : Sizes) (m : ℕ) (offline : Offline b s m) (is : List 
 
 -- ---- what the challenges' draw asks
 
-pub challenges-ask : (b : Bytes) (s : Sizes) (m : ℕ) → Offline b s m → (s .η ≤ 4) × (challengesAt ≤ length b) × (s .η ≡ headerSizes (headerRoot b) .η)
+pub challenges-ask : (b : Bytes) (s : Sizes) (m : ℕ) → Offline b s m → (s .η ≤ 4) × (challengesAt ≤ length b) × (s .η ≡ headerSizes (headerRootSalt b) .η)
 challenges-ask b s m o =
     let f = offline-facts b s m o in
     (f .in-order .η-high, omega (arith, f .long), sym (getD-take challengesAt b 12 0 (omega arith) ∙ ap (λ (t : Sizes). t .η) (o .sizes)))

@@ -6,8 +6,8 @@ ghost use lib.ListN.{length, drop};
 ghost use Rattle.sponge.specs.Digest as D;
 ghost use Rattle.lists.specs.Bytes.{littleEndian, bytesOf};
 ghost use Rattle.scheme.specs.Question.{challengesAt, headerSizes, questionLength};
-ghost use Rattle.fiat_shamir.specs.Offline.{headerRoot, mostBits};
-ghost use Rattle.fiat_shamir.specs.Draw.{drawnChallenges, qualifies, drawnBytes};
+ghost use Rattle.fiat_shamir.specs.Offline.{headerRootSalt, mostBits};
+ghost use Rattle.fiat_shamir.specs.Draw.{challengeString, drawnChallenges, qualifies, drawnBytes};
 ghost use Rattle.commitment.specs.Shape.{sizesIn};
 ghost use Rattle.offline_question.specs.Offline.{Offline};
 use codec::put_bytes;
@@ -26,13 +26,13 @@ const Q: u64 = 4294967291; // the field's modulus
 
 const CHALLENGE_PREFIX: u8 = 2;
 
-const CHALLENGE_STRING: usize = 48; // the prefix, header, root
+const CHALLENGE_STRING: usize = 80; // the prefix, header, root, salt
 
 const LEAF_PREFIX: u8 = 3;
 
-const LONGEST_QUESTION: usize = 223; // of a conversation
+const LONGEST_QUESTION: usize = 255; // of a conversation
 
-pub const LONGEST_STRING: usize = 15440; // of a leaf draw but for the counter: prefix, question, 12 answers of 320 words
+pub const LONGEST_STRING: usize = 15472; // of a leaf draw but for the counter: prefix, question, 12 answers of 320 words
 
 // Room for a draw, 32 bytes and 8 for each of 64 leaves; and for the longest question of a conversation.
 pub fn blank_draw() -> [u8; 544] {
@@ -52,10 +52,10 @@ fn put_prefixed(prefix: u8, string: &[u8], out: &mut [u8])
     put_bytes(out, 1, string);
 }
 
-// The digest of 0x02, header, root.
+// The digest of 0x02, header, root, salt.
 fn challenge_digest(question: &[u8]) -> [u8; 32]
     requires { ⌜ challengesAt ≤ length (now question) ⌝ }
-    ensures { λ r. ⌜ r ≡ D.digest (2 ∷ headerRoot (now (question .entry))) ⌝ }
+    ensures { λ r. ⌜ r ≡ D.digest (challengeString (headerRootSalt (now (question .entry)))) ⌝ }
 {
     let mut s = [0u8; CHALLENGE_STRING];
     let to = challenges_at();
@@ -65,8 +65,8 @@ fn challenge_digest(question: &[u8]) -> [u8; 32]
 
 // The challenges: the first words of eight bytes of that digest, each modulo q.
 fn draw_challenges(question: &[u8], out: &mut [u32])
-    requires { ⌜ (challengesAt ≤ length (now question)) × (length (now out) ≤ 4) × (length (now out) ≡ headerSizes (headerRoot (now question)) .η) ⌝ }
-    ensures { λ _. ⌜ now (out .exit) ≡ drawnChallenges (headerRoot (now (question .entry))) ⌝ }
+    requires { ⌜ (challengesAt ≤ length (now question)) × (length (now out) ≤ 4) × (length (now out) ≡ headerSizes (headerRootSalt (now question)) .η) ⌝ }
+    ensures { λ _. ⌜ now (out .exit) ≡ drawnChallenges (headerRootSalt (now (question .entry))) ⌝ }
 {
     let d = challenge_digest(question);
     for k in 0..out.len() {
@@ -92,7 +92,7 @@ pub fn qualified(draw: &[u8], kappa: u32) -> bool
     256 * high + low < 1u32 << (16 - kappa)
 }
 
-// The bytes of a question with these challenges and indices: header, root, challenges, points, indices.
+// The bytes of a question with these challenges and indices: header, root, salt, challenges, points, indices.
 fn put_parts(
     question: &[u8],
     s: Shape,
@@ -102,7 +102,7 @@ fn put_parts(
     out: &mut [u8],
 )
     requires { ⌜ Offline (now question) (sizesIn s) m × (length (now challenges) ≡ s .eta) × (length (now indices) ≡ s .l) × (length (now out) ≡ questionLength (sizesIn s) m) ⌝ }
-    ensures { λ _. ⌜ now (out .exit) ≡ headerRoot (now (question .entry)) ++ (bytesOf (now (challenges .entry)) ++ (drop challengesAt (now (question .entry)) ++ flatten (map (littleEndian 2) (now (indices .entry))))) ⌝ }
+    ensures { λ _. ⌜ now (out .exit) ≡ headerRootSalt (now (question .entry)) ++ (bytesOf (now (challenges .entry)) ++ (drop challengesAt (now (question .entry)) ++ flatten (map (littleEndian 2) (now (indices .entry))))) ⌝ }
 {
     let at = challenges_at();
     put_bytes(out, 0, &question[..at]);

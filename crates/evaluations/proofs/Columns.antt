@@ -26,6 +26,7 @@ use Rattle.extrapolation.specs.Written.{KeptColumns}
 use Rattle.extrapolation.specs.Extrapolated.{Through, Columns, Extrapolated}
 use Rattle.scheme.specs.Sizes.{Sizes, SizesInOrder, leaves, rows, width, recordValues, points}
 use Rattle.scheme.specs.Layers.{Lent, lentOf, extended, rowPolynomials, maskPolynomial}
+use Rattle.lent.specs.Partly.{lentRows}
 use Rattle.scheme.specs.Commit.{leafValues, tableOf}
 use Rattle.scheme.proofs.Accepted.{leaves-high}
 use Rattle.algebra.specs.Values.{values-at, values-append, length-values}
@@ -161,8 +162,8 @@ module _ (s : Sizes) (g : SizesInOrder s) (n w k : ℕ) (hn : n ≡ leaves s) (h
   kept-columns at t t′ f h = subst (λ (b : ℕ). KeptColumns b (rows s) (s .η) t t′) hk (subst (λ (b : ℕ). KeptColumns k b (s .η) t t′) f h)
 
 -- rows do not depend on the masks
-pub columns-lent : (s : Sizes) (coefficients tails blinds masks table : List ℕ) → Columns (rowPolynomial s (lentOf coefficients tails blinds [] [])) (rows s) (leaves s) 0 (recordValues s) table
-    → Columns (rowPolynomial s (lentOf coefficients tails blinds masks [])) (rows s) (leaves s) 0 (recordValues s) table
+pub columns-lent : (s : Sizes) (coefficients tails blinds masks table : List ℕ) → Columns (rowPolynomial s (lentRows coefficients tails blinds)) (rows s) (leaves s) 0 (recordValues s) table
+    → Columns (rowPolynomial s (lentOf coefficients tails blinds masks [] [])) (rows s) (leaves s) 0 (recordValues s) table
 unfolding extended
 columns-lent s coefficients tails blinds masks table h = h
 

@@ -11,6 +11,7 @@ ghost use Rattle.extrapolation.specs.Written.{KeptColumns};
 ghost use Rattle.extrapolation.specs.Extrapolated.{Columns};
 ghost use Rattle.scheme.specs.Sizes.{SizesInOrder, leaves, rows, columns, width, recordValues, mostWidth};
 ghost use Rattle.scheme.specs.Layers.{lentOf, extended};
+ghost use Rattle.lent.specs.Partly.{lentRows};
 ghost use Rattle.scheme.specs.Commit.{tableOf};
 ghost use Rattle.commitment.specs.Shape.{sizesIn};
 ghost use Rattle.lent.specs.Rows.{CanLayOut, CanExtend, strided};
@@ -97,7 +98,7 @@ fn gather_coefficients(
     values: &mut [u32],
 )
     requires { ⌜ CanLayOut (sizesIn s) (now coefficients) (now blinds) × (i < s .w) × (row < s .mu) × (j < 4) × (4 * columns (sizesIn s) ≤ length (now values)) ⌝ }
-    ensures { λ _. ⌜ EntriesGathered (sizesIn s) (lentOf (now (coefficients .entry)) [] (now (blinds .entry)) [] []) i row j (now (values .entry)) (now (values .exit)) ⌝ }
+    ensures { λ _. ⌜ EntriesGathered (sizesIn s) (lentRows (now (coefficients .entry)) [] (now (blinds .entry))) i row j (now (values .entry)) (now (values .exit)) ⌝ }
 {
     let mu = s.mu as usize;
     let nu = s.nu as usize;
@@ -135,7 +136,7 @@ fn gather_blinds(
     values: &mut [u32],
 )
     requires { ⌜ CanLayOut (sizesIn s) (now coefficients) (now blinds) × (i < s .w) × (b < s .beta) × (j < 4) × (4 * columns (sizesIn s) ≤ length (now values)) ⌝ }
-    ensures { λ _. ⌜ EntriesGathered (sizesIn s) (lentOf (now (coefficients .entry)) [] (now (blinds .entry)) [] []) i (s .mu + b) j (now (values .entry)) (now (values .exit)) ⌝ }
+    ensures { λ _. ⌜ EntriesGathered (sizesIn s) (lentRows (now (coefficients .entry)) [] (now (blinds .entry))) i (s .mu + b) j (now (values .entry)) (now (values .exit)) ⌝ }
 {
     let nu = s.nu as usize;
     let beta = s.beta as usize;
@@ -157,7 +158,7 @@ fn gather_polynomial(
     values: &mut [u32],
 )
     requires { ⌜ CanLayOut (sizesIn s) (now coefficients) (now blinds) × (i < s .w) × (row < rows (sizesIn s)) × (j < 4) × (4 * columns (sizesIn s) ≤ length (now values)) ⌝ }
-    ensures { λ _. ⌜ EntriesGathered (sizesIn s) (lentOf (now (coefficients .entry)) [] (now (blinds .entry)) [] []) i row j (now (values .entry)) (now (values .exit)) ⌝ }
+    ensures { λ _. ⌜ EntriesGathered (sizesIn s) (lentRows (now (coefficients .entry)) [] (now (blinds .entry))) i row j (now (values .entry)) (now (values .exit)) ⌝ }
 {
     let mu = s.mu as usize;
     if row < mu {
@@ -180,7 +181,7 @@ fn gather_row(
     values: &mut [u32],
 )
     requires { ⌜ CanExtend (sizesIn s) (now coefficients) (now tails) (now blinds) × (row < rows (sizesIn s)) × (j < 4) × (4 * width (sizesIn s) ≤ length (now values)) ⌝ }
-    ensures { λ _. ⌜ KeptLanes (now (values .entry)) j (now (values .exit)) × Lane (extended (sizesIn s) (lentOf (now (coefficients .entry)) (now (tails .entry)) (now (blinds .entry)) [] []) row) (width (sizesIn s)) j (now (values .exit)) ⌝ }
+    ensures { λ _. ⌜ KeptLanes (now (values .entry)) j (now (values .exit)) × Lane (extended (sizesIn s) (lentRows (now (coefficients .entry)) (now (tails .entry)) (now (blinds .entry))) row) (width (sizesIn s)) j (now (values .exit)) ⌝ }
 {
     let columns = column_count(s);
     let l = s.l as usize;
@@ -204,7 +205,7 @@ fn gather_rows(
     values: &mut [u32],
 )
     requires { ⌜ CanExtend (sizesIn s) (now coefficients) (now tails) (now blinds) × (lo + lanes ≤ rows (sizesIn s)) × (lanes ≤ 4) × (4 * width (sizesIn s) ≤ length (now values)) ⌝ }
-    ensures { λ _. ⌜ RowLanes (sizesIn s) (lentOf (now (coefficients .entry)) (now (tails .entry)) (now (blinds .entry)) [] []) lo lanes (now (values .exit)) ⌝ }
+    ensures { λ _. ⌜ RowLanes (sizesIn s) (lentRows (now (coefficients .entry)) (now (tails .entry)) (now (blinds .entry))) lo lanes (now (values .exit)) ⌝ }
 {
     let mut j = 0;
     while j < lanes {
@@ -250,7 +251,7 @@ fn fill_rows(
     table: &mut [u32],
 )
     requires { ⌜ CanExtend (sizesIn s) (now coefficients) (now tails) (now blinds) × Room (width (sizesIn s)) (now values) (now lines) × (length (now table) ≡ leaves (sizesIn s) * recordValues (sizesIn s)) ⌝ }
-    ensures { λ _. ⌜ Small (now (lines .exit)) × Columns (rowPolynomial (sizesIn s) (lentOf (now (coefficients .entry)) (now (tails .entry)) (now (blinds .entry)) [] [])) (rows (sizesIn s)) (leaves (sizesIn s)) 0 (recordValues (sizesIn s)) (now (table .exit)) ⌝ }
+    ensures { λ _. ⌜ Small (now (lines .exit)) × Columns (rowPolynomial (sizesIn s) (lentRows (now (coefficients .entry)) (now (tails .entry)) (now (blinds .entry)))) (rows (sizesIn s)) (leaves (sizesIn s)) 0 (recordValues (sizesIn s)) (now (table .exit)) ⌝ }
 {
     let n = leaf_count(s.h);
     let width = row_width(s);
@@ -299,7 +300,7 @@ fn fill_columns(
     table: &mut [u32],
 )
     requires { ⌜ Evaluable (sizesIn s) (now coefficients) (now tails) (now blinds) (now masks) (now table) × (width (sizesIn s) ≤ length (now weights)) × Room (width (sizesIn s)) (now values) (now lines) ⌝ }
-    ensures { λ _. ⌜ now (table .exit) ≡ tableOf (sizesIn s) (lentOf (now (coefficients .entry)) (now (tails .entry)) (now (blinds .entry)) (now (masks .entry)) []) ⌝ }
+    ensures { λ _. ⌜ now (table .exit) ≡ tableOf (sizesIn s) (lentOf (now (coefficients .entry)) (now (tails .entry)) (now (blinds .entry)) (now (masks .entry)) [] []) ⌝ }
 {
     fill_rows(s, coefficients, tails, blinds, values, lines, table);
     fill_masks(s, masks, weights, values, lines, table);
@@ -344,7 +345,7 @@ pub fn fill_table(
     table: &mut [u32],
 )
     requires { ⌜ Evaluable (sizesIn s) (now coefficients) (now tails) (now blinds) (now masks) (now table) ⌝ }
-    ensures { λ _. ⌜ now (table .exit) ≡ tableOf (sizesIn s) (lentOf (now (coefficients .entry)) (now (tails .entry)) (now (blinds .entry)) (now (masks .entry)) []) ⌝ }
+    ensures { λ _. ⌜ now (table .exit) ≡ tableOf (sizesIn s) (lentOf (now (coefficients .entry)) (now (tails .entry)) (now (blinds .entry)) (now (masks .entry)) [] []) ⌝ }
 {
     if row_width(s) <= FEW {
         let mut weights = blank_few_weights();

@@ -22,9 +22,10 @@ use Rattle.lists.specs.Bytes.{Bytes, fromBytes, littleEndian, halves, words, do
 use Rattle.lists.specs.Tests.{Test, all, same, passed, pass, true-all, all-join}
 use Rattle.algebra.specs.Prime.{q}
 use Rattle.algebra.specs.Numbers.{Elements}
+use Rattle.tree.specs.Leaf.{saltLength}
 use Rattle.scheme.specs.Sizes.{Sizes, SizesInOrder, leaves, sizesOk, pointsOk, elements}
-use Rattle.scheme.specs.Question.{Question, questionAt, readQuestion, questionTests, questionVerdict, headerLength, headerSizes, headerPoints, mark, challengesAt, pointsAt, indicesAt, questionLength}
-use Rattle.fiat_shamir.specs.Offline.{offlineLength, headerRoot, offlineRoot, offlinePoints, mostBits, offlineTests, offlineVerdict}
+use Rattle.scheme.specs.Question.{Question, questionAt, readQuestion, questionTests, questionVerdict, headerLength, headerSizes, headerPoints, mark, saltAt, challengesAt, pointsAt, indicesAt, questionLength}
+use Rattle.fiat_shamir.specs.Offline.{offlineLength, headerRootSalt, offlineRoot, offlineSalt, offlinePoints, mostBits, offlineTests, offlineVerdict}
 use Rattle.fiat_shamir.specs.Draw.{drawnChallenges, ranksAt, removed, chosen, drawnIndices, drawn, drawnBytes}
 use Rattle.scheme.proofs.Accepted.{sizes-in-order, leaves-high}
 use Rattle.scheme.proofs.Lent.{small, below-elements}
@@ -175,7 +176,7 @@ module _ (b : Bytes) (κ : ℕ) (a : AskedOffline b κ) (is : List ℕ) where
   in-order = sizes-in-order s (a .sizes-right)
 
   abbrev γ : List ℕ
-  γ = drawnChallenges (headerRoot b)
+  γ = drawnChallenges (headerRootSalt b)
 
   abbrev challengeBytes : Bytes
   challengeBytes = bytesOf γ
@@ -189,24 +190,24 @@ module _ (b : Bytes) (κ : ℕ) (a : AskedOffline b κ) (is : List ℕ) where
   abbrev question : Bytes
   question = drawnBytes b is
 
-  question-is : question ≡ headerRoot b ++ (challengeBytes ++ (pointBytes ++ indexBytes))
+  question-is : question ≡ headerRootSalt b ++ (challengeBytes ++ (pointBytes ++ indexBytes))
   unfolding drawnBytes
   question-is = refl
 
-  root-long : length (headerRoot b) ≡ challengesAt
-  root-long = length-take-le challengesAt b (omega (arith, a .long))
+  named-long : length (headerRootSalt b) ≡ challengesAt
+  named-long = length-take-le challengesAt b (omega (arith, a .long))
 
   points-long : length pointBytes ≡ 4 * m
   points-long = length-drop challengesAt b ∙ omega (arith, a .long)
 
   front : (n : ℕ) → n ≤ challengesAt → take n question ≡ take n b
-  front n l = ap (take n) question-is ∙ take-append-le n (headerRoot b) _ (omega (arith, root-long)) ∙ take-take n challengesAt b l
+  front n l = ap (take n) question-is ∙ take-append-le n (headerRootSalt b) _ (omega (arith, named-long)) ∙ take-take n challengesAt b l
 
-  sizes-front : headerSizes (headerRoot b) ≡ s
-  sizes-front = sym (header-sizes (headerRoot b)) ∙ ap headerSizes (take-take headerLength challengesAt b (omega arith)) ∙ header-sizes b
+  sizes-front : headerSizes (headerRootSalt b) ≡ s
+  sizes-front = sym (header-sizes (headerRootSalt b)) ∙ ap headerSizes (take-take headerLength challengesAt b (omega arith)) ∙ header-sizes b
 
   γ-count : length γ ≡ s .η
-  γ-count = challenges-count (headerRoot b) ∙ ap (λ (t : Sizes). t .η) sizes-front
+  γ-count = challenges-count (headerRootSalt b) ∙ ap (λ (t : Sizes). t .η) sizes-front
 
   challenges-long : length challengeBytes ≡ 4 * s .η
   challenges-long = length-bytesOf γ ∙ ap (λ (n : ℕ). 4 * n) γ-count
@@ -219,19 +220,22 @@ module _ (b : Bytes) (κ : ℕ) (a : AskedOffline b κ) (is : List ℕ) where
   m-back = sym (getD-take headerLength question 13 0 (omega arith)) ∙ ap (λ (x : Bytes). getD x 13 0) (front headerLength (omega arith)) ∙ getD-take headerLength b 13 0 (omega arith)
 
   root-back : take 32 (drop headerLength question) ≡ offlineRoot b
-  root-back = sym (drop-take headerLength 32 question) ∙ ap (drop headerLength) (front challengesAt (omega arith)) ∙ drop-take headerLength 32 b
+  root-back = sym (drop-take headerLength 32 question) ∙ ap (drop headerLength) (front saltAt (omega arith)) ∙ drop-take headerLength 32 b
 
-  after-root : drop challengesAt question ≡ challengeBytes ++ (pointBytes ++ indexBytes)
-  after-root = ap (drop challengesAt) question-is ∙ drop-at (headerRoot b) (challengeBytes ++ (pointBytes ++ indexBytes)) challengesAt root-long
+  salt-back : take saltLength (drop saltAt question) ≡ offlineSalt b
+  salt-back = sym (drop-take saltAt saltLength question) ∙ ap (drop saltAt) (front challengesAt (omega arith)) ∙ drop-take saltAt saltLength b
+
+  after-salt : drop challengesAt question ≡ challengeBytes ++ (pointBytes ++ indexBytes)
+  after-salt = ap (drop challengesAt) question-is ∙ drop-at (headerRootSalt b) (challengeBytes ++ (pointBytes ++ indexBytes)) challengesAt named-long
 
   after-challenges : drop (pointsAt s) question ≡ pointBytes ++ indexBytes
-  after-challenges = sym (drop-drop (4 * s .η) challengesAt question) ∙ ap (drop (4 * s .η)) after-root ∙ drop-at challengeBytes (pointBytes ++ indexBytes) (4 * s .η) challenges-long
+  after-challenges = sym (drop-drop (4 * s .η) challengesAt question) ∙ ap (drop (4 * s .η)) after-salt ∙ drop-at challengeBytes (pointBytes ++ indexBytes) (4 * s .η) challenges-long
 
   after-points : drop (indicesAt s m) question ≡ indexBytes
   after-points = sym (drop-drop (4 * m) (pointsAt s) question) ∙ ap (drop (4 * m)) after-challenges ∙ drop-at pointBytes indexBytes (4 * m) points-long
 
   pub challenges-back : words (s .η) (drop challengesAt question) ≡ γ
-  challenges-back = ap (words (s .η)) after-root ∙ ap (λ (n : ℕ). words n (challengeBytes ++ (pointBytes ++ indexBytes))) (sym γ-count) ∙ words-bytesOf γ (pointBytes ++ indexBytes) (small γ (challenges-below (headerRoot b)))
+  challenges-back = ap (words (s .η)) after-salt ∙ ap (λ (n : ℕ). words n (challengeBytes ++ (pointBytes ++ indexBytes))) (sym γ-count) ∙ words-bytesOf γ (pointBytes ++ indexBytes) (small γ (challenges-below (headerRootSalt b)))
 
   pub points-back : words m (drop (pointsAt s) question) ≡ offlinePoints b
   points-back = ap (words m) after-challenges ∙ ap (map fromBytes) (pieces-take 4 m pointBytes indexBytes points-long)
@@ -254,7 +258,7 @@ module _ (b : Bytes) (κ : ℕ) (a : AskedOffline b κ) (is : List ℕ) where
     unfolding readQuestion
     drawn-back =
         ap₂ (λ (t : Sizes) (n : ℕ). questionAt t n question) sizes-back m-back
-        ∙ (λ i. record { sizes = s; m = m; root = root-back i; challenges = challenges-back i; evaluationPoints = points-back i; indices = indices-back i })
+        ∙ (λ i. record { sizes = s; m = m; root = root-back i; salt = salt-back i; challenges = challenges-back i; evaluationPoints = points-back i; indices = indices-back i })
 
     -- of a question's length
     drawn-length : length question ≡ questionLength s m
@@ -262,10 +266,10 @@ module _ (b : Bytes) (κ : ℕ) (a : AskedOffline b κ) (is : List ℕ) where
         ap length question-is
         ∙ omega (
           arith,
-          length-append (headerRoot b) (challengeBytes ++ (pointBytes ++ indexBytes)),
+          length-append (headerRootSalt b) (challengeBytes ++ (pointBytes ++ indexBytes)),
           length-append challengeBytes (pointBytes ++ indexBytes),
           length-append pointBytes indexBytes,
-          root-long,
+          named-long,
           challenges-long,
           points-long,
           length-numbers 2 is,
@@ -287,7 +291,7 @@ module _ (b : Bytes) (κ : ℕ) (a : AskedOffline b κ) (is : List ℕ) where
                 ap not (eq-eqb _ _ (drawn-length ∙ ap₂ questionLength (sym sizes-back) (sym m-back))),
                 (
                   ap not (ap (λ (u : Question). elements (u .challenges ++ u .evaluationPoints)) back ∙ all-join (λ x. ltb x q) γ (offlinePoints b)
-                      ∙ both-true (elements γ) (elements (offlinePoints b)) (below-elements γ (challenges-below (headerRoot b))) (a .points-right)),
+                      ∙ both-true (elements γ) (elements (offlinePoints b)) (below-elements γ (challenges-below (headerRootSalt b))) (a .points-right)),
                   (
                     ap not (ap₂ (λ (u : Question) (t : Sizes). rising (u .indices) && all (λ i. ltb i (leaves t)) (u .indices)) back sizes-back
                         ∙ both-true (rising is) (all (λ i. ltb i (leaves s)) is) (true-rising is (ls .rise))

@@ -11,6 +11,8 @@ pub mod Proved
 -- proofs among collected replies; honest ones
 pub mod Joined
 pub mod Mixed
+-- no string is hashed under two salts
+pub mod Salted
 -- for the code: the drawn leaves one after the other
 pub mod Ranks
 -- reading aids

@@ -40,6 +40,7 @@ proof-honest s l p h =
         well-formed = proof-question-right b (p .κ) (p .proof) wf;
         sizes = ap (λ (u : Question). u .sizes) back ∙ h .names .sizes;
         root = ap (λ (u : Question). u .root) back ∙ h .names .root;
+        salt = ap (λ (u : Question). u .salt) back ∙ h .names .salt;
       };
       reply-made =
           ap proofReply (h .proof-made) ∙ reply-of b l (tableOf s l) (treeOf s l) c
@@ -50,14 +51,14 @@ abbrev pub AnyHonest : Sizes → Lent → AnyCall → Type 0
 AnyHonest s l (conversation c) = Honest s l c
 AnyHonest s l (alone p) = HonestProof s l p
 
-pub mixed-committed : (calls : List AnyCall) (header root : Bytes) (l : Lent) → WellLent (headerSizes header) l
+pub mixed-committed : (calls : List AnyCall) (header root salt : Bytes) (l : Lent) → WellLent (headerSizes header) l
     → ((a : AnyCall) → Mem a calls → AnyHonest (headerSizes header) l a)
-    → (h : (a : AnyCall) → Mem a calls → AnyAnswered a) (nc : NoCollision (joined calls) header root)
-    → (L : List ℕ) (k : ℕ) (challenges : List ℕ) (answers : List (List ℕ)) (cov : Covered (joined calls) header root L k challenges answers)
-    → rowPolynomials (headerSizes header) l ≡ collected-proofs calls header root h nc L k challenges answers cov .extracted
+    → (h : (a : AnyCall) → Mem a calls → AnyAnswered a) (nc : NoCollision (joined calls) header root salt)
+    → (L : List ℕ) (k : ℕ) (challenges : List ℕ) (answers : List (List ℕ)) (cov : Covered (joined calls) header root salt L k challenges answers)
+    → rowPolynomials (headerSizes header) l ≡ collected-proofs calls header root salt h nc L k challenges answers cov .extracted
 unfolding collected-proofs
-mixed-committed calls header root l right honest h nc L k challenges answers cov =
-    extracted-committed (joined calls) header root l right
+mixed-committed calls header root salt l right honest h nc L k challenges answers cov =
+    extracted-committed (joined calls) header root salt l right
     (λ c m. let r = joined-of calls c (m .listed) in each (r .0) (honest (r .0) (r .1)) c (r .2))
     (joined-answered calls h) nc L k challenges answers cov
   where

@@ -13,7 +13,7 @@ use borrow.Author.Tests.{eq-eqb, ne-eqb}
 use Rattle.lists.specs.Choice.{pick}
 use Rattle.lists.specs.Least.{least, least-cases, least-first, least-none}
 use Rattle.lists.specs.Bytes.{Bytes, bytesOf}
-use Rattle.lists.specs.Tests.{same, every-true, true-every, same-refl}
+use Rattle.lists.specs.Tests.{every-true, true-every}
 use Rattle.scheme.specs.Sizes.{Sizes, elements}
 use Rattle.scheme.specs.Layers.{Lent}
 use Rattle.scheme.specs.Question.{Question, readQuestion, headerSizes, headerPoints}
@@ -25,8 +25,8 @@ use Rattle.scheme.specs.Honest.{trueValues, WellLent, Replied}
 use Rattle.scheme.proofs.Lent.{below-elements, LentFacts, lent-facts}
 use Rattle.scheme.proofs.Committed.{filled, table-below}
 use Rattle.scheme.proofs.Complete.{completeness}
-use Rattle.scheme.proofs.Opening.{opening-number, opening-done}
-use Rattle.fiat_shamir.specs.Offline.{offlineRoot, offlinePoints, offlineVerdict}
+use Rattle.scheme.proofs.Opening.{names-true, opening-number, opening-done}
+use Rattle.fiat_shamir.specs.Offline.{offlineRoot, offlineSalt, offlinePoints, offlineVerdict}
 use Rattle.fiat_shamir.specs.Draw.{leafDraw, qualifies, drawnIndices, drawnBytes}
 use Rattle.fiat_shamir.specs.Prove.{provedAnswers, counterLength, counterBytes, counterDraw, counterOk, counterQuestion, proofLength, proofOf, proofBound, proveVerdict}
 use Rattle.fiat_shamir.specs.CheckProof.{proofCounter, proofReply, answersLength, proofDraw, doesProof}
@@ -68,7 +68,7 @@ module _ (question : Bytes) (l : Lent) (table : List ℕ) (nodes : Bytes) (c : �
   draw-of = ap₂ (leafDraw question) (ap (take (answersLength question)) reply-of ∙ answers-of) counter-of
 
 module _ (question : Bytes) (κ : ℕ) (l : Lent) (wf : offlineVerdict question κ ≡ 0) (right : WellLent (headerSizes question) l)
-    (named : offlineRoot question ≡ lastDigest (treeOf (headerSizes question) l)) where
+    (named : offlineRoot question ≡ lastDigest (treeOf (headerSizes question) l)) (salted : offlineSalt question ≡ l .salt) where
   abbrev s : Sizes
   s = headerSizes question
 
@@ -99,7 +99,7 @@ module _ (question : Bytes) (κ : ℕ) (l : Lent) (wf : offlineVerdict question 
     honest : Replied s l D (replicate (replyLength (readQuestion D)) 0)
     honest =
         completeness s l right .1 D (replicate (replyLength (readQuestion D)) 0)
-        record { well-formed = counter-right question κ l wf c; sizes = ap (λ (v : Question). v .sizes) back; root = ap (λ (v : Question). v .root) back ∙ named }
+        record { well-formed = counter-right question κ l wf c; sizes = ap (λ (v : Question). v .sizes) back; root = ap (λ (v : Question). v .root) back ∙ named; salt = ap (λ (v : Question). v .salt) back ∙ salted }
         (length-replicate (replyLength (readQuestion D)) 0)
 
     reply-made : honest .reply ≡ madeReply question l table nodes c
@@ -148,7 +148,7 @@ module _ (question : Bytes) (κ : ℕ) (l : Lent) (wf : offlineVerdict question 
         prove-last question κ limit l table nodes buffer wf
         (true-every (lentOk s l ∷ filledOk s table nodes ∷ eqb (length buffer) (proofBound question) ∷ []) (right .lengths, (filled s l facts, (eq-eqb _ _ room, tt))))
         (true-every (elements table ∷ lentElements l) (below-elements table (table-below s l facts), every-true (lentElements l) (right .elements)))
-        (ap (same (lastDigest nodes)) named ∙ same-refl (lastDigest nodes))
+        (names-true (offlineRoot question) (offlineSalt question) l nodes named salted)
 
     found : least-counter < limit → counterOk question κ l least-counter ≡ true → Proved s l question κ limit buffer
     found below ok =
@@ -183,4 +183,4 @@ module _ (question : Bytes) (κ : ℕ) (l : Lent) (wf : offlineVerdict question 
 pub proof-completeness : (s : Sizes) (l : Lent) → ProofCompleteness s l
 proof-completeness s l right question κ limit buffer names room =
     subst (λ (t : Sizes). WellLent t l → offlineRoot question ≡ lastDigest (treeOf t l) → Proved t l question κ limit buffer ⊎ Unproved t l question κ limit buffer)
-    (names .sizes) (λ rt nm. proved question κ l (names .well-formed) rt nm limit buffer room) right (names .root)
+    (names .sizes) (λ rt nm. proved question κ l (names .well-formed) rt nm (names .salt) limit buffer room) right (names .root)

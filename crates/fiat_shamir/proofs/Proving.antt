@@ -15,18 +15,18 @@ use Rattle.lists.specs.Range.{upFrom, length-upFrom}
 use Rattle.lists.specs.Least.{least, least-cases, least-none}
 use Rattle.lists.specs.Pieces.{length-flatten}
 use Rattle.lists.specs.Bytes.{Bytes, littleEndian, bytesOf, length-bytesOf, length-words}
-use Rattle.lists.specs.Tests.{Test, verdictOf, every, each, same, true-each, each-stop, verdict-miss, verdict-go, verdict-stop}
+use Rattle.lists.specs.Tests.{Test, verdictOf, every, each, true-each, each-stop, verdict-miss, verdict-go, verdict-stop}
 use Rattle.scheme.specs.Sizes.{Sizes, width}
 use Rattle.scheme.specs.Layers.{Lent}
 use Rattle.scheme.specs.Question.{Question, readQuestion, headerSizes, headerPoints, questionVerdict}
 use Rattle.scheme.specs.Reply.{replyLength, replyBound}
-use Rattle.scheme.specs.Commit.{lentOk, filledOk, lastDigest}
-use Rattle.scheme.specs.Open.{openedBatching, openedAnswers, replyOf, wordsOk}
+use Rattle.scheme.specs.Commit.{lentOk, filledOk}
+use Rattle.scheme.specs.Open.{openedBatching, openedAnswers, replyOf, wordsOk, namesOk}
 use Rattle.scheme.proofs.Accepted.{sizes-in-order, well-formed}
 use Rattle.scheme.proofs.HonestAnswers.{combination-length}
 use Rattle.scheme.proofs.Lengths.{reply-bounded}
 use Rattle.scheme.proofs.Parts.{reply-sized}
-use Rattle.fiat_shamir.specs.Offline.{offlineRoot, offlinePoints, offlineTests, offlineVerdict}
+use Rattle.fiat_shamir.specs.Offline.{offlineRoot, offlineSalt, offlinePoints, offlineTests, offlineVerdict}
 use Rattle.fiat_shamir.specs.Draw.{drawn, drawnBytes}
 use Rattle.fiat_shamir.specs.Prove.{provedAnswers, counterLength, counterBytes, counterDraw, counterOk, counterQuestion, proofLength, proofOf, proofBound, proveTests, proveVerdict, proving}
 use Rattle.fiat_shamir.specs.CheckProof.{answersLength}
@@ -111,14 +111,14 @@ module _ (question : Bytes) (κ limit : ℕ) (l : Lent) (table : List ℕ) (node
   abbrev lengthsOk : Bool
   lengthsOk = every (lentOk (headerSizes question) l ∷ filledOk (headerSizes question) table nodes ∷ eqb (length buffer) (proofBound question) ∷ [])
 
-  abbrev rootOk : Bool
-  rootOk = same (lastDigest nodes) (offlineRoot question)
+  abbrev named : Bool
+  named = namesOk (offlineRoot question) (offlineSalt question) l nodes
 
   abbrev last : List Test
   last = (11, each limit (λ c. not (counterOk question κ l c))) ∷ []
 
   abbrev lent : List Test
-  lent = (2, not lengthsOk) ∷ (3, not (wordsOk l table)) ∷ (8, not rootOk) ∷ last
+  lent = (2, not lengthsOk) ∷ (3, not (wordsOk l table)) ∷ (8, not named) ∷ last
 
   -- the question's own
   pub prove-asked : (v : ℕ) → 0 < v → offlineVerdict question κ ≡ v → verdict ≡ v
@@ -131,17 +131,17 @@ module _ (question : Bytes) (κ limit : ℕ) (l : Lent) (table : List ℕ) (node
     go = verdict-go (offlineTests question κ) lent (offline-numbers question κ) asked
 
     module _ (lengths : lengthsOk ≡ true) where
-      after-2 : verdict ≡ verdictOf ((3, not (wordsOk l table)) ∷ (8, not rootOk) ∷ last)
+      after-2 : verdict ≡ verdictOf ((3, not (wordsOk l table)) ∷ (8, not named) ∷ last)
       after-2 = go ∙ verdict-miss 2 (not lengthsOk) _ (ap not lengths)
 
       module _ (words : wordsOk l table ≡ true) where
-        after-3 : verdict ≡ verdictOf ((8, not rootOk) ∷ last)
+        after-3 : verdict ≡ verdictOf ((8, not named) ∷ last)
         after-3 = after-2 ∙ verdict-miss 3 (not (wordsOk l table)) _ (ap not words)
 
         -- then 11 exactly when no counter below the limit qualifies
-        pub prove-last : rootOk ≡ true → verdict ≡ pick (eqb counter limit) 11 0
+        pub prove-last : named ≡ true → verdict ≡ pick (eqb counter limit) 11 0
         unfolding verdictOf
-        prove-last e = after-3 ∙ verdict-miss 8 (not rootOk) last (ap not e) ∙ ap (λ (t : Bool). pick t 11 0) (unqualified limit (counterOk question κ l))
+        prove-last e = after-3 ∙ verdict-miss 8 (not named) last (ap not e) ∙ ap (λ (t : Bool). pick t 11 0) (unqualified limit (counterOk question κ l))
 
   -- ---- what is left
   pub proving-refused : (v : ℕ) → 0 < v → verdict ≡ v → proving question κ limit l table nodes buffer ≡ (v, 0, buffer)

@@ -3,19 +3,22 @@ use mathlib.Core.Path.{_≡_, refl, ap}
 use mathlib.Core.Bool.{Bool, false, _&&_}
 use mathlib.Core.Logic.{_≢_}
 use mathlib.Core.List.{List}
-use Prim.Native.Nat.{ℕ, _≤_}
+use Prim.Native.Nat.{ℕ, _<_, _≤_}
 use native.Mathlib.Nat.{suc-ne-zero}
 use native.Mathlib.Omega.{arith}
 use lib.Dec.{eqb}
-use borrow.Author.Tests.{ne-eqb}
+use borrow.Author.Tests.{ne-eqb, not-false}
 use Rattle.lists.specs.Choice.{pick}
-use Rattle.lists.specs.All.{All, all-append}
+use Rattle.lists.specs.All.{All, all-append, all-right}
 use Rattle.lists.specs.Bytes.{Bytes}
-use Rattle.lists.specs.Tests.{Test, verdict-within, verdict-other}
+use Rattle.lists.specs.Tests.{Test, passed, verdict-within, verdict-other}
 use Rattle.scheme.specs.Layers.{Lent}
+use Rattle.scheme.specs.Commit.{lastDigest}
 use Rattle.scheme.specs.Check.{replyTests}
-use Rattle.fiat_shamir.specs.Offline.{offlineTests, offlineVerdict}
+use Rattle.scheme.proofs.Opening.{true-names}
+use Rattle.fiat_shamir.specs.Offline.{offlineRoot, offlineSalt, offlineTests, offlineVerdict}
 use Rattle.fiat_shamir.specs.Prove.{proveTests, proveVerdict, proving, provingC}
+use Rattle.fiat_shamir.proofs.Drawn.{offline-numbers}
 use Rattle.fiat_shamir.specs.CheckProof.{proofTests, checkProofVerdict, checkingProof, checkingProofC}
 
 -- ---- a refusal leaves every lent slice, and a lent length, as it was; a length that is returned is 0
@@ -40,6 +43,16 @@ check-proof-refused question κ proof values n = kept _ _ values n
 pub check-proof-refused-C : (question : Bytes) (κ : ℕ) (proof values : Bytes) → checkingProofC question κ proof values .0 ≢ 0 → checkingProofC question κ proof values .1 ≡ values
 unfolding checkingProofC
 check-proof-refused-C question κ proof values n = kept _ _ values n
+
+-- ---- the prover answers only where the tree's root and the salt that it is lent are the question's
+
+pub proved-names : (question : Bytes) (κ limit : ℕ) (l : Lent) (table : List ℕ) (nodes buffer : Bytes) → proveVerdict question κ limit l table nodes buffer ≡ 0
+    → (lastDigest nodes ≡ offlineRoot question) × (l .salt ≡ offlineSalt question)
+unfolding proveVerdict proveTests
+proved-names question κ limit l table nodes buffer e =
+    let t = all-right (λ (t : Test). t .1 ≡ false) (offlineTests question κ) _
+    (passed _ (all-append (λ (t : Test). 0 < t .0) (offlineTests question κ) _ (offline-numbers question κ) (omega arith)) e) in
+    true-names (offlineRoot question) (offlineSalt question) l nodes (not-false _ (t .1 .1 .0))
 
 -- ---- the greatest verdict
 

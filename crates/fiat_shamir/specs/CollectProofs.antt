@@ -50,8 +50,8 @@ unfoldable pub joined : List AnyCall → List Call
 joined calls = flatten (map joins calls)
 
 -- the claim of collected replies, for such a list
-abbrev pub CollectedProofs : List AnyCall → Bytes → Bytes → Type 0
-CollectedProofs calls header root =
-    ((c : AnyCall) → Mem c calls → AnyAnswered c) → NoCollision (joined calls) header root
-    → (L : List ℕ) (k : ℕ) (challenges : List ℕ) (answers : List (List ℕ)) → Covered (joined calls) header root L k challenges answers
-    → Extracted (joined calls) header root L
+abbrev pub CollectedProofs : List AnyCall → Bytes → Bytes → Bytes → Type 0
+CollectedProofs calls header root salt =
+    ((c : AnyCall) → Mem c calls → AnyAnswered c) → NoCollision (joined calls) header root salt
+    → (L : List ℕ) (k : ℕ) (challenges : List ℕ) (answers : List (List ℕ)) → Covered (joined calls) header root salt L k challenges answers
+    → Extracted (joined calls) header root salt L

@@ -1,4 +1,4 @@
--- Challenges drawn by hashing: γ from header and root; leaves from what is asked, what is answered, and a counter.
+-- Challenges drawn by hashing: γ from header, root and salt; leaves from what is asked, what is answered, and a counter.
 use mathlib.Core.Bool.{Bool}
 use mathlib.Core.List.{List, [], _∷_, _++_, map, flatten}
 use Prim.Native.Nat.{ℕ, suc, _+_, _-_, _*_, _/_, _%_, _^_}
@@ -14,15 +14,19 @@ use Rattle.lists.specs.Tests.{all}
 use Rattle.algebra.specs.Prime.{q}
 use Rattle.scheme.specs.Sizes.{Sizes, leaves, mostPoints, mostWidth}
 use Rattle.scheme.specs.Question.{Question, headerSizes, headerPoints, challengesAt}
-use Rattle.fiat_shamir.specs.Offline.{offlineLength, headerRoot, offlineRoot, offlinePoints}
+use Rattle.fiat_shamir.specs.Offline.{offlineLength, headerRootSalt, offlineRoot, offlineSalt, offlinePoints}
 
 -- ---- γ
 
--- from p, which is header and root: the first η words of eight bytes, each modulo q. With η at most 4 they stand in the digest
-unfoldable pub drawnChallenges : Bytes → List ℕ
-drawnChallenges p = map (λ x. x % q) (doubles (headerSizes p .η) (digest (2 ∷ p)))
+-- the string for p, which is header, root and salt
+abbrev pub challengeString : Bytes → Bytes
+challengeString p = 2 ∷ p
 
--- ---- the leaf draw for a question b, which is header, root and points
+-- from it the first η words of eight bytes, each modulo q. With η at most 4 they stand in the digest
+unfoldable pub drawnChallenges : Bytes → List ℕ
+drawnChallenges p = map (λ x. x % q) (doubles (headerSizes p .η) (digest (challengeString p)))
+
+-- ---- the leaf draw for a question b, which is header, root, salt and points
 
 -- then batching answers and evaluation answers as they stand in the reply, and the counter's four bytes
 unfoldable pub drawString : Bytes → Bytes → Bytes → Bytes
@@ -68,11 +72,12 @@ drawn b indices = record {
   sizes = headerSizes b;
   m = headerPoints b;
   root = offlineRoot b;
-  challenges = drawnChallenges (headerRoot b);
+  salt = offlineSalt b;
+  challenges = drawnChallenges (headerRootSalt b);
   evaluationPoints = offlinePoints b;
   indices = indices;
 }
 
--- its bytes, as a conversation has them: header, root, γ, points, indices
+-- its bytes, as a conversation has them: header, root, salt, γ, points, indices
 unfoldable pub drawnBytes : Bytes → List ℕ → Bytes
-drawnBytes b indices = headerRoot b ++ (bytesOf (drawnChallenges (headerRoot b)) ++ (drop challengesAt b ++ flatten (map (littleEndian 2) indices)))
+drawnBytes b indices = headerRootSalt b ++ (bytesOf (drawnChallenges (headerRootSalt b)) ++ (drop challengesAt b ++ flatten (map (littleEndian 2) indices)))

@@ -11,15 +11,16 @@ use Rattle.scheme.specs.Layers.{Lent}
 use Rattle.scheme.specs.Question.{headerSizes, headerPoints}
 use Rattle.scheme.specs.Commit.{tableOf, treeOf, lastDigest}
 use Rattle.scheme.specs.Honest.{trueValues, WellLent}
-use Rattle.fiat_shamir.specs.Offline.{offlineRoot, offlinePoints, offlineVerdict}
+use Rattle.fiat_shamir.specs.Offline.{offlineRoot, offlineSalt, offlinePoints, offlineVerdict}
 use Rattle.fiat_shamir.specs.Prove.{counterOk, proofLength, proofOf, proofBound, proving}
 use Rattle.fiat_shamir.specs.CheckProof.{checkingProof, checkingProofC}
 
--- a well-formed question that names the root and the sizes of a commitment
+-- a well-formed question that names the root, the salt and the sizes of a commitment
 pub record NamesOffline (s : Sizes) (l : Lent) (question : Bytes) (κ : ℕ) : Type 0 where
   pub well-formed : offlineVerdict question κ ≡ 0
   pub sizes : headerSizes question ≡ s
   pub root : offlineRoot question ≡ lastDigest (treeOf s l)
+  pub salt : offlineSalt question ≡ l .salt
 
 -- the least counter below the limit that qualifies, and the proof that is made with it and accepted with the true values, by both entries
 pub record Proved (s : Sizes) (l : Lent) (question : Bytes) (κ limit : ℕ) (buffer : Bytes) : Type 0 where

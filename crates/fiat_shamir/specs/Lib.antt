@@ -7,3 +7,4 @@ pub mod CheckProof
 pub mod Accepted
 pub mod HonestProofs
 pub mod CollectProofs
+pub mod Salts

@@ -1,4 +1,4 @@
--- The question of a proof without a conversation: header, root and points. Its challenges and its leaves are drawn.
+-- The question of a proof without a conversation: header, root, salt and points. Its challenges and its leaves are drawn.
 use mathlib.Core.Bool.{not}
 use mathlib.Core.List.{List, [], _∷_, _++_}
 use Prim.Native.Nat.{ℕ, _+_, _*_}
@@ -6,19 +6,23 @@ use lib.Dec.{ltb, eqb}
 use lib.ListN.{length, take, drop}
 use Rattle.lists.specs.Bytes.{Bytes, words}
 use Rattle.lists.specs.Tests.{Test, verdictOf}
+use Rattle.tree.specs.Leaf.{saltLength}
 use Rattle.scheme.specs.Sizes.{elements}
-use Rattle.scheme.specs.Question.{headerLength, headerPoints, headerTests, challengesAt}
+use Rattle.scheme.specs.Question.{headerLength, headerPoints, headerTests, saltAt, challengesAt}
 
 -- the points stand where a conversation's question has its challenges
 abbrev pub offlineLength : ℕ → ℕ
 offlineLength m = challengesAt + 4 * m
 
--- header and root, the root, the points
-abbrev pub headerRoot : Bytes → Bytes
-headerRoot b = take challengesAt b
+-- header, root and salt; the root, the salt, the points
+abbrev pub headerRootSalt : Bytes → Bytes
+headerRootSalt b = take challengesAt b
 
 abbrev pub offlineRoot : Bytes → Bytes
 offlineRoot b = take 32 (drop headerLength b)
+
+abbrev pub offlineSalt : Bytes → Bytes
+offlineSalt b = take saltLength (drop saltAt b)
 
 abbrev pub offlinePoints : Bytes → List ℕ
 offlinePoints b = words (headerPoints b) (drop challengesAt b)

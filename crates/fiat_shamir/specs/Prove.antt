@@ -7,14 +7,14 @@ use lib.ListN.{length, drop}
 use Rattle.lists.specs.Choice.{pick}
 use Rattle.lists.specs.Least.{least}
 use Rattle.lists.specs.Bytes.{Bytes, littleEndian, bytesOf}
-use Rattle.lists.specs.Tests.{Test, verdictOf, every, each, same}
+use Rattle.lists.specs.Tests.{Test, verdictOf, every, each}
 use Rattle.scheme.specs.Sizes.{Sizes}
 use Rattle.scheme.specs.Layers.{Lent}
 use Rattle.scheme.specs.Question.{Question, headerSizes, headerPoints}
 use Rattle.scheme.specs.Reply.{replyBound, replyLength}
-use Rattle.scheme.specs.Commit.{lentOk, filledOk, lastDigest, after}
-use Rattle.scheme.specs.Open.{openedBatching, openedAnswers, replyOf, wordsOk}
-use Rattle.fiat_shamir.specs.Offline.{offlineRoot, offlineTests}
+use Rattle.scheme.specs.Commit.{lentOk, filledOk, after}
+use Rattle.scheme.specs.Open.{openedBatching, openedAnswers, replyOf, wordsOk, namesOk}
+use Rattle.fiat_shamir.specs.Offline.{offlineRoot, offlineSalt, offlineTests}
 use Rattle.fiat_shamir.specs.Draw.{leafDraw, qualifies, drawnIndices, drawn}
 
 -- batching answers and evaluation answers as bytes of the reply: they do not depend on the leaves
@@ -56,7 +56,7 @@ proveTests question κ limit l table nodes buffer =
     offlineTests question κ
     ++ ((2, not (every (lentOk s l ∷ filledOk s table nodes ∷ eqb (length buffer) (proofBound question) ∷ [])))
     ∷ (3, not (wordsOk l table))
-    ∷ (8, not (same (lastDigest nodes) (offlineRoot question)))
+    ∷ (8, not (namesOk (offlineRoot question) (offlineSalt question) l nodes))
     ∷ (11, each limit (λ c. not (counterOk question κ l c)))
     ∷ [])
 

@@ -5,3 +5,5 @@ pub mod Measures
 -- where the elements of a row stand in it
 pub mod Strides
 pub mod Rows
+-- a reply without the salt
+pub mod Unsalted

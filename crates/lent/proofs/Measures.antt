@@ -9,6 +9,7 @@ use lib.Dec.{eqb}
 use lib.Pow.{pow-pos}
 use lib.ListN.{length}
 use Rattle.lists.specs.Tests.{every, every-before, every-two, every-three}
+use Rattle.tree.specs.Leaf.{saltLength}
 use Rattle.scheme.specs.Sizes.{Sizes, SizesInOrder, rows, coefficientCount, blindCount, leaves, width, recordValues, elements}
 use Rattle.scheme.specs.Layers.{Lent}
 use Rattle.scheme.specs.Commit.{lentOk, filledOk}
@@ -39,22 +40,23 @@ module _ (s : Sizes) (g : SizesInOrder s) where
 
 -- ---- the tests, as the code makes them
 
-pub lent-tests : (s : Sizes) (l : Lent) (v j b k n : ℕ) (r q p o : Bool) → v ≡ coefficientCount s → j ≡ rows s → b ≡ blindCount s → k ≡ width s → n ≡ leaves s
-    → o ≡ eqb (length (l .masks)) (s .η * k) && eqb (length (l .nonces)) (32 * n)
+pub lent-tests : (s : Sizes) (l : Lent) (v j b k n : ℕ) (r q p o z : Bool) → v ≡ coefficientCount s → j ≡ rows s → b ≡ blindCount s → k ≡ width s → n ≡ leaves s
+    → z ≡ eqb (length (l .nonces)) (32 * n) && eqb (length (l .salt)) saltLength
+    → o ≡ eqb (length (l .masks)) (s .η * k) && z
     → p ≡ eqb (length (l .blinds)) (s .w * b) && o
     → q ≡ eqb (length (l .tails)) (j * s .ℓ) && p
     → r ≡ eqb (length (l .coefficients)) (s .w * v) && q
     → r ≡ lentOk s l
 unfolding lentOk
-lent-tests s l v j b k n r q p o hv hj hb hk hn d e f h =
-    let ms : List Bool = eqb (length (l .masks)) (s .η * k) ∷ eqb (length (l .nonces)) (32 * n) ∷ [] in
+lent-tests s l v j b k n r q p o z hv hj hb hk hn c d e f h =
+    let ms : List Bool = eqb (length (l .masks)) (s .η * k) ∷ eqb (length (l .nonces)) (32 * n) ∷ eqb (length (l .salt)) saltLength ∷ [] in
     let bs : List Bool = eqb (length (l .blinds)) (s .w * b) ∷ ms in
     let ts : List Bool = eqb (length (l .tails)) (j * s .ℓ) ∷ bs in
-    every-before (eqb (length (l .coefficients)) (s .w * v)) r q ts (every-before (eqb (length (l .tails)) (j * s .ℓ)) q p bs (every-three _ _ _ p o d e) f) h
+    every-before (eqb (length (l .coefficients)) (s .w * v)) r q ts (every-before (eqb (length (l .tails)) (j * s .ℓ)) q p bs (every-before (eqb (length (l .blinds)) (s .w * b)) p o ms (every-three _ _ _ o z c d) e) f) h
     ∙ ap₂ (λ (x y : ℕ). every (eqb (length (l .coefficients)) (s .w * x) ∷ eqb (length (l .tails)) (y * s .ℓ) ∷ bs)) hv hj
     ∙ ap (λ (x : ℕ). every (eqb (length (l .coefficients)) (s .w * coefficientCount s) ∷ eqb (length (l .tails)) (rows s * s .ℓ) ∷ eqb (length (l .blinds)) (s .w * x) ∷ ms)) hb
     ∙ ap₂ (λ (x y : ℕ). every (eqb (length (l .coefficients)) (s .w * coefficientCount s) ∷ eqb (length (l .tails)) (rows s * s .ℓ) ∷ eqb (length (l .blinds)) (s .w * blindCount s)
-    ∷ eqb (length (l .masks)) (s .η * x) ∷ eqb (length (l .nonces)) (32 * y) ∷ [])) hk hn
+    ∷ eqb (length (l .masks)) (s .η * x) ∷ eqb (length (l .nonces)) (32 * y) ∷ eqb (length (l .salt)) saltLength ∷ [])) hk hn
 
 pub filled-tests : (s : Sizes) (table tree : List ℕ) (n k : ℕ) (r : Bool) → n ≡ leaves s → k ≡ recordValues s
     → r ≡ eqb (length table) (n * k) && eqb (length tree) (32 * (2 * n - 1)) → r ≡ filledOk s table tree

@@ -1,6 +1,6 @@
 -- A row with its tails: where its elements stand.
 use mathlib.Core.Path.{_≡_, refl, sym, ap, ap₂, _∙_}
-use mathlib.Core.List.{List, [], map}
+use mathlib.Core.List.{List, map}
 use Prim.Native.Nat.{ℕ, _+_, _*_, _≤_, _<_}
 use native.Mathlib.Nat.{zero-add}
 use native.Mathlib.Omega.{arith}
@@ -11,6 +11,7 @@ use Rattle.lists.specs.Pieces.{piece}
 use Rattle.lists.specs.Parts.{row-fits}
 use Rattle.scheme.specs.Sizes.{Sizes, rows, columns, width}
 use Rattle.scheme.specs.Layers.{Lent, lentOf, entry, extended, extendedRows}
+use Rattle.lent.specs.Partly.{lentRows}
 use Rattle.scheme.proofs.Lent.{Counted}
 use Rattle.lent.specs.Rows.{CanLayOut, CanExtend, strided}
 
@@ -19,10 +20,10 @@ pub counted : {s : Sizes} {coefficients blinds : List ℕ} → CanLayOut s coeff
 counted can = record { sizes = can .sizes; c-length = can .coefficients-length; b-length = can .blinds-length }
 
 -- the rows depend on coefficients, tails and blinds alone
-pub rows-lent : (s : Sizes) (coefficients tails blinds masks nonces : List ℕ)
-    → extendedRows s (lentOf coefficients tails blinds [] []) ≡ extendedRows s (lentOf coefficients tails blinds masks nonces)
+pub rows-lent : (s : Sizes) (coefficients tails blinds masks nonces salt : List ℕ)
+    → extendedRows s (lentRows coefficients tails blinds) ≡ extendedRows s (lentOf coefficients tails blinds masks nonces salt)
 unfolding extended
-rows-lent s coefficients tails blinds masks nonces = refl
+rows-lent s coefficients tails blinds masks nonces salt = refl
 
 module _ (s : Sizes) (l : Lent) (can : CanExtend s (l .coefficients) (l .tails) (l .blinds)) where
   abbrev t : List ℕ

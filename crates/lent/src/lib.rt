@@ -8,6 +8,7 @@ ghost use Rattle.scheme.specs.Commit.{lentOk, filledOk, lentElements};
 ghost use Rattle.commitment.specs.Shape.{sizesIn};
 use codec::both;
 use codec::elements_ok;
+use commitment::SALT_LENGTH;
 use commitment::Shape;
 use commitment::blind_count;
 use commitment::coefficient_count;
@@ -24,9 +25,10 @@ pub fn lent_ok(
     blinds: &[u32],
     masks: &[u32],
     nonces: &[u8],
+    salt: &[u8],
 ) -> bool
     requires { ⌜ SizesInOrder (sizesIn s) ⌝ }
-    ensures { λ r. ⌜ r ≡ lentOk (sizesIn s) (lentOf (now (coefficients .entry)) (now (tails .entry)) (now (blinds .entry)) (now (masks .entry)) (now (nonces .entry))) ⌝ }
+    ensures { λ r. ⌜ r ≡ lentOk (sizesIn s) (lentOf (now (coefficients .entry)) (now (tails .entry)) (now (blinds .entry)) (now (masks .entry)) (now (nonces .entry)) (now (salt .entry))) ⌝ }
 {
     let w = s.w as usize;
     let c = coefficients.len() == w * coefficient_count(s);
@@ -34,7 +36,8 @@ pub fn lent_ok(
     let b = blinds.len() == w * blind_count(s);
     let m = masks.len() == s.eta as usize * row_width(s);
     let o = nonces.len() == 32 * leaf_count(s.h);
-    both(c, both(t, both(b, both(m, o))))
+    let z = salt.len() == SALT_LENGTH;
+    both(c, both(t, both(b, both(m, both(o, z)))))
 }
 
 // Are the table and the tree of their lengths?
@@ -51,7 +54,7 @@ pub fn filled_ok(s: Shape, table: &[u32], tree: &[u8]) -> bool
 
 // Is each word that is lent to be read below q?
 pub fn lent_elements(coefficients: &[u32], tails: &[u32], blinds: &[u32], masks: &[u32]) -> bool
-    ensures { λ r. ⌜ r ≡ every (lentElements (lentOf (now (coefficients .entry)) (now (tails .entry)) (now (blinds .entry)) (now (masks .entry)) [])) ⌝ }
+    ensures { λ r. ⌜ r ≡ every (lentElements (lentOf (now (coefficients .entry)) (now (tails .entry)) (now (blinds .entry)) (now (masks .entry)) [] [])) ⌝ }
 {
     let c = elements_ok(coefficients);
     let t = elements_ok(tails);

@@ -5,11 +5,13 @@ use super::attempt::length_of;
 use super::attempt::number_of;
 use super::attempt::prove_asked;
 use super::attempt::sound;
+use super::attempt::with_tag;
 use commitment::Shape;
 use proof_checker::check_proof;
 use runs::calls::front_bytes;
 use runs::calls::front_words_mut;
 use runs::inputs::REPLY;
+use runs::inputs::SALT;
 use runs::inputs::TABLE;
 use runs::inputs::TREE;
 use runs::inputs::VALUES;
@@ -31,7 +33,12 @@ fn print_check(s: Shape, m: u32, kappa: u32, question: &[u8], proof: &[u8]) {
 }
 
 pub fn print_proven(s: Shape, m: u32, kappa: u32) {
-    let a = sound(s, m, kappa);
+    print_salted(s, m, kappa, SALT);
+}
+
+// With the salt of the tag.
+pub fn print_salted(s: Shape, m: u32, kappa: u32, tag: usize) {
+    let a = with_tag(sound(s, m, kappa), tag);
     let mut table = filled_words(TABLE);
     let mut tree = filled_bytes(TREE);
     let mut question = io::buffer();

@@ -10,12 +10,15 @@ use runs::inputs::BLINDS;
 use runs::inputs::COEFFICIENTS;
 use runs::inputs::MASKS;
 use runs::inputs::NONCES;
+use runs::inputs::SALT;
 use runs::inputs::TAILS;
 use runs::inputs::filled_bytes;
+use runs::inputs::filled_salt;
 use runs::questions::Asked;
 use runs::questions::filled_question;
 use runs::questions::put_offline_question;
 use runs::questions::put_question;
+use runs::questions::with_salt;
 use runs::sizes::Lengths;
 use runs::sizes::lengths_of;
 use runs::sizes::product;
@@ -28,7 +31,7 @@ use runs::small::raise;
 // Above the least counter of every run here.
 const LIMIT: u32 = 5000;
 
-// The question's sizes can be others than the commitment's. The lengths are those that the call is lent. A byte of the question or the tree is raised by 1, the last word of one slice is made q.
+// The question's sizes can be others than the commitment's. The lengths are those that the call is lent; the salt is that of the tag. A byte of the question, the tree or the lent salt is raised by 1, the last word of one slice is made q.
 pub struct Attempt {
     pub sizes: Shape,
     pub asked_sizes: Shape,
@@ -37,9 +40,11 @@ pub struct Attempt {
     pub kappa: u32,
     pub limit: u32,
     pub lengths: Lengths,
+    pub tag: usize,
     pub proof_length: usize,
     pub question_at: usize,
     pub tree_at: usize,
+    pub lent_salt_at: usize,
     pub spoiled: usize,
 }
 
@@ -64,11 +69,21 @@ pub fn sound(s: Shape, m: u32, kappa: u32) -> Attempt {
         kappa: kappa,
         limit: LIMIT,
         lengths: n,
+        tag: SALT,
         proof_length: proof_bound(s, m),
         question_at: NOWHERE,
         tree_at: NOWHERE,
+        lent_salt_at: NOWHERE,
         spoiled: NONE,
     }
+}
+
+// About a commitment with another salt.
+pub fn with_tag(a: Attempt, tag: usize) -> Attempt {
+    let mut b = a;
+    b.tag = tag;
+    b.asked = with_salt(a.asked, tag);
+    b
 }
 
 // ---- with a fault of the question
@@ -127,7 +142,7 @@ fn sound_lengths(a: Attempt) -> Lengths {
 }
 
 pub fn commit_sound(a: Attempt, table: &mut [u32], tree: &mut [u8]) {
-    commit_small(a.sizes, sound_lengths(a), NONE, table, tree);
+    commit_small(a.sizes, sound_lengths(a), a.tag, NONE, table, tree);
 }
 
 // The question of the proof, or that of a conversation.
@@ -157,6 +172,8 @@ pub fn prove_asked(
     let blinds = lent_words(BLINDS, n.blinds, a.spoiled);
     let masks = lent_words(MASKS, n.masks, a.spoiled);
     let nonces = filled_bytes(NONCES);
+    let mut salt = filled_salt(a.tag);
+    raise(&mut salt, a.lent_salt_at);
     prove(
         front_bytes(question, n.question),
         a.kappa,
@@ -167,6 +184,7 @@ pub fn prove_asked(
         front_words(&masks, n.masks),
         front_words(table, n.table),
         front_bytes(&nonces, n.nonces),
+        front_bytes(&salt, n.salt),
         front_bytes(tree, n.tree),
         front_bytes_mut(proof, a.proof_length),
     )

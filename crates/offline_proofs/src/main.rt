@@ -1,4 +1,4 @@
-// Commits, proves and checks at several sizes and prints what comes out, then refusals of the prover and of the check of a proof: without blinding rows, then with them.
+// Commits, proves and checks at several sizes and prints what comes out, then refusals of the prover and of the check of a proof: without blinding rows, then with them, then those about the salt.
 // The file stdout is made by tools/stored_proofs.py from a second implementation.
 mod accepted; // accepted.rt: runs that are accepted
 mod attempt; // attempt.rt: a call of the prover, with something wrong where a test is meant
@@ -6,10 +6,14 @@ mod refused_checks; // refused_checks.rt
 mod refused_proofs; // refused_proofs.rt
 
 use accepted::print_proven;
+use accepted::print_salted;
 use refused_checks::print_refused_blinded_checks;
 use refused_checks::print_refused_checks;
+use refused_checks::print_refused_salted_checks;
 use refused_proofs::print_refused_blinded_proofs;
 use refused_proofs::print_refused_proofs;
+use refused_proofs::print_refused_salted_proofs;
+use runs::inputs::OTHER_SALT;
 use runs::sizes::blinded;
 use runs::sizes::shape;
 use runs::small::small;
@@ -34,7 +38,16 @@ fn print_blinded() {
     print_refused_blinded_checks();
 }
 
+// What has been committed above, under another salt: the values stay.
+fn print_about_salt() {
+    print_salted(small(), 2, 3, OTHER_SALT);
+    print_salted(small_blinded(), 2, 3, OTHER_SALT);
+    print_refused_salted_proofs();
+    print_refused_salted_checks();
+}
+
 fn main() {
     print_plain();
     print_blinded();
+    print_about_salt();
 }

@@ -12,7 +12,9 @@ use super::attempt::with_question_length;
 use super::attempt::with_question_raised;
 use super::attempt::with_version;
 use codec::put_word;
+use commitment::SALT_LENGTH;
 use commitment::root_at;
+use commitment::salt_at;
 use proof_checker::check_proof;
 use runs::calls::front_bytes;
 use runs::calls::front_words_mut;
@@ -50,16 +52,21 @@ const NONCE_AT: usize = 84;
 
 const NODES_AT: usize = 164;
 
-// With the two nodes that the leaves 0 and 3 miss, which counter 9 draws.
+// With the two nodes that the leaves 0 and 3 miss, which counter 11 draws.
 const PROOF_LENGTH: usize = 228;
 
-// With a blinding row: where it begins in the first leaf, and the length.
+// With a blinding row: where it begins in the first leaf, and the length, with the one node that the leaves then drawn miss.
 const BLINDING_ROW_AT: usize = 76;
 
-const BLINDED_LENGTH: usize = 236;
+const BLINDED_LENGTH: usize = 204;
+
+// The question of a proof with two points; one of version 2, which had no salt, was shorter.
+const QUESTION_LENGTH: usize = 87;
+
+const LENGTH_WITHOUT_SALT: usize = 55;
 
 // A counter that draws the same leaves and does not qualify.
-const UNQUALIFIED: usize = 6;
+const UNQUALIFIED: usize = 4;
 
 // Keeps the counter as it is.
 const KEPT: usize = 256;
@@ -223,8 +230,8 @@ fn print_questions() {
     with_question(with_question_raised(a, 8));
     with_question(with_kappa(a, 17));
     with_question(with_conversation(a));
-    with_question(with_question_length(a, 54));
-    with_question(with_question_length(a, 56));
+    with_question(with_question_length(a, QUESTION_LENGTH - 1));
+    with_question(with_question_length(a, QUESTION_LENGTH + 1));
     with_question(with_point(a, Q));
 }
 
@@ -255,9 +262,9 @@ fn print_words_q() {
 fn print_counters(kappa: u32) {
     with_raised(kappa, NOWHERE, 7);
     with_raised(kappa, NOWHERE, 12);
-    with_raised(kappa, NOWHERE, 8);
+    with_raised(kappa, NOWHERE, 9);
     with_raised(kappa, NOWHERE, UNQUALIFIED);
-    with_raised(kappa, NOWHERE, 70);
+    with_raised(kappa, NOWHERE, 46);
 }
 
 // A byte in each part; answers once more with counters for which the same leaves are drawn.
@@ -270,9 +277,9 @@ fn print_bytes_raised(kappa: u32) {
     with_raised(kappa, NONCE_AT, KEPT);
     with_raised(kappa, NODES_AT, KEPT);
     with_raised(kappa, NODES_AT, UNQUALIFIED);
-    with_raised(kappa, R_AT, 13);
-    with_raised(kappa, COLUMNS_AT, 27);
-    with_raised(kappa, TAIL_AT, 28);
+    with_raised(kappa, R_AT, 75);
+    with_raised(kappa, COLUMNS_AT, 22);
+    with_raised(kappa, TAIL_AT, 33);
 }
 
 pub fn print_refused_checks() {
@@ -307,4 +314,22 @@ pub fn print_refused_blinded_checks() {
     with_blinding_row_raised();
     // Nothing wrong: accepted, and changed.
     print_changed(unchanged_blinded());
+}
+
+// With another salt other leaves are drawn; these miss two nodes, too. With kappa 3 the counter qualifies under the first one.
+pub fn print_refused_salted_checks() {
+    let a = sound_proof();
+    let end = SALT_LENGTH - 1;
+    let first = with_question_raised(a, salt_at());
+    let last = with_question_raised(a, salt_at() + end);
+    with_question(with_version(a, 1));
+    with_question(with_version(a, 2));
+    with_question(with_version(a, 4));
+    with_question(with_question_length(a, LENGTH_WITHOUT_SALT));
+    with_question(with_kappa(first, 0));
+    with_question(with_kappa(last, 0));
+    with_question(first);
+    with_question(last);
+    // Nothing wrong: accepted, and changed.
+    print_changed(unchanged());
 }

@@ -12,13 +12,16 @@ use super::attempt::with_point;
 use super::attempt::with_question_length;
 use super::attempt::with_question_raised;
 use super::attempt::with_version;
+use commitment::SALT_LENGTH;
 use commitment::root_at;
+use commitment::salt_at;
 use runs::inputs::BLINDS;
 use runs::inputs::COEFFICIENTS;
 use runs::inputs::MASKS;
 use runs::inputs::NONCES;
 use runs::inputs::Q;
 use runs::inputs::REPLY;
+use runs::inputs::SALT;
 use runs::inputs::TABLE;
 use runs::inputs::TAILS;
 use runs::inputs::TREE;
@@ -27,8 +30,10 @@ use runs::inputs::filled_words;
 use runs::printing::print_number;
 use runs::sizes::blinded;
 use runs::sizes::largest;
+use runs::sizes::salted;
 use runs::sizes::shape;
 use runs::sizes::shorter;
+use runs::small::NOWHERE;
 use runs::small::print_same;
 use runs::small::raise;
 use runs::small::small;
@@ -41,8 +46,16 @@ const BUFFER: usize = 292;
 // With a blinding row: two records of 5 words.
 const BLINDED_BUFFER: usize = 300;
 
+// The question of a proof with two points; one of version 2, which had no salt, was shorter.
+const QUESTION_LENGTH: usize = 87;
+
+const LENGTH_WITHOUT_SALT: usize = 55;
+
+// The tree's last byte, and so the root's.
+const ROOT_END: usize = 223;
+
 // The least counter that qualifies for the question without a fault.
-const LEAST: u32 = 304;
+const LEAST: u32 = 88;
 
 fn sound_proof() -> Attempt {
     sound(small(), 2, 8)
@@ -100,6 +113,20 @@ fn with_spoiled(a: Attempt, slice: usize) {
     print_attempt(b);
 }
 
+fn with_salt_length(a: Attempt, length: usize) {
+    let mut b = a;
+    b.lengths = salted(a.lengths, length);
+    print_attempt(b);
+}
+
+// With byte `asked` of the question and byte `lent` of the lent salt raised.
+fn with_salt_raised(a: Attempt, asked: usize, lent: usize) {
+    let mut b = a;
+    b.question_at = asked;
+    b.lent_salt_at = lent;
+    print_attempt(b);
+}
+
 fn with_tree_raised(at: usize) {
     let mut a = sound_proof();
     a.tree_at = at;
@@ -120,8 +147,8 @@ fn print_questions() {
     print_attempt(with_question_raised(a, 8));
     print_attempt(with_kappa(a, 17));
     print_attempt(with_conversation(a));
-    print_attempt(with_question_length(a, 54));
-    print_attempt(with_question_length(a, 56));
+    print_attempt(with_question_length(a, QUESTION_LENGTH - 1));
+    print_attempt(with_question_length(a, QUESTION_LENGTH + 1));
     print_attempt(with_point(a, Q));
 }
 
@@ -141,7 +168,7 @@ pub fn print_refused_proofs() {
     with_spoiled(a, MASKS);
     with_spoiled(a, TABLE);
     print_attempt(with_question_raised(a, root_at()));
-    with_tree_raised(223);
+    with_tree_raised(ROOT_END);
     with_limit(0);
     with_limit(LEAST);
     // Nothing wrong: accepted, and changed.
@@ -181,5 +208,38 @@ pub fn print_refused_blinded_proofs() {
     with_spoiled(a, MASKS);
     with_spoiled(a, TABLE);
     // Nothing wrong: accepted, and changed.
+    print_attempt(a);
+}
+
+pub fn print_refused_salted_proofs() {
+    let a = sound_proof();
+    let first = salt_at();
+    let end = SALT_LENGTH - 1;
+    let last = first + end;
+    print_attempt(with_version(a, 1));
+    print_attempt(with_version(a, 2));
+    print_attempt(with_version(a, 4));
+    print_attempt(with_question_length(a, LENGTH_WITHOUT_SALT));
+    with_salt_length(a, 0);
+    with_shorter(a, SALT);
+    with_salt_length(a, SALT_LENGTH + 1);
+    // Another salt asked for, and a word that is no element.
+    with_spoiled(with_question_raised(a, first), MASKS);
+    // Another salt asked for, and another one lent, at the first byte and at the last.
+    with_salt_raised(a, first, NOWHERE);
+    with_salt_raised(a, NOWHERE, 0);
+    with_salt_raised(a, last, NOWHERE);
+    with_salt_raised(a, NOWHERE, end);
+    // Another root, too; then no counter, too.
+    let mut both = a;
+    both.tree_at = ROOT_END;
+    with_salt_raised(both, first, NOWHERE);
+    let mut none = a;
+    none.limit = 0;
+    with_salt_raised(none, last, NOWHERE);
+    // Asked and lent are the same again: accepted, and changed. That the tree has another salt is not looked at.
+    with_salt_raised(a, first, 0);
+    with_salt_raised(a, last, end);
+    // Nothing wrong.
     print_attempt(a);
 }

@@ -1,4 +1,4 @@
-// The question of a proof without a conversation: header, root, points; and its tests, which proving and checking a proof make first.
+// The question of a proof without a conversation: header, root, salt, points; and its tests, which proving and checking a proof make first.
 ghost use mathlib.Core.Path.{_≡_};
 ghost use Prim.Native.Nat.{_≤_};
 ghost use Rattle.scheme.specs.Sizes.{mostPoints};

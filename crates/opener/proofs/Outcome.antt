@@ -15,6 +15,7 @@ use Rattle.question.specs.Questioned.{questioned}
 use Rattle.commitment.specs.declared.Shape.{Shape}
 use Rattle.question.specs.declared.Questioned.the-variants.{WellFormed, Refused}
 use Rattle.question.proofs.Answer.{refused}
+use Rattle.lent.proofs.Unsalted.{others, reply-unsalted, well-unsalted}
 use Rattle.opener.specs.Ready.{Ready}
 use Rattle.scheme.proofs.Opening.{asked-verdict, opening-refused, opening-done}
 use Rattle.opener.proofs.Given.{question-is, exact, ready}
@@ -32,15 +33,27 @@ module _ (b : Bytes) (l : Lent) (table : List ℕ) (nodes reply : Bytes) where
     passed : openVerdict b l table nodes reply ≡ 0
     passed = sym e ∙ z
 
-    pub is-ready : Ready b (sizesIn s) m l table nodes reply
-    is-ready = ready b l table nodes reply s m asked passed
+    pub is-ready : Ready b (sizesIn s) m (others l) table nodes reply
+    is-ready =
+        let r = ready b l table nodes reply s m asked passed in
+        record {
+          lent = well-unsalted l (sizesIn s) (r .lent);
+          points = r .points;
+          long = r .long;
+          rising = r .rising;
+          leaf = r .leaf;
+          filled = r .filled;
+          room = r .room;
+          small = r .small;
+        }
 
     -- nothing is refused: the reply takes the whole buffer
-    pub replied : (n : ℕ) (out : Bytes) → n ≡ replyLength (questionAt (sizesIn s) m b) → out ≡ replyOf (questionAt (sizesIn s) m b) l table nodes ++ drop n reply
+    pub replied : (n : ℕ) (out : Bytes) → n ≡ replyLength (questionAt (sizesIn s) m b) → out ≡ replyOf (questionAt (sizesIn s) m b) (others l) table nodes ++ drop n reply
         → (0, n, out) ≡ opening b l table nodes reply
     replied n out k o =
         let w : Question = questionAt (sizesIn s) m b in
         let none : drop n reply ≡ [] = ap (λ (j : ℕ). drop j reply) (k ∙ sym (exact b l table nodes reply s m asked passed)) ∙ drop-length reply in
-        ap₂ (λ (x : ℕ) (y : Bytes). (0, x, y)) k (o ∙ ap (λ (y : Bytes). replyOf w l table nodes ++ y) none ∙ append-nil (replyOf w l table nodes))
+        ap₂ (λ (x : ℕ) (y : Bytes). (0, x, y)) k
+        (o ∙ ap₂ (λ (x y : Bytes). x ++ y) (reply-unsalted l w table nodes) none ∙ append-nil (replyOf w l table nodes))
         ∙ ap (λ (v : Question). (0, replyLength v, replyOf v l table nodes)) (question-is b s m asked)
         ∙ sym (opening-done b l table nodes reply passed)

@@ -1,6 +1,6 @@
 -- The whole reply, where all tests have passed.
 use mathlib.Core.Path.{_≡_, sym, ap, ap₂, _∙_, subst}
-use mathlib.Core.List.{List, [], _++_, map, flatten, append-assoc}
+use mathlib.Core.List.{List, _++_, map, flatten, append-assoc}
 use Prim.Native.Nat.{ℕ, _+_, _-_, _*_, _≤_, _<_}
 use native.Mathlib.Omega.{arith}
 use lib.ListN.{length, take, drop, length-map}
@@ -10,7 +10,8 @@ use Rattle.lists.specs.Pieces.{pieces, length-pieces}
 use Rattle.tree.specs.Sets.{missing}
 use Rattle.tree.specs.Tree.{allParts, opened}
 use Rattle.scheme.specs.Sizes.{Sizes, SizesInOrder}
-use Rattle.scheme.specs.Layers.{Lent, lentOf, extendedRows}
+use Rattle.scheme.specs.Layers.{Lent, extendedRows}
+use Rattle.lent.specs.Partly.{lentRows}
 use Rattle.scheme.specs.Question.{Question, indicesAt, questionAt}
 use Rattle.scheme.specs.Reply.{recordsAt, nodesAt, replyLength}
 use Rattle.scheme.specs.Commit.{leafRecord}
@@ -35,7 +36,7 @@ module _ (question : Bytes) (t : Sizes) (m : ℕ) (l : Lent) (table : List ℕ) 
   -- ---- the answers
 
   abbrev ext : List (List ℕ)
-  ext = extendedRows t (lentOf (l .coefficients) (l .tails) (l .blinds) [] [])
+  ext = extendedRows t (lentRows (l .coefficients) (l .tails) (l .blinds))
 
   pub can-sum : CanSum question t m (l .coefficients) (l .tails) (l .blinds) (l .masks) reply
   can-sum = record {
@@ -51,7 +52,7 @@ module _ (question : Bytes) (t : Sizes) (m : ℕ) (l : Lent) (table : List ℕ) 
   }
 
   answers-are : sums u ext (l .masks) ≡ bytesOf (flatten (openedBatching u l)) ++ bytesOf (flatten (openedAnswers u l))
-  answers-are = ap (λ (es : List (List ℕ)). sums u es (l .masks)) (rows-lent t (l .coefficients) (l .tails) (l .blinds) (l .masks) (l .nonces)) ∙ sums-opened u l
+  answers-are = ap (λ (es : List (List ℕ)). sums u es (l .masks)) (rows-lent t (l .coefficients) (l .tails) (l .blinds) (l .masks) (l .nonces) (l .salt)) ∙ sums-opened u l
 
   -- ---- the indices
 

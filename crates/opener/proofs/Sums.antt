@@ -1,6 +1,6 @@
 -- The first two parts of a reply: batching answers, evaluation answers.
 use mathlib.Core.Path.{_≡_, refl, sym, ap, ap₂, _∙_, subst}
-use mathlib.Core.List.{List, [], _++_, map, flatten}
+use mathlib.Core.List.{List, _++_, map, flatten}
 use Prim.Native.Nat.{ℕ, _+_, _*_, _≤_}
 use native.Mathlib.Nat.{zero-add}
 use native.Mathlib.Omega.{arith}
@@ -11,7 +11,8 @@ use Rattle.lists.specs.Pieces.{length-flatten}
 use Rattle.lists.specs.Range.{upFrom, length-upFrom}
 use Rattle.algebra.specs.Pairs.{pointsEnd}
 use Rattle.scheme.specs.Sizes.{Sizes, SizesInOrder, leaves, width}
-use Rattle.scheme.specs.Layers.{Lent, lentOf, extendedRows}
+use Rattle.scheme.specs.Layers.{Lent, extendedRows}
+use Rattle.lent.specs.Partly.{lentRows}
 use Rattle.scheme.specs.Question.{Question, challengesAt, pointsAt, questionAt}
 use Rattle.scheme.specs.Reply.{recordsAt, answersAt}
 use Rattle.scheme.specs.Open.{openedBatching, openedAnswers}
@@ -38,7 +39,7 @@ two-parts a b x y o o₁ o₂ e l h₁ h₂ =
 
 module _ (t : Sizes) (m : ℕ) (question : Bytes) (coefficients tails blinds masks : List ℕ) (o : Bytes) (can : CanSum question t m coefficients tails blinds masks o) where
   abbrev es : List (List ℕ)
-  es = extendedRows t (lentOf coefficients tails blinds [] [])
+  es = extendedRows t (lentRows coefficients tails blinds)
 
   g : SizesInOrder t
   g = can .combine .extend .laid .sizes

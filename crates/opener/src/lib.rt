@@ -1,16 +1,19 @@
 // Opening: the reply to a question, from what was committed to.
 ghost use mathlib.Core.Path.{_≡_};
+ghost use mathlib.Core.Bool.{_&&_};
 ghost use mathlib.Core.List.{[], _∷_, _++_, map, flatten};
 ghost use Prim.Native.Nat.{_+_, _*_, _≤_};
 ghost use lib.Dec.{eqb};
 ghost use lib.ListN.{length, take, drop};
 ghost use Rattle.lists.specs.Tests.{every, same};
 ghost use Rattle.scheme.specs.Layers.{lentOf, extendedRows};
+ghost use Rattle.lent.specs.Partly.{lentRows, unsalted};
 ghost use Rattle.scheme.specs.Commit.{lentOk, filledOk, lentElements, lastDigest, leafRecord};
 ghost use Rattle.scheme.specs.Sizes.{SizesInOrder, elements, mostPoints};
-ghost use Rattle.scheme.specs.Question.{headerLength, challengesAt, readQuestion, questionAt};
+ghost use Rattle.scheme.specs.Question.{headerLength, saltAt, challengesAt, readQuestion, questionAt};
 ghost use Rattle.scheme.specs.Reply.{recordLength, recordsAt, nodesAt, replyLength};
 ghost use Rattle.scheme.specs.Open.{replyOf, openVerdict, opening};
+ghost use Rattle.tree.specs.Leaf.{saltLength};
 ghost use Rattle.tree.specs.Sets.{missing};
 ghost use Rattle.tree.specs.Tree.{allParts, opened};
 ghost use Rattle.tree.specs.Clauses.{IndexSet};
@@ -39,6 +42,7 @@ use commitment::record_values;
 use commitment::records_at;
 use commitment::root_at;
 use commitment::row_width;
+use commitment::salt_at;
 use field::Element;
 use lent::filled_ok;
 use lent::lent_elements;
@@ -94,13 +98,14 @@ fn lengths_ok(
     masks: &[u32],
     table: &[u32],
     nonces: &[u8],
+    salt: &[u8],
     tree: &[u8],
     reply: &[u8],
 ) -> bool
     requires { ⌜ SizesInOrder (sizesIn s) × (m ≤ mostPoints) × IndexSet (s .h) (now indices) ⌝ }
-    ensures { λ r. ⌜ r ≡ every (lentOk (sizesIn s) (lentOf (now (coefficients .entry)) (now (tails .entry)) (now (blinds .entry)) (now (masks .entry)) (now (nonces .entry))) ∷ filledOk (sizesIn s) (now (table .entry)) (now (tree .entry)) ∷ eqb (length (now (reply .entry))) (nodesAt (sizesIn s) m + 32 * length (missing 2 (s .h) (now (indices .entry)))) ∷ []) ⌝ }
+    ensures { λ r. ⌜ r ≡ every (lentOk (sizesIn s) (lentOf (now (coefficients .entry)) (now (tails .entry)) (now (blinds .entry)) (now (masks .entry)) (now (nonces .entry)) (now (salt .entry))) ∷ filledOk (sizesIn s) (now (table .entry)) (now (tree .entry)) ∷ eqb (length (now (reply .entry))) (nodesAt (sizesIn s) m + 32 * length (missing 2 (s .h) (now (indices .entry)))) ∷ []) ⌝ }
 {
-    let lent = lent_ok(s, coefficients, tails, blinds, masks, nonces);
+    let lent = lent_ok(s, coefficients, tails, blinds, masks, nonces, salt);
     let filled = filled_ok(s, table, tree);
     let room = reply.len() == length_for(s, m as usize, indices);
     both(lent, both(filled, room))
@@ -114,7 +119,7 @@ pub fn words_ok(
     masks: &[u32],
     table: &[u32],
 ) -> bool
-    ensures { λ r. ⌜ r ≡ every (elements (now (table .entry)) ∷ lentElements (lentOf (now (coefficients .entry)) (now (tails .entry)) (now (blinds .entry)) (now (masks .entry)) [])) ⌝ }
+    ensures { λ r. ⌜ r ≡ every (elements (now (table .entry)) ∷ lentElements (lentOf (now (coefficients .entry)) (now (tails .entry)) (now (blinds .entry)) (now (masks .entry)) [] [])) ⌝ }
 {
     both(
         elements_ok(table),
@@ -122,15 +127,18 @@ pub fn words_ok(
     )
 }
 
-// Does the lent tree end with the question's root?
-pub fn root_ok(question: &[u8], tree: &[u8]) -> bool
+// Does the question name the root that the lent tree ends with, and the lent salt?
+pub fn names_ok(question: &[u8], salt: &[u8], tree: &[u8]) -> bool
     requires { ⌜ (challengesAt ≤ length (now question)) × (32 ≤ length (now tree)) ⌝ }
-    ensures { λ r. ⌜ r ≡ same (lastDigest (now (tree .entry))) (take 32 (drop headerLength (now (question .entry)))) ⌝ }
+    ensures { λ r. ⌜ r ≡ (same (lastDigest (now (tree .entry))) (take 32 (drop headerLength (now (question .entry)))) && same (now (salt .entry)) (take saltLength (drop saltAt (now (question .entry))))) ⌝ }
 {
     let last = tree.len() - 32;
     let from = root_at();
+    let middle = salt_at();
     let to = challenges_at();
-    same_bytes(&tree[last..], &question[from..to])
+    let root = same_bytes(&tree[last..], &question[from..middle]);
+    let known = same_bytes(salt, &question[middle..to]);
+    both(root, known)
 }
 
 // The tests after those of the question.
@@ -145,11 +153,12 @@ fn lent_verdict(
     masks: &[u32],
     table: &[u32],
     nonces: &[u8],
+    salt: &[u8],
     tree: &[u8],
     reply: &[u8],
 ) -> u32
     requires { ⌜ (questioned (now question) ≡ WellFormed s m) × (now indices ≡ readQuestion (now question) .indices) ⌝ }
-    ensures { λ r. ⌜ r ≡ openVerdict (now (question .entry)) (lentOf (now (coefficients .entry)) (now (tails .entry)) (now (blinds .entry)) (now (masks .entry)) (now (nonces .entry))) (now (table .entry)) (now (tree .entry)) (now (reply .entry)) ⌝ }
+    ensures { λ r. ⌜ r ≡ openVerdict (now (question .entry)) (lentOf (now (coefficients .entry)) (now (tails .entry)) (now (blinds .entry)) (now (masks .entry)) (now (nonces .entry)) (now (salt .entry))) (now (table .entry)) (now (tree .entry)) (now (reply .entry)) ⌝ }
 {
     if !lengths_ok(
         s,
@@ -161,6 +170,7 @@ fn lent_verdict(
         masks,
         table,
         nonces,
+        salt,
         tree,
         reply,
     ) {
@@ -169,7 +179,7 @@ fn lent_verdict(
     if !words_ok(coefficients, tails, blinds, masks, table) {
         return 3;
     }
-    if !root_ok(question, tree) {
+    if !names_ok(question, salt, tree) {
         return 8;
     }
     0
@@ -189,7 +199,7 @@ pub fn put_sums(
     reply: &mut [u8],
 )
     requires { ⌜ CanSum (now question) (sizesIn s) m (now coefficients) (now tails) (now blinds) (now masks) (now reply) ⌝ }
-    ensures { λ _. ⌜ now (reply .exit) ≡ sums (questionAt (sizesIn s) m (now (question .entry))) (extendedRows (sizesIn s) (lentOf (now (coefficients .entry)) (now (tails .entry)) (now (blinds .entry)) [] [])) (now (masks .entry)) ++ drop (recordsAt (sizesIn s) m) (now (reply .entry)) ⌝ }
+    ensures { λ _. ⌜ now (reply .exit) ≡ sums (questionAt (sizesIn s) m (now (question .entry))) (extendedRows (sizesIn s) (lentRows (now (coefficients .entry)) (now (tails .entry)) (now (blinds .entry)))) (now (masks .entry)) ++ drop (recordsAt (sizesIn s) m) (now (reply .entry)) ⌝ }
 {
     let n = row_width(s);
     let first = Element(leaf_count(s.h) as u32);
@@ -262,9 +272,9 @@ fn write_reply(
     tree: &[u8],
     reply: &mut [u8],
 ) -> usize
-    requires { ⌜ Ready (now question) (sizesIn s) m (lentOf (now coefficients) (now tails) (now blinds) (now masks) (now nonces)) (now table) (now tree) (now reply) × (now indices ≡ questionAt (sizesIn s) m (now question) .indices) ⌝ }
+    requires { ⌜ Ready (now question) (sizesIn s) m (unsalted (now coefficients) (now tails) (now blinds) (now masks) (now nonces)) (now table) (now tree) (now reply) × (now indices ≡ questionAt (sizesIn s) m (now question) .indices) ⌝ }
     ensures { λ r. ⌜ r ≡ replyLength (questionAt (sizesIn s) m (now (question .entry))) ⌝ }
-    ensures { λ r. ⌜ now (reply .exit) ≡ replyOf (questionAt (sizesIn s) m (now (question .entry))) (lentOf (now (coefficients .entry)) (now (tails .entry)) (now (blinds .entry)) (now (masks .entry)) (now (nonces .entry))) (now (table .entry)) (now (tree .entry)) ++ drop r (now (reply .entry)) ⌝ }
+    ensures { λ r. ⌜ now (reply .exit) ≡ replyOf (questionAt (sizesIn s) m (now (question .entry))) (unsalted (now (coefficients .entry)) (now (tails .entry)) (now (blinds .entry)) (now (masks .entry)) (now (nonces .entry))) (now (table .entry)) (now (tree .entry)) ++ drop r (now (reply .entry)) ⌝ }
 {
     put_sums(s, m, question, coefficients, tails, blinds, masks, reply);
     put_leaves(s, m, indices, table, nonces, tree, reply)
@@ -285,10 +295,11 @@ pub fn open(
     masks: &[u32],
     table: &[u32],
     nonces: &[u8],
+    salt: &[u8],
     tree: &[u8],
     reply: &mut [u8],
 ) -> Opened
-    ensures { λ r. ⌜ (numberOf r, lengthOf r, now (reply .exit)) ≡ opening (now (question .entry)) (lentOf (now (coefficients .entry)) (now (tails .entry)) (now (blinds .entry)) (now (masks .entry)) (now (nonces .entry))) (now (table .entry)) (now (tree .entry)) (now (reply .entry)) ⌝ }
+    ensures { λ r. ⌜ (numberOf r, lengthOf r, now (reply .exit)) ≡ opening (now (question .entry)) (lentOf (now (coefficients .entry)) (now (tails .entry)) (now (blinds .entry)) (now (masks .entry)) (now (nonces .entry)) (now (salt .entry))) (now (table .entry)) (now (tree .entry)) (now (reply .entry)) ⌝ }
 {
     match ask(question) {
         Questioned::WellFormed(s, m) => {
@@ -306,6 +317,7 @@ pub fn open(
                 masks,
                 table,
                 nonces,
+                salt,
                 tree,
                 &reply[..],
             );

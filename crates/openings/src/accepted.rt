@@ -10,12 +10,15 @@ use runs::inputs::BLINDS;
 use runs::inputs::COEFFICIENTS;
 use runs::inputs::MASKS;
 use runs::inputs::TAILS;
+use runs::inputs::ZERO_SALT;
 use runs::inputs::blank_nonces;
+use runs::inputs::blank_salt;
 use runs::inputs::blank_table;
 use runs::inputs::blank_tree;
 use runs::inputs::blank_words;
 use runs::inputs::filled_nonces;
 use runs::inputs::filled_reply;
+use runs::inputs::filled_salt;
 use runs::inputs::filled_table;
 use runs::inputs::filled_tree;
 use runs::inputs::filled_words;
@@ -29,6 +32,7 @@ use runs::questions::Asked;
 use runs::questions::VERSION;
 use runs::questions::filled_question;
 use runs::questions::put_question;
+use runs::questions::with_salt;
 use runs::sizes::Lengths;
 use runs::sizes::lengths_of;
 use runs::sizes::shape;
@@ -41,6 +45,7 @@ fn print_commit(
     blinds: &[u32],
     masks: &[u32],
     nonces: &[u8],
+    salt: &[u8],
     table: &mut [u32],
     tree: &mut [u8],
 ) {
@@ -52,6 +57,7 @@ fn print_commit(
         blinds,
         masks,
         nonces,
+        salt,
         table,
         tree,
     );
@@ -99,6 +105,7 @@ fn print_run(
     blinds: &[u32],
     masks: &[u32],
     nonces: &[u8],
+    salt: &[u8],
     table: &mut [u32],
     tree: &mut [u8],
     reply: &mut [u8],
@@ -113,6 +120,7 @@ fn print_run(
         blinds,
         masks,
         nonces,
+        salt,
         table,
         tree,
     );
@@ -127,13 +135,14 @@ fn print_run(
         masks,
         table,
         nonces,
+        salt,
         tree,
         reply,
     );
     print_opened(answer, reply);
 }
 
-// Case P: all sizes 1.
+// Case P: all sizes 1, nonces and salt zeros.
 pub fn print_p() {
     let mut coefficients = blank_words();
     let mut tails = blank_words();
@@ -144,12 +153,14 @@ pub fn print_p() {
     masks[0] = 7;
     masks[1] = 2;
     let nonces = blank_nonces();
+    let salt = blank_salt();
     let mut table = blank_table();
     let mut tree = blank_tree();
     let mut reply = io::large_buffer();
     let a = Asked {
         version: VERSION,
         m: 1,
+        salt: ZERO_SALT,
         challenges: [10, 0, 0, 0],
         points: [6, 0, 0, 0, 0, 0, 0, 0],
         first: 1,
@@ -163,32 +174,45 @@ pub fn print_p() {
         &blinds,
         &masks,
         &nonces,
+        &salt,
         &mut table,
         &mut tree,
         &mut reply,
     );
 }
 
-// All buffers are filled by the rules before, those that are written too. The indices are first, first + step, first + 2 step, ..
-pub fn print_filled(s: Shape, m: u32, first: usize, step: usize) {
+// All buffers are filled by the rules before, those that are written too. The salt is the question's.
+fn print_asked(s: Shape, a: Asked) {
     let coefficients = filled_words(COEFFICIENTS);
     let tails = filled_words(TAILS);
     let blinds = filled_words(BLINDS);
     let masks = filled_words(MASKS);
     let nonces = filled_nonces();
+    let salt = filled_salt(a.salt);
     let mut table = filled_table();
     let mut tree = filled_tree();
     let mut reply = filled_reply();
     print_run(
         s,
-        filled_question(m, first, step),
+        a,
         &coefficients,
         &tails,
         &blinds,
         &masks,
         &nonces,
+        &salt,
         &mut table,
         &mut tree,
         &mut reply,
     );
+}
+
+// The indices are first, first + step, first + 2 step, ..
+pub fn print_filled(s: Shape, m: u32, first: usize, step: usize) {
+    print_asked(s, filled_question(m, first, step));
+}
+
+// The same with the salt of this tag.
+pub fn print_salted(s: Shape, m: u32, first: usize, step: usize, tag: usize) {
+    print_asked(s, with_salt(filled_question(m, first, step), tag));
 }

@@ -34,6 +34,7 @@ pub fn open_front(
     masks: &[u32],
     table: &[u32],
     nonces: &[u8],
+    salt: &[u8],
     tree: &[u8],
     reply: &mut [u8],
 ) -> Opened {
@@ -45,6 +46,7 @@ pub fn open_front(
         front_words(masks, n.masks),
         front_words(table, n.table),
         front_bytes(nonces, n.nonces),
+        front_bytes(salt, n.salt),
         front_bytes(tree, n.tree),
         front_bytes_mut(reply, reply_length),
     )

@@ -1,4 +1,4 @@
-// Commits, asks for a reply's length and opens at several sizes and prints what comes out, then refusals of every number: without blinding rows, then with them.
+// Commits, asks for a reply's length and opens at several sizes and prints what comes out, then refusals of every number: without blinding rows, then with them, then those about the salt.
 // The file stdout is made by tools/stored_openings.py from a second implementation.
 mod accepted; // accepted.rt: runs that are accepted
 mod calls; // calls.rt: asking for a reply's length, and opening with the fronts of buffers
@@ -7,10 +7,14 @@ mod refused_opens; // refused_opens.rt
 
 use accepted::print_filled;
 use accepted::print_p;
+use accepted::print_salted;
 use refused_commits::print_refused_blinded_commits;
 use refused_commits::print_refused_commits;
+use refused_commits::print_refused_salted_commits;
 use refused_opens::print_refused_blinded_opens;
 use refused_opens::print_refused_opens;
+use refused_opens::print_refused_salted_opens;
+use runs::inputs::OTHER_SALT;
 use runs::sizes::blinded;
 use runs::sizes::shape;
 use runs::small::small;
@@ -42,7 +46,16 @@ fn print_blinded() {
     print_refused_blinded_opens();
 }
 
+// What has been committed above, under another salt: tables and answers stay, roots do not.
+fn print_about_salt() {
+    print_salted(small(), 1, 1, 2, OTHER_SALT);
+    print_salted(small_blinded(), 1, 1, 2, OTHER_SALT);
+    print_refused_salted_commits();
+    print_refused_salted_opens();
+}
+
 fn main() {
     print_plain();
     print_blinded();
+    print_about_salt();
 }

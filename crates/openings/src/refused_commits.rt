@@ -1,11 +1,13 @@
 // Commits that are refused for sizes, lengths and words, in the order of the committer's tests: 1 2 3.
 use codec::put_bytes;
+use commitment::SALT_LENGTH;
 use commitment::Shape;
 use runs::inputs::BLINDS;
 use runs::inputs::COEFFICIENTS;
 use runs::inputs::LARGEST;
 use runs::inputs::MASKS;
 use runs::inputs::NONCES;
+use runs::inputs::SALT;
 use runs::inputs::TABLE;
 use runs::inputs::TAILS;
 use runs::inputs::TREE;
@@ -18,6 +20,7 @@ use runs::sizes::Lengths;
 use runs::sizes::blinded;
 use runs::sizes::largest;
 use runs::sizes::lengths_of;
+use runs::sizes::salted;
 use runs::sizes::shape;
 use runs::sizes::shorter;
 use runs::small::NONE;
@@ -41,7 +44,7 @@ fn print_attempt(s: Shape, n: Lengths, spoiled: usize) {
     let mut table = filled_words(TABLE);
     let mut tree = filled_bytes(TREE);
     let before = written_digest(&table, &tree);
-    let v = commit_small(s, n, spoiled, &mut table, &mut tree);
+    let v = commit_small(s, n, SALT, spoiled, &mut table, &mut tree);
     print_sizes(s);
     print_number(b" commit ", v as u64);
     print_same(before, written_digest(&table, &tree));
@@ -60,6 +63,11 @@ fn with_blind_count(s: Shape, count: usize) {
     let mut n = lengths_of(s, 1);
     n.blinds = count;
     print_attempt(s, n, NONE);
+}
+
+// With the words that the small sizes have, and so many bytes of salt.
+fn with_salt_length(s: Shape, length: usize, spoiled: usize) {
+    print_attempt(s, salted(lengths_of(small(), 1), length), spoiled);
 }
 
 fn with_spoiled(s: Shape, slice: usize) {
@@ -115,4 +123,15 @@ pub fn print_refused_blinded_commits() {
     with_spoiled(s, MASKS);
     // Nothing wrong: accepted, and changed.
     with_spoiled(s, NONE);
+}
+
+pub fn print_refused_salted_commits() {
+    let s = small();
+    with_salt_length(s, 0, NONE);
+    with_shorter(s, SALT);
+    with_salt_length(s, SALT_LENGTH + 1, NONE);
+    with_salt_length(s, SALT_LENGTH - 1, COEFFICIENTS);
+    with_salt_length(shape(0, 2, 1, 2, 2, 2), SALT_LENGTH - 1, NONE);
+    // Nothing wrong: accepted, and changed.
+    with_salt_length(s, SALT_LENGTH, NONE);
 }

@@ -1,8 +1,10 @@
 // Openings that are refused, in the order of the opener's tests: 6 5 1 6 3 4 2 3 8. The reply's length is asked for before each.
 use super::calls::open_front;
 use super::calls::print_reply_length;
+use commitment::SALT_LENGTH;
 use commitment::Shape;
 use commitment::root_at;
+use commitment::salt_at;
 use opener::Opened;
 use runs::calls::front_bytes;
 use runs::inputs::BLINDS;
@@ -12,10 +14,12 @@ use runs::inputs::MASKS;
 use runs::inputs::NONCES;
 use runs::inputs::Q;
 use runs::inputs::REPLY;
+use runs::inputs::SALT;
 use runs::inputs::TABLE;
 use runs::inputs::TAILS;
 use runs::inputs::TREE;
 use runs::inputs::filled_bytes;
+use runs::inputs::filled_salt;
 use runs::inputs::filled_words;
 use runs::printing::print_number;
 use runs::questions::Asked;
@@ -25,6 +29,7 @@ use runs::sizes::Lengths;
 use runs::sizes::blinded;
 use runs::sizes::largest;
 use runs::sizes::lengths_of;
+use runs::sizes::salted;
 use runs::sizes::shape;
 use runs::sizes::shorter;
 use runs::small::NONE;
@@ -45,7 +50,15 @@ const REPLY_BOUND: usize = 272;
 // With a blinding row: two records of 5 words.
 const BLINDED_LENGTH: usize = 216;
 
-// An opening with something wrong: the question has other sizes than the commitment, a byte of the question or the tree is raised by 1, the last word of one slice is made q.
+// The question at the small sizes; one of version 2, which had no salt, was shorter.
+const QUESTION_LENGTH: usize = 95;
+
+const LENGTH_WITHOUT_SALT: usize = 63;
+
+// The tree's last byte, and so the root's.
+const ROOT_END: usize = 223;
+
+// An opening with something wrong: the question has other sizes than the commitment, a byte of the question, the tree or the lent salt is raised by 1, the last word of one slice is made q.
 struct Attempt {
     sizes: Shape,
     lengths: Lengths,
@@ -54,6 +67,7 @@ struct Attempt {
     asked: Asked,
     question_at: usize,
     tree_at: usize,
+    lent_salt_at: usize,
     spoiled: usize,
 }
 
@@ -70,6 +84,7 @@ fn sound_at(s: Shape, reply_length: usize) -> Attempt {
         asked: sound_question(),
         question_at: NOWHERE,
         tree_at: NOWHERE,
+        lent_salt_at: NOWHERE,
         spoiled: NONE,
     }
 }
@@ -97,6 +112,8 @@ fn print_open(a: Attempt, question: &[u8], table: &[u32], tree: &[u8]) {
     let blinds = lent_words(BLINDS, n.blinds, a.spoiled);
     let masks = lent_words(MASKS, n.masks, a.spoiled);
     let nonces = filled_bytes(NONCES);
+    let mut salt = filled_salt(SALT);
+    raise(&mut salt, a.lent_salt_at);
     let mut reply = filled_bytes(REPLY);
     let before = sponge::digest(&reply);
     print_reply_length(front_bytes(question, n.question));
@@ -110,6 +127,7 @@ fn print_open(a: Attempt, question: &[u8], table: &[u32], tree: &[u8]) {
         &masks,
         table,
         &nonces,
+        &salt,
         tree,
         &mut reply,
     );
@@ -124,7 +142,7 @@ fn print_attempt(a: Attempt) {
     let mut table = filled_words(TABLE);
     let mut tree = filled_bytes(TREE);
     let mut question = io::buffer();
-    commit_small(s, n, NONE, &mut table, &mut tree);
+    commit_small(s, n, SALT, NONE, &mut table, &mut tree);
     put_question(
         a.asked_sizes,
         a.asked,
@@ -211,6 +229,20 @@ fn with_spoiled(a: Attempt, slice: usize) {
     print_attempt(b);
 }
 
+fn with_salt_length(a: Attempt, length: usize) {
+    let mut b = a;
+    b.lengths = salted(a.lengths, length);
+    print_attempt(b);
+}
+
+// With byte `asked` of the question and byte `lent` of the lent salt raised.
+fn with_salt_raised(a: Attempt, asked: usize, lent: usize) {
+    let mut b = a;
+    b.question_at = asked;
+    b.lent_salt_at = lent;
+    print_attempt(b);
+}
+
 fn with_tree_raised(at: usize) {
     let mut a = sound();
     a.tree_at = at;
@@ -226,7 +258,7 @@ pub fn print_refused_opens() {
     with_question_raised(8);
     with_question_raised(11);
     with_question_raised(13);
-    with_question_cut(62);
+    with_question_cut(QUESTION_LENGTH - 1);
     with_challenges([Q, 0, 0, 0]);
     with_points([LARGEST, 0, 0, 0, 0, 0, 0, 0]);
     with_indices(1, 0);
@@ -246,7 +278,7 @@ pub fn print_refused_opens() {
     with_spoiled(s, MASKS);
     with_spoiled(s, TABLE);
     with_question_raised(root_at());
-    with_tree_raised(223);
+    with_tree_raised(ROOT_END);
     // Nothing wrong: accepted, and changed.
     print_attempt(s);
 }
@@ -279,5 +311,37 @@ pub fn print_refused_blinded_opens() {
     with_spoiled(s, MASKS);
     with_spoiled(s, TABLE);
     // Nothing wrong: accepted, and changed.
+    print_attempt(s);
+}
+
+pub fn print_refused_salted_opens() {
+    let s = sound();
+    let first = salt_at();
+    let end = SALT_LENGTH - 1;
+    let last = first + end;
+    with_version(1);
+    with_version(2);
+    with_version(4);
+    with_question_cut(LENGTH_WITHOUT_SALT);
+    with_salt_length(s, 0);
+    with_shorter(s, SALT);
+    with_salt_length(s, SALT_LENGTH + 1);
+    // Another salt asked for, and a word that is no element.
+    let mut masks = s;
+    masks.question_at = first;
+    with_spoiled(masks, MASKS);
+    // Another salt asked for, and another one lent, at the first byte and at the last.
+    with_salt_raised(s, first, NOWHERE);
+    with_salt_raised(s, NOWHERE, 0);
+    with_salt_raised(s, last, NOWHERE);
+    with_salt_raised(s, NOWHERE, end);
+    // Another root, too.
+    let mut both = s;
+    both.tree_at = ROOT_END;
+    with_salt_raised(both, first, NOWHERE);
+    // Asked and lent are the same again: accepted, and changed. That the tree has another salt is not looked at.
+    with_salt_raised(s, first, 0);
+    with_salt_raised(s, last, end);
+    // Nothing wrong.
     print_attempt(s);
 }

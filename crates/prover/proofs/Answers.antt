@@ -9,7 +9,8 @@ use borrow.Rule.Slice.PartMut.{putMid}
 use Rattle.lists.specs.Bytes.{Bytes}
 use Rattle.lists.specs.Parts.{put-tail, mid-tail}
 use Rattle.scheme.specs.Sizes.{Sizes, SizesInOrder}
-use Rattle.scheme.specs.Layers.{Lent, lentOf, extendedRows}
+use Rattle.scheme.specs.Layers.{Lent, extendedRows}
+use Rattle.lent.specs.Partly.{lentRows}
 use Rattle.scheme.specs.Question.{questionAt, questionLength, headerSizes, headerPoints, mostQuestion}
 use Rattle.scheme.specs.Reply.{recordsAt}
 use Rattle.scheme.proofs.Lent.{LentFacts, lent-facts}
@@ -58,12 +59,12 @@ module _ (b : Bytes) (s : Sizes) (m : ℕ) (l : Lent) (can : CanPut b s m l) whe
   }
 
   abbrev ext : List (List ℕ)
-  ext = extendedRows s (lentOf (l .coefficients) (l .tails) (l .blinds) [] [])
+  ext = extendedRows s (lentRows (l .coefficients) (l .tails) (l .blinds))
 
   -- the sums take nothing but sizes, challenges and points from the question
   sums-drawn : (is : List ℕ) → sums (questionAt (headerSizes b) (headerPoints b) (drawnBytes b is)) ext (l .masks) ≡ sums (drawn b []) ext (l .masks)
   unfolding sums
-  sums-drawn is = ap₂ (λ (γ zs : List ℕ). sums (record { sizes = headerSizes b; m = headerPoints b; root = []; challenges = γ; evaluationPoints = zs; indices = [] }) ext (l .masks))
+  sums-drawn is = ap₂ (λ (γ zs : List ℕ). sums (record { sizes = headerSizes b; m = headerPoints b; root = []; salt = []; challenges = γ; evaluationPoints = zs; indices = [] }) ext (l .masks))
       (challenges-back b 0 (facts .asked) is) (points-back b 0 (facts .asked) is)
 
   pub answers-put : (is : List ℕ) (question o o₁ : Bytes) → question ≡ drawnBytes b is → o₁ ≡ sums (questionAt s m question) ext (l .masks) ++ drop (recordsAt s m) o
@@ -75,7 +76,7 @@ module _ (b : Bytes) (s : Sizes) (m : ℕ) (l : Lent) (can : CanPut b s m l) whe
       ∙ ap (λ (x : Bytes). sums (questionAt (headerSizes b) (headerPoints b) x) ext (l .masks)) e in
       h ∙ ap (λ (t : Bytes). t ++ drop (recordsAt s m) o)
       (same ∙ sums-drawn is
-      ∙ ap (λ (es : List (List ℕ)). sums (drawn b []) es (l .masks)) (rows-lent s (l .coefficients) (l .tails) (l .blinds) (l .masks) (l .nonces) ∙ ap (λ (t : Sizes). extendedRows t l) (sym (can .offline .sizes)))
+      ∙ ap (λ (es : List (List ℕ)). sums (drawn b []) es (l .masks)) (rows-lent s (l .coefficients) (l .tails) (l .blinds) (l .masks) (l .nonces) (l .salt) ∙ ap (λ (t : Sizes). extendedRows t l) (sym (can .offline .sizes)))
       ∙ sums-opened (drawn b []) l)
 
   -- ---- the string: prefix and question, and the answers through the part that begins after them

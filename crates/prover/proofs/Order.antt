@@ -6,13 +6,13 @@ use Prim.Native.Nat.{ℕ, _+_}
 use lib.Dec.{eqb}
 use lib.ListN.{length}
 use Rattle.lists.specs.Bytes.{Bytes}
-use Rattle.lists.specs.Tests.{Test, verdictOf, verdict-hit, verdict-miss, every, same}
+use Rattle.lists.specs.Tests.{Test, verdictOf, verdict-hit, verdict-miss, every}
 use Rattle.scheme.specs.Sizes.{Sizes}
 use Rattle.scheme.specs.Layers.{Lent}
 use Rattle.scheme.specs.Reply.{replyBound}
-use Rattle.scheme.specs.Commit.{lentOk, filledOk, lastDigest}
-use Rattle.scheme.specs.Open.{wordsOk}
-use Rattle.fiat_shamir.specs.Offline.{offlineRoot}
+use Rattle.scheme.specs.Commit.{lentOk, filledOk}
+use Rattle.scheme.specs.Open.{wordsOk, namesOk}
+use Rattle.fiat_shamir.specs.Offline.{offlineRoot, offlineSalt}
 use Rattle.fiat_shamir.specs.Prove.{counterLength}
 use Rattle.prover.specs.Ready.{lentTests}
 
@@ -20,14 +20,14 @@ module _ (b : Bytes) (s : Sizes) (m : ℕ) (l : Lent) (table : List ℕ) (nodes 
   abbrev measured : Bool
   measured = every (lentOk s l ∷ filledOk s table nodes ∷ eqb (length buffer) (counterLength + replyBound s m) ∷ [])
 
-  abbrev rooted : Bool
-  rooted = same (lastDigest nodes) (offlineRoot b)
+  abbrev named : Bool
+  named = namesOk (offlineRoot b) (offlineSalt b) l nodes
 
   abbrev tests : List Test
   tests = lentTests b s m l table nodes buffer
 
   abbrev after3 : List Test
-  after3 = (8, not rooted) ∷ []
+  after3 = (8, not named) ∷ []
 
   abbrev after2 : List Test
   after2 = (3, not (wordsOk l table)) ∷ after3
@@ -44,9 +44,9 @@ module _ (b : Bytes) (s : Sizes) (m : ℕ) (l : Lent) (table : List ℕ) (nodes 
   passes-3 : measured ≡ true → wordsOk l table ≡ true → verdictOf tests ≡ verdictOf after3
   passes-3 e f = passes-2 e ∙ verdict-miss 3 (not (wordsOk l table)) after3 (ap not f)
 
-  pub says-8 : measured ≡ true → wordsOk l table ≡ true → rooted ≡ false → 8 ≡ verdictOf tests
-  says-8 e f g = sym (passes-3 e f ∙ verdict-hit 8 (not rooted) [] (ap not g))
+  pub says-8 : measured ≡ true → wordsOk l table ≡ true → named ≡ false → 8 ≡ verdictOf tests
+  says-8 e f g = sym (passes-3 e f ∙ verdict-hit 8 (not named) [] (ap not g))
 
-  pub says-0 : measured ≡ true → wordsOk l table ≡ true → rooted ≡ true → 0 ≡ verdictOf tests
+  pub says-0 : measured ≡ true → wordsOk l table ≡ true → named ≡ true → 0 ≡ verdictOf tests
   unfolding verdictOf
-  says-0 e f g = sym (passes-3 e f ∙ verdict-miss 8 (not rooted) [] (ap not g))
+  says-0 e f g = sym (passes-3 e f ∙ verdict-miss 8 (not named) [] (ap not g))

@@ -20,7 +20,7 @@ use Rattle.lists.specs.Choice.{pick}
 use Rattle.lists.specs.Least.{least}
 use Rattle.lists.specs.Tests.{Test, verdictOf, passed, every-true, true-every, Numbered, each, verdict-go, verdict-stop}
 use Rattle.scheme.specs.Sizes.{Sizes, sizesOk}
-use Rattle.scheme.specs.Layers.{Lent}
+use Rattle.scheme.specs.Layers.{Lent, extended}
 use Rattle.scheme.specs.Question.{headerSizes, headerPoints}
 use Rattle.scheme.specs.Reply.{recordsAt}
 use Rattle.scheme.specs.Open.{replyOf, openedAnswers, openedBatching}
@@ -29,6 +29,7 @@ use Rattle.fiat_shamir.specs.Offline.{mostBits, offlineTests, offlineVerdict}
 use Rattle.fiat_shamir.specs.Draw.{drawn as drawnQ, drawString, leafDraw, ranksAt, drawnIndices, qualifies, mostString}
 use Rattle.fiat_shamir.specs.Prove.{provedAnswers, counterBytes, counterDraw, counterOk, proofLength, proofOf, proveVerdict, proving, proveTests}
 use Rattle.fiat_shamir.proofs.Proving.{prove-asked, proving-refused, proving-done, answers-sized, unqualified}
+use Rattle.lent.proofs.Unsalted.{others, well-unsalted}
 use Rattle.counter_search.specs.Tried.{tried}
 use Rattle.counter_search.proofs.Tried.{tried-is}
 use Rattle.offline_question.specs.Offline.{Offline}
@@ -149,7 +150,7 @@ module _ (b : Bytes) (κ limit : ℕ) (l : Lent) (table : List ℕ) (nodes buffe
       lent-numbers : Numbered lent
       lent-numbers = omega arith
 
-      pub lent-ready : κ ≤ mostBits → Ready b s m κ l table nodes buffer
+      pub lent-ready : κ ≤ mostBits → Ready b s m κ (others l) table nodes buffer
       lent-ready few =
           let ok : sizesOk s ≡ true = subst (λ (t : Sizes). sizesOk t ≡ true) (offline .sizes) (offline-facts b s m offline .asked .sizes-right) in
           let t = passed lent lent-numbers z in
@@ -157,7 +158,7 @@ module _ (b : Bytes) (κ limit : ℕ) (l : Lent) (table : List ℕ) (nodes buffe
           record {
             offline = offline;
             few-bits = few;
-            lent = record { sizes = ok; lengths = lengths .0; elements = true-every (lentElements l) (every-true _ (not-false _ (t .1 .0)) .1) };
+            lent = well-unsalted l s (record { sizes = ok; lengths = lengths .0; elements = true-every (lentElements l) (every-true _ (not-false _ (t .1 .0)) .1) });
             filled = lengths .1 .0;
             room = eqb-true _ _ (lengths .1 .1 .0);
           }
@@ -169,9 +170,14 @@ module _ (b : Bytes) (κ limit : ℕ) (l : Lent) (table : List ℕ) (nodes buffe
       unfolding verdictOf
       verdict-is = tests-are ∙ verdict-go lent last lent-numbers z ∙ ap (λ (t : Bool). pick t 11 0) (unqualified limit (counterOk b κ l))
 
-      pub all-done : searched b κ limit l table nodes buffer ≡ proving b κ limit l table nodes buffer
+      -- no proof depends on the salt that is lent
+      search-unsalted : searched b κ limit (others l) table nodes buffer ≡ searched b κ limit l table nodes buffer
+      unfolding searched provedAnswers proofOf replyOf extended
+      search-unsalted = refl
+
+      pub all-done : searched b κ limit (others l) table nodes buffer ≡ proving b κ limit l table nodes buffer
       unfolding searched
-      all-done = go (eqb k limit) refl
+      all-done = search-unsalted ∙ go (eqb k limit) refl
         where
           go : (t : Bool) → eqb k limit ≡ t
               → pick t (11, 0, buffer) (0, proofLength b l k, proofOf b l table nodes k ++ drop (proofLength b l k) buffer) ≡ proving b κ limit l table nodes buffer

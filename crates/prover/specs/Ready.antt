@@ -8,14 +8,14 @@ use lib.ListN.{length, drop}
 use Rattle.lists.specs.Choice.{pick}
 use Rattle.lists.specs.Bytes.{Bytes}
 use Rattle.lists.specs.Least.{least}
-use Rattle.lists.specs.Tests.{Test, every, same}
+use Rattle.lists.specs.Tests.{Test, every}
 use Rattle.scheme.specs.Sizes.{Sizes}
 use Rattle.scheme.specs.Layers.{Lent}
 use Rattle.scheme.specs.Reply.{replyBound}
-use Rattle.scheme.specs.Commit.{lentOk, filledOk, lastDigest}
-use Rattle.scheme.specs.Open.{wordsOk}
+use Rattle.scheme.specs.Commit.{lentOk, filledOk}
+use Rattle.scheme.specs.Open.{wordsOk, namesOk}
 use Rattle.scheme.specs.Honest.{WellLent}
-use Rattle.fiat_shamir.specs.Offline.{offlineRoot, mostBits}
+use Rattle.fiat_shamir.specs.Offline.{offlineRoot, offlineSalt, mostBits}
 use Rattle.fiat_shamir.specs.Prove.{counterLength, counterOk, proofLength, proofOf}
 use Rattle.offline_question.specs.Offline.{Offline}
 
@@ -24,7 +24,7 @@ abbrev pub lentTests : Bytes → Sizes → ℕ → Lent → List ℕ → Bytes �
 lentTests b s m l table nodes buffer =
     (2, not (every (lentOk s l ∷ filledOk s table nodes ∷ eqb (length buffer) (counterLength + replyBound s m) ∷ [])))
     ∷ (3, not (wordsOk l table))
-    ∷ (8, not (same (lastDigest nodes) (offlineRoot b)))
+    ∷ (8, not (namesOk (offlineRoot b) (offlineSalt b) l nodes))
     ∷ []
 
 pub record Ready (b : Bytes) (s : Sizes) (m κ : ℕ) (l : Lent) (table : List ℕ) (nodes buffer : Bytes) : Type 0 where

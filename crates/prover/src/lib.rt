@@ -6,6 +6,7 @@ ghost use lib.Dec.{eqb};
 ghost use lib.ListN.{length, drop};
 ghost use Rattle.lists.specs.Tests.{verdictOf, every};
 ghost use Rattle.scheme.specs.Layers.{lentOf};
+ghost use Rattle.lent.specs.Partly.{unsalted};
 ghost use Rattle.scheme.specs.Commit.{lentOk, filledOk};
 ghost use Rattle.scheme.specs.Sizes.{SizesInOrder, mostPoints};
 ghost use Rattle.scheme.specs.Reply.{recordsAt, replyBound};
@@ -34,9 +35,9 @@ use leaf_draw::draw_leaves;
 use lent::filled_ok;
 use lent::lent_ok;
 use offline_question::ask_offline;
+use opener::names_ok;
 use opener::put_leaves;
 use opener::put_sums;
-use opener::root_ok;
 use opener::words_ok;
 use question::Questioned;
 use question::blank_indices;
@@ -67,13 +68,14 @@ fn lengths_ok(
     masks: &[u32],
     table: &[u32],
     nonces: &[u8],
+    salt: &[u8],
     tree: &[u8],
     proof: &[u8],
 ) -> bool
     requires { ⌜ SizesInOrder (sizesIn s) × (m ≤ mostPoints) ⌝ }
-    ensures { λ r. ⌜ r ≡ every (lentOk (sizesIn s) (lentOf (now (coefficients .entry)) (now (tails .entry)) (now (blinds .entry)) (now (masks .entry)) (now (nonces .entry))) ∷ filledOk (sizesIn s) (now (table .entry)) (now (tree .entry)) ∷ eqb (length (now (proof .entry))) (counterLength + replyBound (sizesIn s) m) ∷ []) ⌝ }
+    ensures { λ r. ⌜ r ≡ every (lentOk (sizesIn s) (lentOf (now (coefficients .entry)) (now (tails .entry)) (now (blinds .entry)) (now (masks .entry)) (now (nonces .entry)) (now (salt .entry))) ∷ filledOk (sizesIn s) (now (table .entry)) (now (tree .entry)) ∷ eqb (length (now (proof .entry))) (counterLength + replyBound (sizesIn s) m) ∷ []) ⌝ }
 {
-    let lent = lent_ok(s, coefficients, tails, blinds, masks, nonces);
+    let lent = lent_ok(s, coefficients, tails, blinds, masks, nonces, salt);
     let filled = filled_ok(s, table, tree);
     let room = proof.len() == proof_bound(s, m as usize);
     both(lent, both(filled, room))
@@ -90,11 +92,12 @@ fn lent_verdict(
     masks: &[u32],
     table: &[u32],
     nonces: &[u8],
+    salt: &[u8],
     tree: &[u8],
     proof: &[u8],
 ) -> u32
     requires { ⌜ Offline (now question) (sizesIn s) m ⌝ }
-    ensures { λ r. ⌜ r ≡ verdictOf (lentTests (now (question .entry)) (sizesIn s) m (lentOf (now (coefficients .entry)) (now (tails .entry)) (now (blinds .entry)) (now (masks .entry)) (now (nonces .entry))) (now (table .entry)) (now (tree .entry)) (now (proof .entry))) ⌝ }
+    ensures { λ r. ⌜ r ≡ verdictOf (lentTests (now (question .entry)) (sizesIn s) m (lentOf (now (coefficients .entry)) (now (tails .entry)) (now (blinds .entry)) (now (masks .entry)) (now (nonces .entry)) (now (salt .entry))) (now (table .entry)) (now (tree .entry)) (now (proof .entry))) ⌝ }
 {
     if !lengths_ok(
         s,
@@ -105,6 +108,7 @@ fn lent_verdict(
         masks,
         table,
         nonces,
+        salt,
         tree,
         proof,
     ) {
@@ -113,7 +117,7 @@ fn lent_verdict(
     if !words_ok(coefficients, tails, blinds, masks, table) {
         return 3;
     }
-    if !root_ok(question, tree) {
+    if !names_ok(question, salt, tree) {
         return 8;
     }
     0
@@ -138,8 +142,8 @@ fn put_answers(
     nonces: &[u8],
     out: &mut [u8],
 )
-    requires { ⌜ CanPut (now question) (sizesIn s) m (lentOf (now coefficients) (now tails) (now blinds) (now masks) (now nonces)) × (recordsAt (sizesIn s) m ≤ length (now out)) ⌝ }
-    ensures { λ _. ⌜ now (out .exit) ≡ provedAnswers (now (question .entry)) (lentOf (now (coefficients .entry)) (now (tails .entry)) (now (blinds .entry)) (now (masks .entry)) (now (nonces .entry))) ++ drop (recordsAt (sizesIn s) m) (now (out .entry)) ⌝ }
+    requires { ⌜ CanPut (now question) (sizesIn s) m (unsalted (now coefficients) (now tails) (now blinds) (now masks) (now nonces)) × (recordsAt (sizesIn s) m ≤ length (now out)) ⌝ }
+    ensures { λ _. ⌜ now (out .exit) ≡ provedAnswers (now (question .entry)) (unsalted (now (coefficients .entry)) (now (tails .entry)) (now (blinds .entry)) (now (masks .entry)) (now (nonces .entry))) ++ drop (recordsAt (sizesIn s) m) (now (out .entry)) ⌝ }
 {
     let l = s.l as usize;
     let n = question_length(s, m as usize);
@@ -161,9 +165,9 @@ fn put_string(
     nonces: &[u8],
     string: &mut [u8],
 ) -> usize
-    requires { ⌜ CanPut (now question) (sizesIn s) m (lentOf (now coefficients) (now tails) (now blinds) (now masks) (now nonces)) × (mostString ≤ length (now string)) ⌝ }
+    requires { ⌜ CanPut (now question) (sizesIn s) m (unsalted (now coefficients) (now tails) (now blinds) (now masks) (now nonces)) × (mostString ≤ length (now string)) ⌝ }
     ensures { λ r. ⌜ r ≡ suc (length (now (question .entry))) + recordsAt (sizesIn s) m ⌝ }
-    ensures { λ r. ⌜ now (string .exit) ≡ (3 ∷ (now (question .entry) ++ provedAnswers (now (question .entry)) (lentOf (now (coefficients .entry)) (now (tails .entry)) (now (blinds .entry)) (now (masks .entry)) (now (nonces .entry))))) ++ drop r (now (string .entry)) ⌝ }
+    ensures { λ r. ⌜ now (string .exit) ≡ (3 ∷ (now (question .entry) ++ provedAnswers (now (question .entry)) (unsalted (now (coefficients .entry)) (now (tails .entry)) (now (blinds .entry)) (now (masks .entry)) (now (nonces .entry))))) ++ drop r (now (string .entry)) ⌝ }
 {
     put_question(question, string);
     let at = question.len() + 1;
@@ -259,8 +263,8 @@ fn prove_lent(
     tree: &[u8],
     proof: &mut [u8],
 ) -> Proved
-    requires { ⌜ Ready (now question) (sizesIn s) m kappa (lentOf (now coefficients) (now tails) (now blinds) (now masks) (now nonces)) (now table) (now tree) (now proof) ⌝ }
-    ensures { λ r. ⌜ (numberOf r, lengthOf r, now (proof .exit)) ≡ searched (now (question .entry)) kappa limit (lentOf (now (coefficients .entry)) (now (tails .entry)) (now (blinds .entry)) (now (masks .entry)) (now (nonces .entry))) (now (table .entry)) (now (tree .entry)) (now (proof .entry)) ⌝ }
+    requires { ⌜ Ready (now question) (sizesIn s) m kappa (unsalted (now coefficients) (now tails) (now blinds) (now masks) (now nonces)) (now table) (now tree) (now proof) ⌝ }
+    ensures { λ r. ⌜ (numberOf r, lengthOf r, now (proof .exit)) ≡ searched (now (question .entry)) kappa limit (unsalted (now (coefficients .entry)) (now (tails .entry)) (now (blinds .entry)) (now (masks .entry)) (now (nonces .entry))) (now (table .entry)) (now (tree .entry)) (now (proof .entry)) ⌝ }
 {
     let mut string = blank_string();
     let n = put_string(
@@ -306,10 +310,11 @@ pub fn prove(
     masks: &[u32],
     table: &[u32],
     nonces: &[u8],
+    salt: &[u8],
     tree: &[u8],
     proof: &mut [u8],
 ) -> Proved
-    ensures { λ r. ⌜ (numberOf r, lengthOf r, now (proof .exit)) ≡ proving (now (question .entry)) kappa limit (lentOf (now (coefficients .entry)) (now (tails .entry)) (now (blinds .entry)) (now (masks .entry)) (now (nonces .entry))) (now (table .entry)) (now (tree .entry)) (now (proof .entry)) ⌝ }
+    ensures { λ r. ⌜ (numberOf r, lengthOf r, now (proof .exit)) ≡ proving (now (question .entry)) kappa limit (lentOf (now (coefficients .entry)) (now (tails .entry)) (now (blinds .entry)) (now (masks .entry)) (now (nonces .entry)) (now (salt .entry))) (now (table .entry)) (now (tree .entry)) (now (proof .entry)) ⌝ }
 {
     match ask_offline(question, kappa) {
         Questioned::WellFormed(s, m) => {
@@ -323,6 +328,7 @@ pub fn prove(
                 masks,
                 table,
                 nonces,
+                salt,
                 tree,
                 &proof[..],
             );

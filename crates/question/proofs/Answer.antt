@@ -14,8 +14,9 @@ use Rattle.lists.specs.Bytes.{Bytes, words, halves, length-words}
 use Rattle.lists.specs.Choice.{pick, and-true}
 use Rattle.lists.specs.Tests.{verdictOf, passed, Numbered}
 use Rattle.tree.specs.Clauses.{IndexSet}
+use Rattle.tree.specs.Leaf.{saltLength}
 use Rattle.scheme.specs.Sizes.{Sizes, SizesInOrder, sizesOk, pointsOk}
-use Rattle.scheme.specs.Question.{readQuestion, headerTests, headerPoints, questionTests, questionVerdict, headerLength, challengesAt, pointsAt, indicesAt, questionLength}
+use Rattle.scheme.specs.Question.{readQuestion, headerTests, headerPoints, questionTests, questionVerdict, headerLength, saltAt, challengesAt, pointsAt, indicesAt, questionLength}
 use Rattle.scheme.proofs.Accepted.{sizes-in-order, Asked, well-formed, question-numbers}
 use Rattle.scheme.proofs.Bound.{indices-length}
 use Rattle.commitment.specs.Shape.{sizesIn}
@@ -103,6 +104,7 @@ pub record Taken (b : Bytes) (s : Shape) (m : ℕ) : Type 0 where
   pub m-high : m ≤ 8
   pub long : length b ≡ questionLength (sizesIn s) m
   pub root : readQuestion b .root ≡ take 32 (drop headerLength b)
+  pub salt : readQuestion b .salt ≡ take saltLength (drop saltAt b)
   pub challenges : readQuestion b .challenges ≡ words (s .eta) (drop challengesAt b)
   pub points : readQuestion b .evaluationPoints ≡ words m (drop (pointsAt (sizesIn s)) b)
   pub indices : readQuestion b .indices ≡ halves (s .l) (drop (indicesAt (sizesIn s) m) b)
@@ -119,6 +121,7 @@ taken-from b e =
       m-high = a .m-high;
       long = eqb-true _ _ (not-false _ (t .1 .1 .1 .0));
       root = refl;
+      salt = refl;
       challenges = refl;
       points = refl;
       indices = refl;

@@ -27,8 +27,8 @@ use commitment::question_length;
 use commitment::root_at;
 use commitment::sizes_ok;
 
-// "SWQ" and the version, 2, in two bytes.
-const MARK: [u8; 5] = [0x53, 0x57, 0x51, 2, 0];
+// "SWQ" and the version, 3, in two bytes.
+const MARK: [u8; 5] = [0x53, 0x57, 0x51, 3, 0];
 
 // The sizes of a well-formed question and m, its number of points; or the number of a refusal.
 pub enum Questioned {

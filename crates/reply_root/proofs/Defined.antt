@@ -29,15 +29,15 @@ module _ (u : Question) (reply : Bytes) where
   s = u .sizes
 
   abbrev leafDigest : ℕ → Bytes
-  leafDigest = leafDigestAt (recordsAt (u .sizes) (u .m)) (recordLength (u .sizes)) (u .indices) reply
+  leafDigest = leafDigestAt (u .salt) (recordsAt (u .sizes) (u .m)) (recordLength (u .sizes)) (u .indices) reply
 
   digests-are : length (u .indices) ≡ s .ℓ → map leafDigest (upFrom 0 (length (u .indices))) ≡ map digest (leafStrings u r)
   unfolding leafStrings leafDigestAt
   digests-are i =
       ap (λ (n : ℕ). map leafDigest (upFrom 0 n)) i
-      ∙ map-cong {f = leafDigest} {g = λ a. digest (leafString (leafAt u a) (recordAt r a))} (upFrom 0 (s .ℓ))
-      (λ a l. ap (λ (x : Bytes). digest (leafString (leafAt u a) x)) (sym (record-at u reply a (omega (arith, upFrom-of 0 (s .ℓ) a l .1)))))
-      ∙ sym (map-map digest (λ a. leafString (leafAt u a) (recordAt r a)) (upFrom 0 (s .ℓ)))
+      ∙ map-cong {f = leafDigest} {g = λ a. digest (leafString (u .salt) (leafAt u a) (recordAt r a))} (upFrom 0 (s .ℓ))
+      (λ a l. ap (λ (x : Bytes). digest (leafString (u .salt) (leafAt u a) x)) (sym (record-at u reply a (omega (arith, upFrom-of 0 (s .ℓ) a l .1)))))
+      ∙ sym (map-map digest (λ a. leafString (u .salt) (leafAt u a) (recordAt r a)) (upFrom 0 (s .ℓ)))
 
   nodes-are : length (u .indices) ≡ s .ℓ → length reply ≡ replyLength u
       → allParts (drop (recordsAt s (u .m) + recordLength s * length (u .indices)) reply) ≡ r .nodes
@@ -52,6 +52,6 @@ module _ (u : Question) (reply : Bytes) where
       whole a m = omega arith
 
   pub root-is : length (u .indices) ≡ u .sizes .ℓ → length reply ≡ replyLength u
-      → rootAt (u .sizes .h) (recordsAt (u .sizes) (u .m)) (recordLength (u .sizes)) (u .indices) reply ≡ replyRoot u (readReply u reply)
+      → rootAt (u .salt) (u .sizes .h) (recordsAt (u .sizes) (u .m)) (recordLength (u .sizes)) (u .indices) reply ≡ replyRoot u (readReply u reply)
   unfolding replyRoot rootAt
-  root-is i e = ap₂ (λ (ds ns : List Bytes). rootFrom digest 2 (1 ∷ []) (s .h) (u .indices) ds ns) (digests-are i) (nodes-are i e)
+  root-is i e = ap₂ (λ (ds ns : List Bytes). rootFrom digest 2 (1 ∷ u .salt) (s .h) (u .indices) ds ns) (digests-are i) (nodes-are i e)

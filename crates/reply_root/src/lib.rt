@@ -8,15 +8,22 @@ ghost use Rattle.lists.specs.Rows.{rowsOf};
 ghost use Rattle.tree.specs.Sets.{missing};
 ghost use Rattle.tree.specs.Clauses.{IndexSet};
 ghost use Rattle.reply_root.specs.Root.{leafDigestAt, rootAt};
-ghost use Rattle.tree.specs.Leaf.{indexEnd, longestRecord};
+ghost use Rattle.tree.specs.Leaf.{saltLength, indexEnd, longestRecord};
 use digests::leaf_digest;
 use node_sets::opened_index;
 use tree_root::root_of;
 
 // The digest of each opened leaf: its record is handed on as the part of the reply that holds it.
-fn leaf_digests(at: usize, size: usize, indices: &[usize], reply: &[u8], out: &mut [u8])
-    requires { ⌜ Below indexEnd (now indices) × (size ≤ longestRecord) × (at + size * length (now indices) ≤ length (now reply)) × (32 * length (now indices) ≤ length (now out)) ⌝ }
-    ensures { λ _. ⌜ now (out .exit) ≡ rowsOf (leafDigestAt at size (now (indices .entry)) (now (reply .entry))) (length (now (indices .entry))) ++ drop (32 * length (now (indices .entry))) (now (out .entry)) ⌝ }
+fn leaf_digests(
+    salt: &[u8],
+    at: usize,
+    size: usize,
+    indices: &[usize],
+    reply: &[u8],
+    out: &mut [u8],
+)
+    requires { ⌜ (length (now salt) ≡ saltLength) × Below indexEnd (now indices) × (size ≤ longestRecord) × (at + size * length (now indices) ≤ length (now reply)) × (32 * length (now indices) ≤ length (now out)) ⌝ }
+    ensures { λ _. ⌜ now (out .exit) ≡ rowsOf (leafDigestAt (now (salt .entry)) at size (now (indices .entry)) (now (reply .entry))) (length (now (indices .entry))) ++ drop (32 * length (now (indices .entry))) (now (out .entry)) ⌝ }
 {
     for a in 0..indices.len() {
         let from = at + size * a;
@@ -24,6 +31,7 @@ fn leaf_digests(at: usize, size: usize, indices: &[usize], reply: &[u8], out: &m
         let first = 32 * a;
         let last = first + 32;
         leaf_digest(
+            salt,
             opened_index(indices, a),
             &reply[from..to],
             &mut out[first..last],
@@ -37,12 +45,19 @@ fn blank_digests() -> [u8; 2048] {
 }
 
 // The root that the opened leaves, whose records begin at `at`, and the missing nodes after them give.
-pub fn reply_root(h: usize, at: usize, size: usize, indices: &[usize], reply: &[u8]) -> [u8; 32]
-    requires { ⌜ IndexSet h (now indices) × (size ≤ longestRecord) × (at + size * length (now indices) + 32 * length (missing 2 h (now indices)) ≤ length (now reply)) ⌝ }
-    ensures { λ r. ⌜ r ≡ rootAt h at size (now (indices .entry)) (now (reply .entry)) ⌝ }
+pub fn reply_root(
+    salt: &[u8],
+    h: usize,
+    at: usize,
+    size: usize,
+    indices: &[usize],
+    reply: &[u8],
+) -> [u8; 32]
+    requires { ⌜ (length (now salt) ≡ saltLength) × IndexSet h (now indices) × (size ≤ longestRecord) × (at + size * length (now indices) + 32 * length (missing 2 h (now indices)) ≤ length (now reply)) ⌝ }
+    ensures { λ r. ⌜ r ≡ rootAt (now (salt .entry)) h at size (now (indices .entry)) (now (reply .entry)) ⌝ }
 {
     let mut digests = blank_digests();
-    leaf_digests(at, size, indices, reply, &mut digests);
+    leaf_digests(salt, at, size, indices, reply, &mut digests);
     let nodes = at + size * indices.len();
-    root_of(h, indices, &digests, &reply[nodes..])
+    root_of(salt, h, indices, &digests, &reply[nodes..])
 }

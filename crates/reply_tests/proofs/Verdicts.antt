@@ -58,9 +58,9 @@ module _ (a b c d : Bool) where
   unfolding verdictOf
   four-0 e f g h = rw (e, f, g, h)
 
-module _ (s : Sizes) (root challenges points indices reply : List ℕ) (p : Posed s challenges points indices) where
+module _ (s : Sizes) (root salt challenges points indices reply : List ℕ) (p : Posed s salt challenges points indices) where
   abbrev u : Question
-  u = posed s root challenges points indices
+  u = posed s root salt challenges points indices
 
   abbrev r : Reply
   r = readReply u reply
@@ -154,8 +154,8 @@ module _ (s : Sizes) (root challenges points indices reply : List ℕ) (p : Pose
           ∙ ap₂ (λ (i j : ℕ). each i (recordElementsAt (recordsAt s (length points)) (recordLength s) j reply)) (p .opened) g)
           ∙ elements-are u reply
 
-      pub root-tested : {t : Bool} {x : Bytes} → x ≡ rootAt (s .h) at size indices reply → t ≡ same x root → t ≡ same (replyRoot u r) root
-      root-tested {t} {x} g h = h ∙ ap (λ (y : Bytes). same y root) (g ∙ ap₂ (λ (i j : ℕ). rootAt (s .h) i j indices reply) e f ∙ root-is u reply (p .opened) (d .whole))
+      pub root-tested : {t : Bool} {x : Bytes} → x ≡ rootAt salt (s .h) at size indices reply → t ≡ same x root → t ≡ same (replyRoot u r) root
+      root-tested {t} {x} g h = h ∙ ap (λ (y : Bytes). same y root) (g ∙ ap₂ (λ (i j : ℕ). rootAt salt (s .h) i j indices reply) e f ∙ root-is u reply (p .opened) (d .whole))
 
       pub batching-tested : {t : Bool} {wide k : ℕ} → wide ≡ width s → k ≡ rows s
           → t ≡ each (length challenges) (batchedRow wide k challenges batching indices (recordWordsAt at size (k + length challenges) reply)) → t ≡ batchingOk

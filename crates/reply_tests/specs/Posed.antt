@@ -1,4 +1,4 @@
--- A question as the code holds it: its sizes, and its challenges, points and indices in lists.
+-- A question as the code holds it: its sizes, its root and salt, and its challenges, points and indices in lists.
 use mathlib.Core.Path.{_≡_}
 use mathlib.Core.Bool.{not}
 use mathlib.Core.List.{List, [], _∷_}
@@ -8,18 +8,20 @@ use Rattle.lists.specs.All.{Below}
 use Rattle.lists.specs.Rising.{Rising}
 use Rattle.lists.specs.Bytes.{Bytes}
 use Rattle.lists.specs.Tests.{Test, each, same}
+use Rattle.tree.specs.Leaf.{saltLength}
 use Rattle.scheme.specs.Sizes.{Sizes, SizesInOrder, leaves, mostPoints}
 use Rattle.scheme.specs.Question.{Question}
 use Rattle.scheme.specs.Reply.{Reply, readReply, replyLength}
 use Rattle.scheme.specs.Check.{replyElements, replyRoot, batchingAt, evaluationAt}
 use Rattle.reply_tests.specs.Words.{batchingWords, answerWords}
 
-abbrev pub posed : Sizes → Bytes → List ℕ → List ℕ → List ℕ → Question
-posed s root challenges points indices = record { sizes = s; m = length points; root = root; challenges = challenges; evaluationPoints = points; indices = indices }
+abbrev pub posed : Sizes → Bytes → Bytes → List ℕ → List ℕ → List ℕ → Question
+posed s root salt challenges points indices = record { sizes = s; m = length points; root = root; salt = salt; challenges = challenges; evaluationPoints = points; indices = indices }
 
 -- what the question's tests leave of them
-pub record Posed (s : Sizes) (challenges points indices : List ℕ) : Type 0 where
+pub record Posed (s : Sizes) (salt : Bytes) (challenges points indices : List ℕ) : Type 0 where
   pub in-order : SizesInOrder s
+  pub salted : length salt ≡ saltLength
   pub repetitions : length challenges ≡ s .η
   pub few-points : length points ≤ mostPoints
   pub opened : length indices ≡ s .ℓ

@@ -31,12 +31,13 @@ fn words_verdict(
     points: &[u32],
     indices: &[usize],
     root: &[u8],
+    salt: &[u8],
     reply: &[u8],
     batching: &[u32],
     answers: &mut [u32],
 ) -> u32
-    requires { ⌜ Posed (sizesIn s) (now challenges) (now points) (now indices) × Read (posed (sizesIn s) (now root) (now challenges) (now points) (now indices)) (now reply) (now batching) (now answers) ⌝ }
-    ensures { λ r. ⌜ r ≡ verdictOf (laterTests (posed (sizesIn s) (now (root .entry)) (now (challenges .entry)) (now (points .entry)) (now (indices .entry))) (now (reply .entry))) ⌝ }
+    requires { ⌜ Posed (sizesIn s) (now salt) (now challenges) (now points) (now indices) × Read (posed (sizesIn s) (now root) (now salt) (now challenges) (now points) (now indices)) (now reply) (now batching) (now answers) ⌝ }
+    ensures { λ r. ⌜ r ≡ verdictOf (laterTests (posed (sizesIn s) (now (root .entry)) (now (salt .entry)) (now (challenges .entry)) (now (points .entry)) (now (indices .entry))) (now (reply .entry))) ⌝ }
 {
     let at = records_at(s, points.len());
     let size = record_length(s);
@@ -44,7 +45,7 @@ fn words_verdict(
     if !elements_read(batching, answers, at, size, n, indices.len(), reply) {
         return 3;
     }
-    let found = reply_root(s.h as usize, at, size, indices, reply);
+    let found = reply_root(salt, s.h as usize, at, size, indices, reply);
     if !same_bytes(&found, root) {
         return 8;
     }
@@ -77,12 +78,13 @@ fn read_verdict(
     points: &[u32],
     indices: &[usize],
     root: &[u8],
+    salt: &[u8],
     reply: &[u8],
     batching: &mut [u32],
     answers: &mut [u32],
 ) -> u32
-    requires { ⌜ Posed (sizesIn s) (now challenges) (now points) (now indices) × (length (now reply) ≡ replyLength (posed (sizesIn s) (now root) (now challenges) (now points) (now indices))) × (width (sizesIn s) * length (now challenges) ≤ length (now batching)) × (width (sizesIn s) * length (now points) ≤ length (now answers)) ⌝ }
-    ensures { λ r. ⌜ r ≡ verdictOf (laterTests (posed (sizesIn s) (now (root .entry)) (now (challenges .entry)) (now (points .entry)) (now (indices .entry))) (now (reply .entry))) ⌝ }
+    requires { ⌜ Posed (sizesIn s) (now salt) (now challenges) (now points) (now indices) × (length (now reply) ≡ replyLength (posed (sizesIn s) (now root) (now salt) (now challenges) (now points) (now indices))) × (width (sizesIn s) * length (now challenges) ≤ length (now batching)) × (width (sizesIn s) * length (now points) ≤ length (now answers)) ⌝ }
+    ensures { λ r. ⌜ r ≡ verdictOf (laterTests (posed (sizesIn s) (now (root .entry)) (now (salt .entry)) (now (challenges .entry)) (now (points .entry)) (now (indices .entry))) (now (reply .entry))) ⌝ }
 {
     let width = row_width(s);
     let b = width * challenges.len();
@@ -95,6 +97,7 @@ fn read_verdict(
         points,
         indices,
         root,
+        salt,
         reply,
         &batching[0..b],
         &mut answers[0..a],
@@ -126,10 +129,11 @@ pub fn reply_verdict(
     points: &[u32],
     indices: &[usize],
     root: &[u8],
+    salt: &[u8],
     reply: &[u8],
 ) -> u32
-    requires { ⌜ Posed (sizesIn s) (now challenges) (now points) (now indices) ⌝ }
-    ensures { λ r. ⌜ r ≡ verdictOf (replyTests (posed (sizesIn s) (now (root .entry)) (now (challenges .entry)) (now (points .entry)) (now (indices .entry))) (now (reply .entry))) ⌝ }
+    requires { ⌜ Posed (sizesIn s) (now salt) (now challenges) (now points) (now indices) ⌝ }
+    ensures { λ r. ⌜ r ≡ verdictOf (replyTests (posed (sizesIn s) (now (root .entry)) (now (salt .entry)) (now (challenges .entry)) (now (points .entry)) (now (indices .entry))) (now (reply .entry))) ⌝ }
 {
     if reply.len() != length_for(s, points.len(), indices) {
         return 7;
@@ -143,6 +147,7 @@ pub fn reply_verdict(
             points,
             indices,
             root,
+            salt,
             reply,
             &mut batching,
             &mut answers,
@@ -156,6 +161,7 @@ pub fn reply_verdict(
             points,
             indices,
             root,
+            salt,
             reply,
             &mut batching,
             &mut answers,

@@ -44,6 +44,7 @@ pub fn commit_front(
     blinds: &[u32],
     masks: &[u32],
     nonces: &[u8],
+    salt: &[u8],
     table: &mut [u32],
     tree: &mut [u8],
 ) -> u32 {
@@ -60,6 +61,7 @@ pub fn commit_front(
         front_words(blinds, n.blinds),
         front_words(masks, n.masks),
         front_bytes(nonces, n.nonces),
+        front_bytes(salt, n.salt),
         front_words_mut(table, n.table),
         front_bytes_mut(tree, n.tree),
     )

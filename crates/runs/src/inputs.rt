@@ -1,4 +1,5 @@
 // The inputs of all runs, made by two rules, `word_of` and `byte_of`, and the buffers that hold them. Each buffer is large enough for the largest sizes.
+use codec::put_words;
 
 // The field's modulus, the least word that is no element.
 pub const Q: u32 = 4294967291;
@@ -29,6 +30,15 @@ pub const REPLY: usize = 9;
 pub const VALUES: usize = 10;
 
 pub const BLINDS: usize = 11;
+
+// With this one the changed proofs of `offline_proofs` are refused by every test.
+pub const SALT: usize = 42;
+
+// The salt of another commitment to the same words.
+pub const OTHER_SALT: usize = 43;
+
+// Case P's salt: zeros.
+pub const ZERO_SALT: usize = 0;
 
 // ---- the rules
 
@@ -75,6 +85,27 @@ pub fn filled_points() -> [u32; 8] {
     [p, q, r, 0, word_of(POINTS, 4), p, q, r]
 }
 
+// The salt with this tag: words as bytes, since `byte_of` hardly depends on the tag.
+pub fn asked_salt(tag: usize) -> [u8; 32] {
+    let mut salt = [0u8; 32];
+    if tag == ZERO_SALT {
+        return salt;
+    }
+    let mut words = [0u32; 8];
+    fill_words(tag, &mut words);
+    put_words(&mut salt, 0, &words);
+    salt
+}
+
+// The same, and bytes after it.
+pub fn filled_salt(tag: usize) -> [u8; 64] {
+    let mut words = [0u32; 16];
+    fill_words(tag, &mut words);
+    let mut salt = blank_salt();
+    put_words(&mut salt, 0, &words);
+    salt
+}
+
 // ---- buffers of zeros
 
 // For coefficients, tails, blinds or masks.
@@ -84,6 +115,10 @@ pub fn blank_words() -> [u32; 16384] {
 
 pub fn blank_nonces() -> [u8; 131072] {
     [0u8; 131072]
+}
+
+pub fn blank_salt() -> [u8; 64] {
+    [0u8; 64]
 }
 
 pub fn blank_table() -> [u32; 278528] {

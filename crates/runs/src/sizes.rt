@@ -5,9 +5,11 @@ use super::inputs::COEFFICIENTS;
 use super::inputs::LARGEST;
 use super::inputs::MASKS;
 use super::inputs::NONCES;
+use super::inputs::SALT;
 use super::inputs::TABLE;
 use super::inputs::TAILS;
 use super::inputs::TREE;
+use commitment::SALT_LENGTH;
 use commitment::Shape;
 use commitment::challenges_at;
 use commitment::leaf_count;
@@ -46,6 +48,7 @@ pub struct Lengths {
     pub blinds: usize,
     pub masks: usize,
     pub nonces: usize,
+    pub salt: usize,
     pub table: usize,
     pub tree: usize,
     pub question: usize,
@@ -97,6 +100,7 @@ pub fn lengths_of(s: Shape, m: u32) -> Lengths {
         blinds: product(w, blinds),
         masks: product(eta, width),
         nonces: 32 * leaves,
+        salt: SALT_LENGTH,
         table: product(leaves, rows + eta),
         tree: 64 * leaves - 32,
         question: question_length(s, m),
@@ -118,8 +122,16 @@ pub fn shorter(n: Lengths, slice: usize) -> Lengths {
         blinds: less(n.blinds, slice == BLINDS),
         masks: less(n.masks, slice == MASKS),
         nonces: less(n.nonces, slice == NONCES),
+        salt: less(n.salt, slice == SALT),
         table: less(n.table, slice == TABLE),
         tree: less(n.tree, slice == TREE),
         question: n.question,
     }
+}
+
+// The lengths, with so many bytes of salt.
+pub fn salted(n: Lengths, length: usize) -> Lengths {
+    let mut m = n;
+    m.salt = length;
+    m
 }

@@ -7,6 +7,7 @@ use super::inputs::NONCES;
 use super::inputs::Q;
 use super::inputs::TAILS;
 use super::inputs::filled_bytes;
+use super::inputs::filled_salt;
 use super::inputs::filled_words;
 use super::printing::print;
 use super::sizes::Lengths;
@@ -61,10 +62,11 @@ pub fn lent_words(tag: usize, n: usize, spoiled: usize) -> [u32; 16384] {
     words
 }
 
-// Commits with the last word of one slice made q.
+// Commits with the salt of this tag and the last word of one slice made q.
 pub fn commit_small(
     s: Shape,
     n: Lengths,
+    tag: usize,
     spoiled: usize,
     table: &mut [u32],
     tree: &mut [u8],
@@ -74,6 +76,7 @@ pub fn commit_small(
     let blinds = lent_words(BLINDS, n.blinds, spoiled);
     let masks = lent_words(MASKS, n.masks, spoiled);
     let nonces = filled_bytes(NONCES);
+    let salt = filled_salt(tag);
     commit_front(
         s,
         n,
@@ -82,6 +85,7 @@ pub fn commit_small(
         &blinds,
         &masks,
         &nonces,
+        &salt,
         table,
         tree,
     )

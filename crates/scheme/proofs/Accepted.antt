@@ -6,7 +6,8 @@ use Prim.Native.Nat.{ℕ, suc, _≤_, _<_}
 use native.Mathlib.Nat.{pow-le-pow-right}
 use native.Mathlib.Omega.{arith}
 use lib.Dec.{ltb}
-use lib.ListN.{length}
+use lib.ListN.{length, drop, length-drop}
+use lib.Seq.{length-take-le}
 use borrow.Author.Tests.{ltb-true, leb-true, eqb-true, not-false}
 use Rattle.lists.specs.Rising.{Rising, rising-true}
 use Rattle.lists.specs.Bytes.{Bytes}
@@ -15,8 +16,9 @@ use Rattle.algebra.specs.Prime.{q}
 use Rattle.algebra.specs.Numbers.{evalN, interpN, Elements}
 use Rattle.lists.specs.Range.{upFrom-below, upFrom-distinct, length-upFrom}
 use Rattle.lists.specs.Tests.{Test, all, passed, every-true, all-true, each-true, same-true, within-low, within-high}
+use Rattle.tree.specs.Leaf.{saltLength}
 use Rattle.scheme.specs.Sizes.{Sizes, SizesInOrder, leaves, columns, rows, width, degree, points, leafPoint, sizesOk, elements}
-use Rattle.scheme.specs.Question.{Question, readQuestion, questionTests, questionVerdict}
+use Rattle.scheme.specs.Question.{Question, readQuestion, questionTests, questionVerdict, headerSizes, headerPoints, questionLength, saltAt}
 use Rattle.scheme.specs.Reply.{Reply, readReply, replyLength, recordWords, rowValues, maskValue}
 use Rattle.scheme.specs.Check.{bufferTest, leafAt, recordAt, challengeOf, batchingOf, pointOf, answerOf, replyElements, replyRoot, batchingAt, evaluationAt, replyTests, checkVerdict}
 use Rattle.lists.specs.Choice.{and-true}
@@ -75,6 +77,7 @@ pub record Asked (u : Question) : Type 0 where
   pub in-order : SizesInOrder (u .sizes)
   pub m-low : 1 ≤ u .m
   pub m-high : u .m ≤ 8
+  pub salted : length (u .salt) ≡ saltLength
   pub challenges-below : Elements (u .challenges)
   pub points-below : Elements (u .evaluationPoints)
   pub indices-rising : Rising (u .indices)
@@ -84,6 +87,8 @@ asked-passed : (b : Bytes) → All (λ (t : Test). t .1 ≡ false) (questionTest
 unfolding questionTests readQuestion
 asked-passed b t =
     let u : Question = readQuestion b in
+    let whole : length b ≡ questionLength (headerSizes b) (headerPoints b) = eqb-true _ _ (not-false _ (t .1 .1 .1 .0)) in
+    let room : saltLength ≤ length (drop saltAt b) = omega (arith, length-drop saltAt b, whole) in
     let ok = and-true _ _ (not-false _ (t .1 .1 .0)) in
     let el = elements-below _ (not-false _ (t .1 .1 .1 .1 .0)) in
     let ix = and-true _ _ (not-false _ (t .1 .1 .1 .1 .1 .0)) in
@@ -91,6 +96,7 @@ asked-passed b t =
       in-order = sizes-in-order _ (ok .0);
       m-low = within-low 1 8 _ (ok .1);
       m-high = within-high 1 8 _ (ok .1);
+      salted = length-take-le saltLength (drop saltAt b) room;
       challenges-below = all-left (λ (x : ℕ). x < q) (u .challenges) (u .evaluationPoints) el;
       points-below = all-right (λ (x : ℕ). x < q) (u .challenges) (u .evaluationPoints) el;
       indices-rising = rising-true _ (ix .0);

@@ -16,6 +16,7 @@ use Rattle.lists.specs.All.{All, below-mem, all-at, Sized, all-flatten, all-tak
 use Rattle.algebra.specs.Numbers.{evalN, evalN-below, interpN, Elements}
 use Rattle.algebra.specs.Columns.{powN}
 use Rattle.lists.specs.Pieces.{pieces, piece, length-pieces, pieces-at, getD-flatten}
+use Rattle.tree.specs.Leaf.{saltLength}
 use Rattle.scheme.specs.Sizes.{Sizes, SizesInOrder, leaves, rows, width, points, leafPoint, recordValues}
 use Rattle.scheme.specs.Layers.{polynomialValues}
 use Rattle.scheme.specs.Question.{Question, readQuestion}
@@ -33,9 +34,10 @@ Poly n p = (length p ≡ n) × Elements p
 
 pub record Facts (s : Sizes) (c : Call) : Type 0 where
   pub in-order : SizesInOrder s
+  pub salted : length (asked c .salt) ≡ saltLength
   pub rising : Rising (asked c .indices)
   pub leaf-below : (i a : ℕ) → Opens c i a → i < leaves s
-  pub placed : Placed s (asked c) (given c)
+  pub placed : Placed s (asked c .salt) (asked c) (given c)
   pub challenge-below : (k : ℕ) → k < s .η → challengeOf (asked c) k < q
   pub row-values : (i a : ℕ) → Opens c i a → Poly (rows s) (rowValues s (recordAt (given c) a))
   pub batching-poly : (k : ℕ) → k < s .η → Poly (width s) (batchingOf (given c) k)
@@ -148,6 +150,7 @@ facts c o z =
     accepted (unit (c .entry)) (c .question) (c .reply) (length (c .before)) (verdict-zero (c .entry) (c .question) (c .reply) (c .before) (c .verdict) (c .after) (o .outcome) z) in
     record {
       in-order = a .asks .in-order;
+      salted = a .asks .salted;
       rising = a .asks .indices-rising;
       leaf-below = λ i b o.
           below-mem (leaves (u .sizes)) (u .indices) (a .asks .indices-below) i

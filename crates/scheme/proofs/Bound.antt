@@ -1,6 +1,6 @@
--- Two accepted calls under one root and one depth have the same record at a leaf that both open, where no two strings that they hash share a digest.
+-- Two accepted calls under one root, one salt and one depth have the same record at a leaf that both open, where no two strings that they hash share a digest.
 -- That no two do is a hypothesis.
-use mathlib.Core.Path.{_≡_, refl, sym, ap, _∙_, subst}
+use mathlib.Core.Path.{_≡_, refl, sym, ap, ap₂, _∙_, subst}
 use mathlib.Core.Bool.{Bool}
 use mathlib.Core.List.{List, [], _∷_, _++_, map, List·Memᴰ as Mem}
 use Prim.Native.Nat.{ℕ, zero, suc, _^_, _<_}
@@ -35,19 +35,19 @@ found-at (i ∷ s) (x ∷ l) (suc a) r e m =
     ap (λ (b : Bool). pick b x (found s l (getD s a 0))) (ne-eqb i (getD s a 0) (λ f. ne-of-gt (r .0 (getD s a 0) (getD-in s a (le-of-suc-le-suc m))) (sym f)))
     ∙ found-at s l a (r .1) (suc-inj e) (le-of-suc-le-suc m)
 
-leaf-inj : (i : ℕ) (x y : Bytes) → leafString i x ≡ leafString i y → x ≡ y
+leaf-inj : (salt : Bytes) (i : ℕ) (x y : Bytes) → leafString salt i x ≡ leafString salt i y → x ≡ y
 unfolding leafString
-leaf-inj i x y e = append-cancel (0 ∷ littleEndian 2 i) x y e
+leaf-inj salt i x y e = append-cancel (littleEndian 2 i) x y (append-cancel (0 ∷ salt) (littleEndian 2 i ++ x) (littleEndian 2 i ++ y) e)
 
 leafStrings-length : (u : Question) (r : Reply) → length (leafStrings u r) ≡ u .sizes .ℓ
 unfolding leafStrings
 leafStrings-length u r = length-map (upFrom 0 (u .sizes .ℓ)) _ ∙ length-upFrom 0 (u .sizes .ℓ)
 
-leafStrings-at : (u : Question) (r : Reply) (a : ℕ) → a < u .sizes .ℓ → getD (leafStrings u r) a [] ≡ leafString (leafAt u a) (recordAt r a)
+leafStrings-at : (u : Question) (r : Reply) (a : ℕ) → a < u .sizes .ℓ → getD (leafStrings u r) a [] ≡ leafString (u .salt) (leafAt u a) (recordAt r a)
 unfolding leafStrings
 leafStrings-at u r a l =
-    at-run (λ b. leafString (leafAt u b) (recordAt r b)) 0 (u .sizes .ℓ) a [] l
-    ∙ ap (λ (b : ℕ). leafString (leafAt u b) (recordAt r b)) (zero-add a)
+    at-run (λ b. leafString (u .salt) (leafAt u b) (recordAt r b)) 0 (u .sizes .ℓ) a [] l
+    ∙ ap (λ (b : ℕ). leafString (u .salt) (leafAt u b) (recordAt r b)) (zero-add a)
 
 abbrev pub some-children : (s : Sizes) → zero < arity s
 some-children s = omega arith
@@ -56,12 +56,12 @@ pub leaves-are : (s : Sizes) → arity s ^ levels s ≡ leaves s
 leaves-are s = refl
 
 -- an accepted call as an opening of the tree of depth h
-pub record Placed (s : Sizes) (u : Question) (r : Reply) : Type 0 where
+pub record Placed (s : Sizes) (salt : Bytes) (u : Question) (r : Reply) : Type 0 where
   pub opening : Opening (arity s) 32 (levels s) (u .indices) (leafStrings u r) (r .nodes)
-  pub rooted : rootFrom digest (arity s) (nodePrefix s) (levels s) (u .indices) (map digest (leafStrings u r)) (r .nodes) ≡ u .root
-  pub strings : hashedStrings u r ≡ leafStrings u r ++ hashed digest (arity s) (nodePrefix s) (levels s) (u .indices) (map digest (leafStrings u r)) (r .nodes)
+  pub rooted : rootFrom digest (arity s) (nodePrefix s salt) (levels s) (u .indices) (map digest (leafStrings u r)) (r .nodes) ≡ u .root
+  pub strings : hashedStrings u r ≡ leafStrings u r ++ hashed digest (arity s) (nodePrefix s salt) (levels s) (u .indices) (map digest (leafStrings u r)) (r .nodes)
 
-pub placed : (u : Question) (reply : Bytes) → length (u .indices) ≡ u .sizes .ℓ → Accepted u reply (readReply u reply) → Placed (u .sizes) u (readReply u reply)
+pub placed : (u : Question) (reply : Bytes) → length (u .indices) ≡ u .sizes .ℓ → Accepted u reply (readReply u reply) → Placed (u .sizes) (u .salt) u (readReply u reply)
 unfolding readReply replyRoot hashedStrings
 placed u reply e a = record {
   opening = record {
@@ -86,29 +86,29 @@ pub points-length : (b : Bytes) → length (readQuestion b .evaluationPoints) �
 unfolding readQuestion
 points-length b = simp (length-map, length-pieces)
 
-module _ (s : Sizes) (u₁ u₂ : Question) (r₁ r₂ : Reply) (p₁ : Placed s u₁ r₁) (p₂ : Placed s u₂ r₂) (ri₁ : Rising (u₁ .indices)) (ri₂ : Rising (u₂ .indices))
-    (same-root : u₁ .root ≡ u₂ .root)
+module _ (s : Sizes) (salt : Bytes) (u₁ u₂ : Question) (r₁ r₂ : Reply) (p₁ : Placed s salt u₁ r₁) (p₂ : Placed s salt u₂ r₂) (ri₁ : Rising (u₁ .indices)) (ri₂ : Rising (u₂ .indices))
+    (same-root : u₁ .root ≡ u₂ .root) (salt₁ : u₁ .salt ≡ salt) (salt₂ : u₂ .salt ≡ salt)
     (apart : (x y : Bytes) → Mem x (hashedStrings u₁ r₁) → Mem y (hashedStrings u₂ r₂) → digest x ≡ digest y → x ≡ y) where
   pub same-record : (i a₁ a₂ : ℕ) → a₁ < u₁ .sizes .ℓ → a₂ < u₂ .sizes .ℓ → leafAt u₁ a₁ ≡ i → leafAt u₂ a₂ ≡ i → recordAt r₁ a₁ ≡ recordAt r₂ a₂
   same-record i a₁ a₂ l₁ l₂ e₁ e₂ =
-      leaf-inj i (recordAt r₁ a₁) (recordAt r₂ a₂)
-      (sym (found-is u₁ r₁ p₁ ri₁ a₁ l₁ e₁)
-      ∙ leaf-binding digest 32 digest-length (arity s) (some-children s) (nodePrefix s) (levels s) (u₁ .indices) (u₂ .indices) (leafStrings u₁ r₁) (leafStrings u₂ r₂) (r₁ .nodes) (r₂ .nodes)
+      leaf-inj salt i (recordAt r₁ a₁) (recordAt r₂ a₂)
+      (sym (found-is u₁ r₁ p₁ ri₁ salt₁ a₁ l₁ e₁)
+      ∙ leaf-binding digest 32 digest-length (arity s) (some-children s) (nodePrefix s salt) (levels s) (u₁ .indices) (u₂ .indices) (leafStrings u₁ r₁) (leafStrings u₂ r₂) (r₁ .nodes) (r₂ .nodes)
       (p₁ .opening) (p₂ .opening)
       (λ x y m₁ m₂. apart x y (subst (λ (z : List Bytes). Mem x z) (sym (p₁ .strings)) m₁) (subst (λ (z : List Bytes). Mem y z) (sym (p₂ .strings)) m₂))
       (p₁ .rooted ∙ same-root ∙ sym (p₂ .rooted)) i (in-is u₁ r₁ p₁ a₁ l₁ e₁) (in-is u₂ r₂ p₂ a₂ l₂ e₂)
-      ∙ found-is u₂ r₂ p₂ ri₂ a₂ l₂ e₂)
+      ∙ found-is u₂ r₂ p₂ ri₂ salt₂ a₂ l₂ e₂)
     where
-      inside : (u : Question) (r : Reply) → Placed s u r → (a : ℕ) → a < u .sizes .ℓ → a < length (u .indices)
+      inside : (u : Question) (r : Reply) → Placed s salt u r → (a : ℕ) → a < u .sizes .ℓ → a < length (u .indices)
       inside u r p a l = subst (λ (n : ℕ). a < n) (sym (p .opening .counted ∙ leafStrings-length u r)) l
 
-      in-is : (u : Question) (r : Reply) → Placed s u r → (a : ℕ) → a < u .sizes .ℓ → leafAt u a ≡ i → Mem i (u .indices)
+      in-is : (u : Question) (r : Reply) → Placed s salt u r → (a : ℕ) → a < u .sizes .ℓ → leafAt u a ≡ i → Mem i (u .indices)
       in-is u r p a l e = subst (λ (j : ℕ). Mem j (u .indices)) e (getD-in (u .indices) a (inside u r p a l))
 
-      found-is : (u : Question) (r : Reply) → Placed s u r → Rising (u .indices) → (a : ℕ) → a < u .sizes .ℓ → leafAt u a ≡ i
-          → found (u .indices) (leafStrings u r) i ≡ leafString i (recordAt r a)
-      found-is u r p ri a l e =
+      found-is : (u : Question) (r : Reply) → Placed s salt u r → Rising (u .indices) → u .salt ≡ salt → (a : ℕ) → a < u .sizes .ℓ → leafAt u a ≡ i
+          → found (u .indices) (leafStrings u r) i ≡ leafString salt i (recordAt r a)
+      found-is u r p ri f a l e =
           ap (found (u .indices) (leafStrings u r)) (sym e)
           ∙ found-at (u .indices) (leafStrings u r) a ri (p .opening .counted) (inside u r p a l)
           ∙ leafStrings-at u r a l
-          ∙ ap (λ (j : ℕ). leafString j (recordAt r a)) e
+          ∙ ap₂ (λ (z : Bytes) (j : ℕ). leafString z j (recordAt r a)) f e

@@ -122,28 +122,28 @@ module _ (s : Sizes) (l : Lent) (r : LentFacts s l) where
   -- ---- the tree
 
   abbrev pub level : List Bytes
-  level = leafDigests s table (l .nonces)
+  level = leafDigests s table (l .nonces) (l .salt)
 
   pub level-length : length level ≡ leaves s
   unfolding leafDigests
   level-length = length-map (upFrom 0 (leaves s)) _ ∙ length-upFrom 0 (leaves s)
 
-  pub level-at : (i : ℕ) → i < leaves s → at level i ≡ digest (leafString i (rec i))
+  pub level-at : (i : ℕ) → i < leaves s → at level i ≡ digest (leafString (l .salt) i (rec i))
   unfolding leafDigests
-  level-at i m = at-run (λ i. digest (leafString i (rec i))) 0 (leaves s) i [] m ∙ ap (λ (i : ℕ). digest (leafString i (rec i))) (zero-add i)
+  level-at i m = at-run (λ i. digest (leafString (l .salt) i (rec i))) 0 (leaves s) i [] m ∙ ap (λ (i : ℕ). digest (leafString (l .salt) i (rec i))) (zero-add i)
 
   pub level-sized : Sized 32 level
   unfolding leafDigests
-  level-sized = all-each (λ (d : Bytes). length d ≡ 32) (λ i. digest (leafString i (rec i))) (upFrom 0 (leaves s)) (λ i. digest-length (leafString i (rec i)))
+  level-sized = all-each (λ (d : Bytes). length d ≡ 32) (λ i. digest (leafString (l .salt) i (rec i))) (upFrom 0 (leaves s)) (λ i. digest-length (leafString (l .salt) i (rec i)))
 
   abbrev pub digests : List Bytes
-  digests = tree digest (arity s) (nodePrefix s) (levels s) level
+  digests = tree digest (arity s) (nodePrefix s (l .salt)) (levels s) level
 
   digests-sized : Sized 32 digests
-  digests-sized = tree-sized digest (arity s) (nodePrefix s) (some-children s) (levels s) level digest-length level-sized
+  digests-sized = tree-sized digest (arity s) (nodePrefix s (l .salt)) (some-children s) (levels s) level digest-length level-sized
 
   digests-length : length digests ≡ treeSize (arity s) (levels s)
-  digests-length = tree-length digest (arity s) (nodePrefix s) (some-children s) (levels s) level (level-length ∙ sym (leaves-are s))
+  digests-length = tree-length digest (arity s) (nodePrefix s (l .salt)) (some-children s) (levels s) level (level-length ∙ sym (leaves-are s))
 
   pub tree-parts : allParts (treeOf s l) ≡ digests
   unfolding treeOf
@@ -160,7 +160,7 @@ module _ (s : Sizes) (l : Lent) (r : LentFacts s l) where
   tree-bytes = flat-length ∙ ap (λ (n : ℕ). 32 * n) size-is
 
   -- its last 32 bytes are the root
-  pub last-is : lastDigest (treeOf s l) ≡ root digest (arity s) (nodePrefix s) (levels s) level
+  pub last-is : lastDigest (treeOf s l) ≡ root digest (arity s) (nodePrefix s (l .salt)) (levels s) level
   unfolding allParts
   last-is =
       let x : Bytes = treeOf s l in
@@ -170,7 +170,7 @@ module _ (s : Sizes) (l : Lent) (r : LentFacts s l) where
       ∙ sym (take-all 32 (drop (32 * b) x) (omega (arith, length-drop (32 * b) x, flat-length, root-place (arity s) (levels s))))
       ∙ sym (pieces-at 32 (length x / 32) b x (omega (arith, flat-length, root-place (arity s) (levels s))))
       ∙ ap (λ (ds : List Bytes). at ds b) tree-parts
-      ∙ tree-root digest (arity s) (nodePrefix s) (some-children s) (levels s) level (level-length ∙ sym (leaves-are s))
+      ∙ tree-root digest (arity s) (nodePrefix s (l .salt)) (some-children s) (levels s) level (level-length ∙ sym (leaves-are s))
 
   pub filled : filledOk s table (treeOf s l) ≡ true
   unfolding filledOk

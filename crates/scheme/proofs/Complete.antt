@@ -1,4 +1,4 @@
--- Completeness: to each well-formed question that names a commitment's root and sizes the opener makes a reply, and it is accepted with the true values.
+-- Completeness: to each well-formed question that names a commitment's root, salt and sizes the opener makes a reply, and it is accepted with the true values.
 use mathlib.Core.Path.{_≡_, refl, sym, ap, ap₂, _∙_, subst}
 use mathlib.Core.Bool.{true, false, not}
 use mathlib.Core.List.{List, [], _∷_, _++_, map, flatten, append-nil, map-map, List·Memᴰ as Mem}
@@ -33,7 +33,7 @@ use Rattle.scheme.proofs.HonestAnswers.{evaluation-honest, batching-hon
 use Rattle.scheme.proofs.ReplyReadBack.{FourParts, whole-length, back-batching, back-answers, back-records, back-nodes}
 use Rattle.scheme.proofs.Lent.{below-elements, LentFacts, lent-facts}
 use Rattle.scheme.proofs.Parts.{all-in, in-tree, batching-below, answers-below, four-parts}
-use Rattle.scheme.proofs.Opening.{sizing-is}
+use Rattle.scheme.proofs.Opening.{sizing-is, names-true}
 use Rattle.scheme.proofs.Committed.{committing-is, rec, record-below, record-rows, record-mask, level, level-length, level-at, digests, tree-parts, last-is, filled, table-below}
 
 -- ---- lists
@@ -55,7 +55,7 @@ in-run : (n p : ℕ) → Mem p (upFrom 0 n) → p < n
 in-run n p m = subst (λ (k : ℕ). p < k) (zero-add n) (upFrom-of 0 n p m .1)
 
 module _ (question : Bytes) (l : Lent) (wf : questionVerdict question ≡ 0) (right : WellLent (readQuestion question .sizes) l)
-    (named : readQuestion question .root ≡ lastDigest (treeOf (readQuestion question .sizes) l)) where
+    (named : readQuestion question .root ≡ lastDigest (treeOf (readQuestion question .sizes) l)) (salted : readQuestion question .salt ≡ l .salt) where
   abbrev pub u : Question
   u = readQuestion question
 
@@ -139,24 +139,25 @@ module _ (question : Bytes) (l : Lent) (wf : questionVerdict question ≡ 0) (ri
         ),
       )
 
-  strings-are : leafStrings u R ≡ map (λ i. leafString i (rec s l r i)) (u .indices)
+  strings-are : leafStrings u R ≡ map (λ i. leafString (l .salt) i (rec s l r i)) (u .indices)
   unfolding leafStrings
   strings-are =
-      map-cong (upFrom 0 (s .ℓ)) (λ b m. ap (leafString (leafAt u b)) (record-is b (in-run (s .ℓ) b m)))
-      ∙ map-places (λ i. leafString i (rec s l r i)) (u .indices) (s .ℓ) ci
+      map-cong (upFrom 0 (s .ℓ)) (λ b m. ap₂ (λ (z x : Bytes). leafString z (leafAt u b) x) salted (record-is b (in-run (s .ℓ) b m)))
+      ∙ map-places (λ i. leafString (l .salt) i (rec s l r i)) (u .indices) (s .ℓ) ci
 
   digests-are : map digest (leafStrings u R) ≡ map (at (level s l r)) (u .indices)
   digests-are =
       ap (map digest) strings-are
-      ∙ map-map digest (λ i. leafString i (rec s l r i)) (u .indices)
+      ∙ map-map digest (λ i. leafString (l .salt) i (rec s l r i)) (u .indices)
       ∙ map-cong (u .indices) (λ i m. sym (level-at s l r i (below-mem (leaves s) (u .indices) (a .indices-below) i m)))
 
   root-ok : replyRoot u R ≡ u .root
   unfolding replyRoot
   root-ok =
-      ap₂ (λ (ds : List Bytes) (x : List Bytes). rootFrom digest (arity s) (nodePrefix s) (levels s) (u .indices) ds x) digests-are
+      ap₂ (λ (ds : List Bytes) (x : List Bytes). rootFrom digest (arity s) (nodePrefix s (u .salt)) (levels s) (u .indices) ds x) digests-are
       (back-nodes u bs ans xs ns parts ∙ ns-are ∙ sym (append-nil (opened (arity s) (levels s) (digests s l r) (u .indices))))
-      ∙ complete digest (arity s) (nodePrefix s) (some-children s) (levels s) (level s l r) (u .indices) [] (level-length s l r ∙ sym (leaves-are s))
+      ∙ ap (λ (z : Bytes). rootFrom digest (arity s) (nodePrefix s z) (levels s) (u .indices) (map (at (level s l r)) (u .indices)) (opened (arity s) (levels s) (digests s l r) (u .indices) ++ [])) salted
+      ∙ complete digest (arity s) (nodePrefix s (l .salt)) (some-children s) (levels s) (level s l r) (u .indices) [] (level-length s l r ∙ sym (leaves-are s))
       (in-tree question l (tableOf s l) (treeOf s l) a (right .lengths) (filled s l r)) (leafAt u 0)
       (getD-in (u .indices) 0 (subst (λ (n : ℕ). 0 < n) (sym ci) (a .in-order .ℓ-low)))
       ∙ sym (last-is s l r)
@@ -229,7 +230,7 @@ module _ (question : Bytes) (l : Lent) (wf : questionVerdict question ≡ 0) (ri
         ap not (true-every (lentOk s l ∷ filledOk s (tableOf s l) (treeOf s l) ∷ eqb (length buffer) (replyLength u) ∷ []) (right .lengths, (filled s l r, (eq-eqb _ _ e, tt)))),
         (
           ap not (true-every (elements (tableOf s l) ∷ lentElements l) (below-elements (tableOf s l) (table-below s l r), every-true (lentElements l) (right .elements))),
-          (ap not (ap (same (lastDigest (treeOf s l))) named ∙ same-refl (lastDigest (treeOf s l))), tt),
+          (ap not (names-true (u .root) (u .salt) l (treeOf s l) named salted), tt),
         ),
       ))
 
@@ -256,5 +257,5 @@ completeness s l right = (
   committing-is s l right,
   λ question buffer names e.
       subst (λ (t : Sizes). WellLent t l → readQuestion question .root ≡ lastDigest (treeOf t l) → Replied t l question buffer)
-      (names .sizes) (λ rt nm. replied question l (names .well-formed) rt nm buffer e) right (names .root),
+      (names .sizes) (λ rt nm. replied question l (names .well-formed) rt nm (names .salt) buffer e) right (names .root),
 )

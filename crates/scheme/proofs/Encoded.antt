@@ -13,8 +13,9 @@ use Rattle.lists.specs.All.{Below, all-append, all-imp}
 use Rattle.lists.specs.Rising.{rising}
 use Rattle.lists.specs.Bytes.{Bytes, fromBytes, littleEndian, halves, words, bytesOf, Small, number-littleEndian, numbers-back, length-numbers, words-bytesOf, length-bytesOf}
 use Rattle.lists.specs.Tests.{all, same, same-refl, pass, all-true, true-all}
+use Rattle.tree.specs.Leaf.{saltLength}
 use Rattle.scheme.specs.Sizes.{Sizes, SizesInOrder, leaves, sizesOk, pointsOk, elements}
-use Rattle.scheme.specs.Question.{Question, readQuestion, questionTests, questionVerdict, headerLength, headerSizes, headerPoints, mark, challengesAt, pointsAt, indicesAt, questionLength}
+use Rattle.scheme.specs.Question.{Question, readQuestion, questionTests, questionVerdict, headerLength, headerSizes, headerPoints, mark, saltAt, challengesAt, pointsAt, indicesAt, questionLength}
 use Rattle.scheme.specs.HonestCalls.{headerBytes, questionBytes}
 use Rattle.algebra.specs.Prime.{q}
 use Rattle.scheme.proofs.Accepted.{sizes-in-order, leaves-high, elements-below}
@@ -47,10 +48,11 @@ elements-append : (xs ys : List ℕ) → elements xs ≡ true → elements ys �
 elements-append xs ys e f = true-all (λ x. ltb x q) (xs ++ ys) (all-append (λ (x : ℕ). ltb x q ≡ true) xs ys (all-true (λ x. ltb x q) xs e) (all-true (λ x. ltb x q) ys f))
 
 -- parts of a question that fit its sizes
-pub record Fit (s : Sizes) (m : ℕ) (root : Bytes) (challenges points indices : List ℕ) : Type 0 where
+pub record Fit (s : Sizes) (m : ℕ) (root salt : Bytes) (challenges points indices : List ℕ) : Type 0 where
   pub sizes-right : sizesOk s ≡ true
   pub m-right : pointsOk m ≡ true
   pub root-length : length root ≡ 32
+  pub salt-length : length salt ≡ saltLength
   pub challenges-count : length challenges ≡ s .η
   pub points-count : length points ≡ m
   pub indices-count : length indices ≡ s .ℓ
@@ -59,7 +61,7 @@ pub record Fit (s : Sizes) (m : ℕ) (root : Bytes) (challenges points indices :
   pub indices-rise : rising indices ≡ true
   pub indices-right : all (λ i. ltb i (leaves s)) indices ≡ true
 
-module _ (s : Sizes) (m : ℕ) (root : Bytes) (γs zs is : List ℕ) (f : Fit s m root γs zs is) where
+module _ (s : Sizes) (m : ℕ) (root salt : Bytes) (γs zs is : List ℕ) (f : Fit s m root salt γs zs is) where
   good-sizes : SizesInOrder s
   good-sizes = sizes-in-order s (f .sizes-right)
 
@@ -84,22 +86,28 @@ module _ (s : Sizes) (m : ℕ) (root : Bytes) (γs zs is : List ℕ) (f : Fit s 
   abbrev tail₁ : Bytes
   tail₁ = bytesOf γs ++ tail₂
 
-  abbrev pub question : Bytes
-  question = questionBytes s m root γs zs is
+  abbrev tail₀ : Bytes
+  tail₀ = salt ++ tail₁
 
-  is-question : question ≡ headerBytes s m ++ (root ++ tail₁)
+  abbrev pub question : Bytes
+  question = questionBytes s m root salt γs zs is
+
+  is-question : question ≡ headerBytes s m ++ (root ++ tail₀)
   unfolding questionBytes
   is-question = refl
 
-  after-header : drop headerLength question ≡ root ++ tail₁
-  after-header = ap (drop headerLength) is-question ∙ drop-at (headerBytes s m) (root ++ tail₁) headerLength (header-length s m)
+  after-header : drop headerLength question ≡ root ++ tail₀
+  after-header = ap (drop headerLength) is-question ∙ drop-at (headerBytes s m) (root ++ tail₀) headerLength (header-length s m)
 
-  after-root : drop challengesAt question ≡ tail₁
-  after-root = sym (drop-drop 32 headerLength question) ∙ ap (drop 32) after-header ∙ drop-at root tail₁ 32 (f .root-length)
+  after-root : drop saltAt question ≡ tail₀
+  after-root = sym (drop-drop 32 headerLength question) ∙ ap (drop 32) after-header ∙ drop-at root tail₀ 32 (f .root-length)
+
+  after-salt : drop challengesAt question ≡ tail₁
+  after-salt = sym (drop-drop saltLength saltAt question) ∙ ap (drop saltLength) after-root ∙ drop-at salt tail₁ saltLength (f .salt-length)
 
   after-challenges : drop (pointsAt s) question ≡ tail₂
   after-challenges =
-      sym (drop-drop (4 * s .η) challengesAt question) ∙ ap (drop (4 * s .η)) after-root
+      sym (drop-drop (4 * s .η) challengesAt question) ∙ ap (drop (4 * s .η)) after-salt
       ∙ drop-at (bytesOf γs) tail₂ (4 * s .η) (length-bytesOf γs ∙ ap (λ (n : ℕ). 4 * n) (f .challenges-count))
 
   after-points : drop (indicesAt s m) question ≡ tail₃
@@ -108,17 +116,20 @@ module _ (s : Sizes) (m : ℕ) (root : Bytes) (γs zs is : List ℕ) (f : Fit s 
       ∙ drop-at (bytesOf zs) tail₃ (4 * m) (length-bytesOf zs ∙ ap (λ (n : ℕ). 4 * n) (f .points-count))
 
   sizes-back : headerSizes question ≡ s
-  sizes-back = ap headerSizes is-question ∙ header-sizes-back s m (root ++ tail₁) ν-small w-small
+  sizes-back = ap headerSizes is-question ∙ header-sizes-back s m (root ++ tail₀) ν-small w-small
 
   m-back : headerPoints question ≡ m
-  m-back = ap headerPoints is-question ∙ header-points s m (root ++ tail₁)
+  m-back = ap headerPoints is-question ∙ header-points s m (root ++ tail₀)
 
   root-back : take 32 (drop headerLength question) ≡ root
-  root-back = ap (take 32) after-header ∙ take-at root tail₁ 32 (f .root-length)
+  root-back = ap (take 32) after-header ∙ take-at root tail₀ 32 (f .root-length)
+
+  salt-back : take saltLength (drop saltAt question) ≡ salt
+  salt-back = ap (take saltLength) after-root ∙ take-at salt tail₁ saltLength (f .salt-length)
 
   challenges-back : words (s .η) (drop challengesAt question) ≡ γs
   challenges-back =
-      ap (words (s .η)) after-root ∙ ap (λ (n : ℕ). words n tail₁) (sym (f .challenges-count)) ∙ words-bytesOf γs tail₂ (small-elements γs (f .challenges-right))
+      ap (words (s .η)) after-salt ∙ ap (λ (n : ℕ). words n tail₁) (sym (f .challenges-count)) ∙ words-bytesOf γs tail₂ (small-elements γs (f .challenges-right))
 
   points-back : words m (drop (pointsAt s) question) ≡ zs
   points-back =
@@ -129,30 +140,33 @@ module _ (s : Sizes) (m : ℕ) (root : Bytes) (γs zs is : List ℕ) (f : Fit s 
       ap (halves (s .ℓ)) (after-points ∙ sym (append-nil tail₃)) ∙ ap (λ (n : ℕ). halves n (tail₃ ++ [])) (sym (f .indices-count)) ∙ numbers-back 2 is [] indices-small
 
   -- a question is read back
-  pub question-back : readQuestion question ≡ record { sizes = s; m = m; root = root; challenges = γs; evaluationPoints = zs; indices = is }
+  pub question-back : readQuestion question ≡ record { sizes = s; m = m; root = root; salt = salt; challenges = γs; evaluationPoints = zs; indices = is }
   unfolding readQuestion
   question-back =
       (λ i. record {
         sizes = sizes-back i;
         m = m-back i;
         root = root-back i;
+        salt = salt-back i;
         challenges = words (sizes-back i .η) (drop challengesAt question);
         evaluationPoints = words (m-back i) (drop (pointsAt (sizes-back i)) question);
         indices = halves (sizes-back i .ℓ) (drop (indicesAt (sizes-back i) (m-back i)) question);
       })
-      ∙ (λ i. record { sizes = s; m = m; root = root; challenges = challenges-back i; evaluationPoints = points-back i; indices = indices-back i })
+      ∙ (λ i. record { sizes = s; m = m; root = root; salt = salt; challenges = challenges-back i; evaluationPoints = points-back i; indices = indices-back i })
 
   question-length : length question ≡ questionLength s m
   question-length =
       ap length is-question
       ∙ omega (
         arith,
-        length-append (headerBytes s m) (root ++ tail₁),
-        length-append root tail₁,
+        length-append (headerBytes s m) (root ++ tail₀),
+        length-append root tail₀,
+        length-append salt tail₁,
         length-append (bytesOf γs) tail₂,
         length-append (bytesOf zs) tail₃,
         header-length s m,
         f .root-length,
+        f .salt-length,
         length-bytesOf γs,
         length-bytesOf zs,
         length-numbers 2 is,
@@ -170,7 +184,7 @@ module _ (s : Sizes) (m : ℕ) (root : Bytes) (γs zs is : List ℕ) (f : Fit s 
       pass _ (
         le-ltb (length question) headerLength long,
         (
-          ap not (ap (λ (x : Bytes). same x mark) (ap (take 5) is-question ∙ header-mark s m (root ++ tail₁)) ∙ same-refl mark),
+          ap not (ap (λ (x : Bytes). same x mark) (ap (take 5) is-question ∙ header-mark s m (root ++ tail₀)) ∙ same-refl mark),
           (
             ap not (ap₂ (λ (t : Sizes) (n : ℕ). sizesOk t && pointsOk n) sizes-back m-back ∙ both-true (sizesOk s) (pointsOk m) (f .sizes-right) (f .m-right)),
             (

@@ -30,14 +30,14 @@ opened-rows s l c right h =
     subst (λ (t : Sizes). WellLent t l → asked c .root ≡ lastDigest (treeOf t l) → c .reply ≡ replyOf (asked c) l (tableOf t l) (treeOf t l)
     → (i a : ℕ) → Opens c i a → rowValues t (recordAt (given c) a) ≡ valuesAtN (rowPolynomials t l) i) (h .names .sizes)
     (λ rt nm mk i a o.
-    ap (λ (x : Bytes). rowValues (asked c .sizes) (recordAt (readReply (asked c) x) a)) (mk ∙ sym (reply-is (c .question) l (h .names .well-formed) rt nm))
-    ∙ rows-are (c .question) l (h .names .well-formed) rt nm a (o .place)
+    ap (λ (x : Bytes). rowValues (asked c .sizes) (recordAt (readReply (asked c) x) a)) (mk ∙ sym (reply-is (c .question) l (h .names .well-formed) rt nm (h .names .salt)))
+    ∙ rows-are (c .question) l (h .names .well-formed) rt nm (h .names .salt) a (o .place)
     ∙ ap (valuesAtN (rowPolynomials (asked c .sizes) l)) (o .leaf))
     right (h .names .root) (h .reply-made)
 
-honest-rows : (calls : List Call) (header root : Bytes) (l : Lent) → WellLent (headerSizes header) l → ((c : Call) → Collected calls header root c → Honest (headerSizes header) l c)
-    → (L : List ℕ) → TakesOpened calls header root L (rowPolynomials (headerSizes header) l)
-honest-rows calls header root l right h L =
+honest-rows : (calls : List Call) (header root salt : Bytes) (l : Lent) → WellLent (headerSizes header) l → ((c : Call) → Collected calls header root salt c → Honest (headerSizes header) l c)
+    → (L : List ℕ) → TakesOpened calls header root salt L (rowPolynomials (headerSizes header) l)
+honest-rows calls header root salt l right h L =
     let s : Sizes = headerSizes header in
     let r : LentFacts s l = lent-facts s l right in
     record {
@@ -46,8 +46,8 @@ honest-rows calls header root l right h L =
       takes = λ c k i a o m. sym (opened-rows s l c right (h c k) i a o);
     }
 
-pub extracted-committed : (calls : List Call) (header root : Bytes) (l : Lent) → WellLent (headerSizes header) l → ((c : Call) → Collected calls header root c → Honest (headerSizes header) l c)
-    → (ans : (c : Call) → Mem c calls → Answered c) (nc : NoCollision calls header root) (L : List ℕ) (k : ℕ) (γs : List ℕ) (Rs : List (List ℕ)) (cov : Covered calls header root L k γs Rs)
-    → rowPolynomials (headerSizes header) l ≡ collected-replies calls header root ans nc L k γs Rs cov .extracted
-extracted-committed calls header root l right h ans nc L k γs Rs cov =
-    collected-replies calls header root ans nc L k γs Rs cov .only-one (rowPolynomials (headerSizes header) l) (honest-rows calls header root l right h L)
+pub extracted-committed : (calls : List Call) (header root salt : Bytes) (l : Lent) → WellLent (headerSizes header) l → ((c : Call) → Collected calls header root salt c → Honest (headerSizes header) l c)
+    → (ans : (c : Call) → Mem c calls → Answered c) (nc : NoCollision calls header root salt) (L : List ℕ) (k : ℕ) (γs : List ℕ) (Rs : List (List ℕ)) (cov : Covered calls header root salt L k γs Rs)
+    → rowPolynomials (headerSizes header) l ≡ collected-replies calls header root salt ans nc L k γs Rs cov .extracted
+extracted-committed calls header root salt l right h ans nc L k γs Rs cov =
+    collected-replies calls header root salt ans nc L k γs Rs cov .only-one (rowPolynomials (headerSizes header) l) (honest-rows calls header root salt l right h L)

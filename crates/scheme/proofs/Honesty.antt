@@ -75,8 +75,8 @@ honest-answered s l question right names = record { outcome = sym outcome }
         (names .sizes)
         (λ rt nm.
         let n : ℕ = readQuestion question .sizes .w * readQuestion question .m in
-        ap (λ (x : Bytes). checking question x (replicate n 0)) (sym (reply-is question l (names .well-formed) rt nm))
-        ∙ checks question l (names .well-formed) rt nm (replicate n 0) (length-replicate n 0))
+        ap (λ (x : Bytes). checking question x (replicate n 0)) (sym (reply-is question l (names .well-formed) rt nm (names .salt)))
+        ∙ checks question l (names .well-formed) rt nm (names .salt) (replicate n 0) (length-replicate n 0))
         right (names .root)
 
 -- its batching answers
@@ -94,8 +94,8 @@ honest-batching s l question right names =
       before = [];
       verdict = 0;
       after = [];
-    })) k) (sym (reply-is question l (names .well-formed) rt nm))
-    ∙ batching-is question l (names .well-formed) rt nm k m)
+    })) k) (sym (reply-is question l (names .well-formed) rt nm (names .salt)))
+    ∙ batching-is question l (names .well-formed) rt nm (names .salt) k m)
     right (names .root)
 
 -- ---- the honest questions
@@ -112,11 +112,12 @@ module _ (s : Sizes) (l : Lent) (right : WellLent s l) where
       let low : 2 ≤ 2 * leaves s = omega (arith, r .sizes .fits, r .sizes .ℓ-low) in
       length-drop (length (treeOf s l) - 32) (treeOf s l) ∙ omega (arith, tree-bytes s l r, low)
 
-  fit : (γ j : ℕ) → γ ≤ rows s → j + s .ℓ ≤ leaves s → Fit s 1 root (replicate (s .η) γ) (0 ∷ []) (upFrom j (s .ℓ))
+  fit : (γ j : ℕ) → γ ≤ rows s → j + s .ℓ ≤ leaves s → Fit s 1 root (l .salt) (replicate (s .η) γ) (0 ∷ []) (upFrom j (s .ℓ))
   fit γ j a b = record {
     sizes-right = right .sizes;
     m-right = refl;
     root-length = root-long;
+    salt-length = r .s-length;
     challenges-count = length-replicate (s .η) γ;
     points-count = refl;
     indices-count = length-upFrom j (s .ℓ);
@@ -127,16 +128,17 @@ module _ (s : Sizes) (l : Lent) (right : WellLent s l) where
   }
 
   abbrev read : ℕ → ℕ → Question
-  read γ j = record { sizes = s; m = 1; root = root; challenges = replicate (s .η) γ; evaluationPoints = 0 ∷ []; indices = upFrom j (s .ℓ) }
+  read γ j = record { sizes = s; m = 1; root = root; salt = l .salt; challenges = replicate (s .η) γ; evaluationPoints = 0 ∷ []; indices = upFrom j (s .ℓ) }
 
   read-is : (γ j : ℕ) → γ ≤ rows s → j + s .ℓ ≤ leaves s → readQuestion (honestQuestion s l γ j) ≡ read γ j
-  read-is γ j a b = question-back s 1 root (replicate (s .η) γ) (0 ∷ []) (upFrom j (s .ℓ)) (fit γ j a b)
+  read-is γ j a b = question-back s 1 root (l .salt) (replicate (s .η) γ) (0 ∷ []) (upFrom j (s .ℓ)) (fit γ j a b)
 
   names : (γ j : ℕ) → γ ≤ rows s → j + s .ℓ ≤ leaves s → Names s l (honestQuestion s l γ j)
   names γ j a b = record {
-    well-formed = question-right s 1 root (replicate (s .η) γ) (0 ∷ []) (upFrom j (s .ℓ)) (fit γ j a b);
+    well-formed = question-right s 1 root (l .salt) (replicate (s .η) γ) (0 ∷ []) (upFrom j (s .ℓ)) (fit γ j a b);
     sizes = ap (λ (u : Question). u .sizes) (read-is γ j a b);
     root = ap (λ (u : Question). u .root) (read-is γ j a b);
+    salt = ap (λ (u : Question). u .salt) (read-is γ j a b);
   }
 
   abbrev pub header : Bytes
@@ -177,10 +179,10 @@ module _ (s : Sizes) (l : Lent) (right : WellLent s l) where
       let o = calls-of c m in
       subst Answered (sym (o .4)) (honest-answered s l (honestQuestion s l (o .0) (o .1)) right (names (o .0) (o .1) (o .2) (o .3)))
 
-  collected : (γ j : ℕ) → γ ≤ rows s → j + s .ℓ ≤ leaves s → Collected (honestCalls s l) header root (honestCall s l (honestQuestion s l γ j))
-  collected γ j a b = record { listed = calls-in γ j a b; accepted = refl; under-header = starts-with γ j; under-root = names γ j a b .root }
+  collected : (γ j : ℕ) → γ ≤ rows s → j + s .ℓ ≤ leaves s → Collected (honestCalls s l) header root (l .salt) (honestCall s l (honestQuestion s l γ j))
+  collected γ j a b = record { listed = calls-in γ j a b; accepted = refl; under-header = starts-with γ j; under-root = names γ j a b .root; under-salt = names γ j a b .salt }
 
-  honest : (c : Call) → Collected (honestCalls s l) header root c → Honest (headerSizes header) l c
+  honest : (c : Call) → Collected (honestCalls s l) header root (l .salt) c → Honest (headerSizes header) l c
   honest c k =
       let o = calls-of c (k .listed) in
       subst (λ (t : Sizes). Honest t l c) (sym header-is)
@@ -200,7 +202,7 @@ module _ (s : Sizes) (l : Lent) (right : WellLent s l) where
 
   Under : ℕ → ℕ → Type 0
   Under i g =
-      (c : Call) × (a : ℕ) × Collected (honestCalls s l) header root c × Opens c i a
+      (c : Call) × (a : ℕ) × Collected (honestCalls s l) header root (l .salt) c × Opens c i a
       × (challengeOf (asked c) 0 ≡ getD (honestChallenges s) g 0) × (batchingOf (given c) 0 ≡ getD (honestAnswers s l) g [])
 
   under : (i g j a : ℕ) → g < suc (rows s) → j + s .ℓ ≤ leaves s → a < s .ℓ → j + a ≡ i → Under i g
@@ -225,7 +227,7 @@ module _ (s : Sizes) (l : Lent) (right : WellLent s l) where
       (λ (k : leaves s < i + s .ℓ). under i g (leaves s - s .ℓ) (i - (leaves s - s .ℓ)) low (omega (arith, r .sizes .fits)) (omega (arith, r .sizes .fits)) (omega (arith, r .sizes .fits)))
       (order (i + s .ℓ) (leaves s))
 
-  covers : Covered (honestCalls s l) header root (upFrom 0 (leaves s)) 0 (honestChallenges s) (honestAnswers s l)
+  covers : Covered (honestCalls s l) header root (l .salt) (upFrom 0 (leaves s)) 0 (honestChallenges s) (honestAnswers s l)
   unfolding Under
   covers = record {
     leaves-differ = upFrom-distinct 0 (leaves s);
@@ -246,10 +248,10 @@ honest-collection s l right =
       answered = answered s l right;
       covered = cov;
       found = λ nc.
-          let e = collected-replies (honestCalls s l) (headerBytes s 1) (committedRoot s l) (answered s l right) nc (upFrom 0 (leaves s)) 0 (honestChallenges s) (honestAnswers s l) cov in (
+          let e = collected-replies (honestCalls s l) (headerBytes s 1) (committedRoot s l) (l .salt) (answered s l right) nc (upFrom 0 (leaves s)) 0 (honestChallenges s) (honestAnswers s l) cov in (
             e,
             sym (ap (λ (t : Sizes). rowPolynomials t l) (sym same)
-                ∙ extracted-committed (honestCalls s l) (headerBytes s 1) (committedRoot s l) l (subst (λ (t : Sizes). WellLent t l) (sym same) right) (honest s l right)
+                ∙ extracted-committed (honestCalls s l) (headerBytes s 1) (committedRoot s l) (l .salt) l (subst (λ (t : Sizes). WellLent t l) (sym same) right) (honest s l right)
                 (answered s l right) nc (upFrom 0 (leaves s)) 0 (honestChallenges s) (honestAnswers s l) cov),
           );
     }

@@ -10,6 +10,7 @@ use borrow.Author.Tests.{eqb-true, lt-ltb}
 use Rattle.algebra.specs.Prime.{q}
 use Rattle.lists.specs.All.{all-imp}
 use Rattle.algebra.specs.Numbers.{Elements}
+use Rattle.tree.specs.Leaf.{saltLength}
 use Rattle.scheme.specs.Sizes.{SizesInOrder, elements, Sizes, leaves, rows, coefficientCount, blindCount, width}
 use Rattle.scheme.specs.Layers.{Lent}
 use Rattle.scheme.specs.Commit.{lentOk}
@@ -38,6 +39,7 @@ pub record LentFacts (s : Sizes) (l : Lent) : Type 0 where
   pub b-length : length (l .blinds) ≡ s .w * blindCount s
   pub m-length : length (l .masks) ≡ s .η * width s
   pub n-length : length (l .nonces) ≡ 32 * leaves s
+  pub s-length : length (l .salt) ≡ saltLength
   pub c-below : Elements (l .coefficients)
   pub t-below : Elements (l .tails)
   pub b-below : Elements (l .blinds)
@@ -58,6 +60,7 @@ lent-facts s l r =
       b-length = eqb-true _ _ (t .1 .1 .0);
       m-length = eqb-true _ _ (t .1 .1 .1 .0);
       n-length = eqb-true _ _ (t .1 .1 .1 .1 .0);
+      s-length = eqb-true _ _ (t .1 .1 .1 .1 .1 .0);
       c-below = elements-below _ (e .0);
       t-below = elements-below _ (e .1 .0);
       b-below = elements-below _ (e .1 .1 .0);

@@ -17,6 +17,8 @@ pub mod Parts
 pub mod ReplyReadBack
 pub mod Committed
 pub mod Complete
+-- strings and their salt
+pub mod Salted
 -- one length for sizing, opening and checking
 pub mod Opening
 pub mod Lengths

@@ -9,13 +9,14 @@ use lib.Dec.{eqb}
 use borrow.Author.Tests.{ne-eqb, not-false}
 use Rattle.lists.specs.All.{All, all-append, all-left, all-right}
 use Rattle.lists.specs.Bytes.{Bytes}
-use Rattle.lists.specs.Choice.{pick}
-use Rattle.lists.specs.Tests.{Test, verdictOf, passed, pass, verdict-hit, verdict-miss, verdict-go, verdict-stop}
+use Rattle.lists.specs.Choice.{pick, both-true, and-true}
+use Rattle.lists.specs.Tests.{Test, verdictOf, same, same-true, same-refl, passed, pass, verdict-hit, verdict-miss, verdict-go, verdict-stop}
 use Rattle.scheme.specs.Layers.{Lent}
 use Rattle.scheme.specs.Question.{Question, readQuestion, questionTests, questionVerdict}
 use Rattle.scheme.specs.Reply.{replyLength}
+use Rattle.scheme.specs.Commit.{lastDigest}
 use Rattle.scheme.specs.Sizing.{sizing, sizingC}
-use Rattle.scheme.specs.Open.{lengthsOk, wordsOk, rootOk, replyOf, openTests, openVerdict, opening, openingC}
+use Rattle.scheme.specs.Open.{lengthsOk, wordsOk, namesOk, replyOf, openTests, openVerdict, opening, openingC}
 use Rattle.scheme.proofs.Accepted.{question-numbers}
 
 -- ---- sizing
@@ -40,6 +41,17 @@ pub sizing-number : (question : Bytes) → sizing question .0 ≡ questionVerdic
 unfolding sizing
 sizing-number question = refl
 
+-- ---- the question's root and salt are those that are lent
+
+pub names-true : (root salt : Bytes) (l : Lent) (nodes : Bytes) → root ≡ lastDigest nodes → salt ≡ l .salt → namesOk root salt l nodes ≡ true
+names-true root salt l nodes e f =
+    both-true (same (lastDigest nodes) root) (same (l .salt) salt) (ap (same (lastDigest nodes)) e ∙ same-refl (lastDigest nodes)) (ap (same (l .salt)) f ∙ same-refl (l .salt))
+
+pub true-names : (root salt : Bytes) (l : Lent) (nodes : Bytes) → namesOk root salt l nodes ≡ true → (lastDigest nodes ≡ root) × (l .salt ≡ salt)
+true-names root salt l nodes e =
+    let s = and-true _ _ e in
+    (same-true _ _ (s .0), same-true _ _ (s .1))
+
 -- ---- opening
 
 module _ (question : Bytes) (l : Lent) (table : List ℕ) (nodes buffer : Bytes) where
@@ -47,7 +59,7 @@ module _ (question : Bytes) (l : Lent) (table : List ℕ) (nodes buffer : Bytes)
   u = readQuestion question
 
   abbrev lent : List Test
-  lent = (2, not (lengthsOk u l table nodes buffer)) ∷ (3, not (wordsOk l table)) ∷ (8, not (rootOk u nodes)) ∷ []
+  lent = (2, not (lengthsOk u l table nodes buffer)) ∷ (3, not (wordsOk l table)) ∷ (8, not (namesOk (u .root) (u .salt) l nodes)) ∷ []
 
   -- the question's own
   pub asked-verdict : (v : ℕ) → 0 < v → questionVerdict question ≡ v → openVerdict question l table nodes buffer ≡ v
@@ -64,6 +76,9 @@ module _ (question : Bytes) (l : Lent) (table : List ℕ) (nodes buffer : Bytes)
   pub lent-passed : openVerdict question l table nodes buffer ≡ 0 → (lengthsOk u l table nodes buffer ≡ true) × (wordsOk l table ≡ true)
   lent-passed z = let t = all-right (λ (t : Test). t .1 ≡ false) (questionTests question) lent (all-passed z) in (not-false _ (t .0), not-false _ (t .1 .0))
 
+  pub names-passed : openVerdict question l table nodes buffer ≡ 0 → namesOk (u .root) (u .salt) l nodes ≡ true
+  names-passed z = let t = all-right (λ (t : Test). t .1 ≡ false) (questionTests question) lent (all-passed z) in not-false _ (t .1 .1 .0)
+
   module _ (asked : questionVerdict question ≡ 0) where
     go : openVerdict question l table nodes buffer ≡ verdictOf lent
     unfolding openVerdict openTests
@@ -72,21 +87,21 @@ module _ (question : Bytes) (l : Lent) (table : List ℕ) (nodes buffer : Bytes)
     pub verdict-2 : lengthsOk u l table nodes buffer ≡ false → openVerdict question l table nodes buffer ≡ 2
     verdict-2 e = go ∙ verdict-hit 2 (not (lengthsOk u l table nodes buffer)) _ (ap not e)
 
-    after-2 : lengthsOk u l table nodes buffer ≡ true → openVerdict question l table nodes buffer ≡ verdictOf ((3, not (wordsOk l table)) ∷ (8, not (rootOk u nodes)) ∷ [])
+    after-2 : lengthsOk u l table nodes buffer ≡ true → openVerdict question l table nodes buffer ≡ verdictOf ((3, not (wordsOk l table)) ∷ (8, not (namesOk (u .root) (u .salt) l nodes)) ∷ [])
     after-2 e = go ∙ verdict-miss 2 (not (lengthsOk u l table nodes buffer)) _ (ap not e)
 
     pub verdict-3 : lengthsOk u l table nodes buffer ≡ true → wordsOk l table ≡ false → openVerdict question l table nodes buffer ≡ 3
     verdict-3 e f = after-2 e ∙ verdict-hit 3 (not (wordsOk l table)) _ (ap not f)
 
-    after-3 : lengthsOk u l table nodes buffer ≡ true → wordsOk l table ≡ true → openVerdict question l table nodes buffer ≡ verdictOf ((8, not (rootOk u nodes)) ∷ [])
+    after-3 : lengthsOk u l table nodes buffer ≡ true → wordsOk l table ≡ true → openVerdict question l table nodes buffer ≡ verdictOf ((8, not (namesOk (u .root) (u .salt) l nodes)) ∷ [])
     after-3 e f = after-2 e ∙ verdict-miss 3 (not (wordsOk l table)) _ (ap not f)
 
-    pub verdict-8 : lengthsOk u l table nodes buffer ≡ true → wordsOk l table ≡ true → rootOk u nodes ≡ false → openVerdict question l table nodes buffer ≡ 8
-    verdict-8 e f g = after-3 e f ∙ verdict-hit 8 (not (rootOk u nodes)) [] (ap not g)
+    pub verdict-8 : lengthsOk u l table nodes buffer ≡ true → wordsOk l table ≡ true → namesOk (u .root) (u .salt) l nodes ≡ false → openVerdict question l table nodes buffer ≡ 8
+    verdict-8 e f g = after-3 e f ∙ verdict-hit 8 (not (namesOk (u .root) (u .salt) l nodes)) [] (ap not g)
 
-    pub verdict-0 : lengthsOk u l table nodes buffer ≡ true → wordsOk l table ≡ true → rootOk u nodes ≡ true → openVerdict question l table nodes buffer ≡ 0
+    pub verdict-0 : lengthsOk u l table nodes buffer ≡ true → wordsOk l table ≡ true → namesOk (u .root) (u .salt) l nodes ≡ true → openVerdict question l table nodes buffer ≡ 0
     unfolding verdictOf
-    verdict-0 e f g = after-3 e f ∙ verdict-miss 8 (not (rootOk u nodes)) [] (ap not g)
+    verdict-0 e f g = after-3 e f ∙ verdict-miss 8 (not (namesOk (u .root) (u .salt) l nodes)) [] (ap not g)
 
   -- what opening leaves
 

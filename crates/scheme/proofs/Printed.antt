@@ -121,13 +121,13 @@ pub empty-input : printed [] ≡ 0x76 ∷ 0x65 ∷ 0x72 ∷ 0x64 ∷ 0x69 ∷ 0x
 unfolding printed text headerVerdict questionPart replyPart digits verdictOf checkVerdict questionTests readQuestion
 empty-input = refl
 
--- Case P, for all nonces, z = 6: the opener's reply to any well-formed question about it prints `verdict 0` and `1 1 5`
-pub case-p : (nonces question buffer : Bytes) (l : Lent) → l ≡ record { coefficients = 5 ∷ []; tails = 9 ∷ []; blinds = []; masks = 7 ∷ 2 ∷ []; nonces = nonces }
+-- Case P, for all nonces and salts, z = 6: the opener's reply to any well-formed question about it prints `verdict 0` and `1 1 5`
+pub case-p : (nonces salt question buffer : Bytes) (l : Lent) → l ≡ record { coefficients = 5 ∷ []; tails = 9 ∷ []; blinds = []; masks = 7 ∷ 2 ∷ []; nonces = nonces; salt = salt }
     → Names sizesP l question → readQuestion question .m ≡ 1 → readQuestion question .evaluationPoints ≡ 6 ∷ []
     → (r : Replied sizesP l question buffer) → length (question ++ r .reply) ≤ inputLimit
     → printed (question ++ r .reply) ≡ 0x76 ∷ 0x65 ∷ 0x72 ∷ 0x64 ∷ 0x69 ∷ 0x63 ∷ 0x74 ∷ 32 ∷ 48 ∷ 10 ∷ 49 ∷ 32 ∷ 49 ∷ 32 ∷ 53 ∷ 10 ∷ []
 unfolding text valueLines valueLine digits trueValues pieces evalN flatten upFrom
-case-p nonces question buffer l e names m z r few =
+case-p nonces salt question buffer l e names m z r few =
     printed-honest sizesP l question buffer names r few
     ∙ ap₂ (λ (k : ℕ) (zs : List ℕ). text 0 (valueLines k 1 (trueValues sizesP l zs))) m z
     ∙ ap (λ (x : Lent). text 0 (valueLines 1 1 (trueValues sizesP x (6 ∷ [])))) e

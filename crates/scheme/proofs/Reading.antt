@@ -1,25 +1,30 @@
 -- Reading aids: short laws that say of a definition what the paper says of its word.
-use mathlib.Core.Path.{_≡_, ap}
+use mathlib.Core.Path.{_≡_, sym, ap, _∙_}
 use mathlib.Core.Logic.{⊎-elim, _≢_}
 use mathlib.Core.Bool.{Bool, true, false}
-use mathlib.Core.List.{List, List·Memᴰ as Mem}
+use mathlib.Core.List.{List, _++_, map, flatten, map-map, List·Memᴰ as Mem}
 use Prim.Native.Nat.{ℕ, _≤_, _<_}
 use native.Mathlib.Omega.{arith}
 use lib.Dec.{eqb}
 use borrow.Author.Tests.{eqb-true}
+use Rattle.sponge.specs.Digest.{digest}
 use Rattle.lists.specs.Choice.{pick, tested}
 use Rattle.lists.specs.All.{All, all-append}
 use Rattle.lists.specs.Bytes.{Bytes}
 use Rattle.lists.specs.Pieces.{piece}
+use Rattle.lists.specs.Range.{upFrom}
 use Rattle.lists.specs.Tests.{Test, verdict-within}
 use Rattle.tree.specs.Sets.{missing}
+use Rattle.tree.specs.Leaf.{leafString}
+use Rattle.tree.specs.Tree.{tree, nodeStrings}
+use Rattle.tree.proofs.Strings.{tree-digests}
 use Rattle.tree.proofs.Missing.{Above, Missing, sibling, missing-of, missing-in, missing-sibling, sibling-missing}
-use Rattle.scheme.specs.Sizes.{Sizes, columns}
+use Rattle.scheme.specs.Sizes.{Sizes, arity, levels, nodePrefix, leaves, columns}
 use Rattle.scheme.specs.Matrix.{polynomial}
 use Rattle.scheme.specs.Layers.{Lent, column, rowPolynomials, heldPolynomial}
-use Rattle.scheme.specs.Question.{questionTests, questionVerdict}
+use Rattle.scheme.specs.Question.{readQuestion, questionTests, questionVerdict}
 use Rattle.scheme.specs.Sizing.{sizingC}
-use Rattle.scheme.specs.Commit.{commitTests, commitVerdict, committing}
+use Rattle.scheme.specs.Commit.{commitTests, commitVerdict, committing, tableOf, leafRecord, leafDigests, treeOf, committedStrings, lastDigest}
 use Rattle.scheme.specs.Open.{openTests, openVerdict, opening, openingC}
 use Rattle.scheme.specs.Check.{replyTests, checkVerdict, checking, checkingC}
 use Rattle.scheme.specs.Interpolate.{samplesTests, interpolationTests, interpolationVerdict, interpolating}
@@ -27,6 +32,7 @@ use Rattle.scheme.specs.Honest.{WellLent}
 use Rattle.scheme.proofs.Lent.{counted, lent-facts}
 use Rattle.scheme.proofs.Entries.{column-unblinded}
 use Rattle.scheme.proofs.Held.{held-committed}
+use Rattle.scheme.proofs.Opening.{true-names, names-passed}
 
 -- ---- the rows of a commitment hold the committed polynomials: all their coefficients, whatever the blinds
 
@@ -44,6 +50,26 @@ missing-means h s k p m = let o : Missing 2 h s (k, p) = missing-of 2 h s (k, p)
 
 pub means-missing : (h : ℕ) (s : List ℕ) (k p : ℕ) → k < h → (Above 2 s (k, p) → ⊥) → Above 2 s (k, sibling p) → Mem (k, p) (missing 2 h s)
 means-missing h s k p l n a = missing-in 2 h s k p (omega arith) (sibling-missing h s k p l n a)
+
+-- ---- the opener answers only where the tree's root and the salt that it is lent are the question's
+
+pub opened-names : (question : Bytes) (l : Lent) (table : List ℕ) (nodes buffer : Bytes) → openVerdict question l table nodes buffer ≡ 0
+    → (lastDigest nodes ≡ readQuestion question .root) × (l .salt ≡ readQuestion question .salt)
+opened-names question l table nodes buffer e =
+    true-names (readQuestion question .root) (readQuestion question .salt) l nodes (names-passed question l table nodes buffer e)
+
+-- ---- a tree holds the digests of the strings that committing hashes, and nothing else
+
+pub tree-holds-digests : (s : Sizes) (l : Lent) → treeOf s l ≡ flatten (map digest (committedStrings s l))
+unfolding treeOf committedStrings leafDigests
+tree-holds-digests s l =
+    let f : ℕ → Bytes = λ i. leafString (l .salt) i (leafRecord s (tableOf s l) (l .nonces) i) in
+    let pre : Bytes = nodePrefix s (l .salt) in
+    let e : map (λ i. digest (f i)) (upFrom 0 (leaves s)) ≡ map digest (map f (upFrom 0 (leaves s))) = sym (map-map digest f (upFrom 0 (leaves s))) in
+    ap flatten
+    (ap (tree digest (arity s) pre (levels s)) e
+    ∙ tree-digests digest (arity s) pre (levels s) (map f (upFrom 0 (leaves s)))
+    ∙ ap (λ (level : List Bytes). map digest (map f (upFrom 0 (leaves s)) ++ nodeStrings digest (arity s) pre (levels s) level)) (sym e))
 
 -- ---- a refusal leaves every lent slice, and every lent length, as it was
 

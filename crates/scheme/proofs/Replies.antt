@@ -20,7 +20,7 @@ use Rattle.scheme.specs.Reply.{rowValues, maskValue}
 use Rattle.scheme.specs.Check.{recordAt, challengeOf, batchingOf}
 use Rattle.scheme.specs.Collect.{Call, Answered, returned, asked, given, Collected, Opens, Holds, NoCollision, Covered, TakesOpened, AcceptedAt, CollectedReplies}
 use Rattle.scheme.proofs.Accepted.{leaves-high, degree-suc, points-are-below, points-differ, points-count}
-use Rattle.scheme.proofs.Bound.{same-record}
+use Rattle.scheme.proofs.Bound.{Placed, same-record}
 use Rattle.algebra.specs.Stacked.{stacked-value}
 use Rattle.scheme.proofs.AcceptedCall.{Poly, Facts, facts}
 
@@ -73,9 +73,9 @@ unfolding valuesAtN
 values-map ps z [] = refl
 values-map ps z (x ∷ xs) = ap (λ (t : List ℕ). evalN (valuesAtN ps x) z ∷ t) (values-map ps z xs)
 
-module _ (calls : List Call) (header root : Bytes) (ans : (c : Call) → Mem c calls → Answered c) (nc : NoCollision calls header root) where
+module _ (calls : List Call) (header root salt : Bytes) (ans : (c : Call) → Mem c calls → Answered c) (nc : NoCollision calls header root salt) where
   abbrev In : Call → Type 0
-  In c = Collected calls header root c
+  In c = Collected calls header root salt c
 
   abbrev s : Sizes
   s = headerSizes header
@@ -85,13 +85,16 @@ module _ (calls : List Call) (header root : Bytes) (ans : (c : Call) → Mem c c
       subst (λ (t : Sizes). Facts t c) (question-sizes (c .question) ∙ sym (header-sizes (c .question)) ∙ ap headerSizes (k .under-header))
       (facts c (ans c (k .listed)) (k .accepted))
 
+  placed-at : (c : Call) → In c → Placed s salt (asked c) (given c)
+  placed-at c k = subst (λ (t : Bytes). Placed s t (asked c) (given c)) (k .under-salt) (fact c k .placed)
+
   -- two calls of the collection have the same record at a leaf that both open
   same : (c₁ c₂ : Call) → In c₁ → In c₂ → (i a₁ a₂ : ℕ) → Opens c₁ i a₁ → Opens c₂ i a₂ → recordAt (given c₁) a₁ ≡ recordAt (given c₂) a₂
   same c₁ c₂ k₁ k₂ i a₁ a₂ o₁ o₂ =
-      same-record s (asked c₁) (asked c₂) (given c₁) (given c₂) (fact c₁ k₁ .placed) (fact c₂ k₂ .placed) (fact c₁ k₁ .rising) (fact c₂ k₂ .rising)
-      (k₁ .under-root ∙ sym (k₂ .under-root)) (nc c₁ c₂ k₁ k₂) i a₁ a₂ (o₁ .place) (o₂ .place) (o₁ .leaf) (o₂ .leaf)
+      same-record s salt (asked c₁) (asked c₂) (given c₁) (given c₂) (placed-at c₁ k₁) (placed-at c₂ k₂) (fact c₁ k₁ .rising) (fact c₂ k₂ .rising)
+      (k₁ .under-root ∙ sym (k₂ .under-root)) (k₁ .under-salt) (k₂ .under-salt) (nc c₁ c₂ k₁ k₂) i a₁ a₂ (o₁ .place) (o₂ .place) (o₁ .leaf) (o₂ .leaf)
 
-  module _ (L : List ℕ) (k : ℕ) (γs : List ℕ) (Rs : List (List ℕ)) (cov : Covered calls header root L k γs Rs) where
+  module _ (L : List ℕ) (k : ℕ) (γs : List ℕ) (Rs : List (List ℕ)) (cov : Covered calls header root salt L k γs Rs) where
     abbrev n : ℕ
     n = suc (degree s)
 
@@ -99,7 +102,7 @@ module _ (calls : List Call) (header root : Bytes) (ans : (c : Call) → Mem c c
     some-challenge = omega (arith, cov .enough-challenges)
 
     abbrev opener : (i : ℕ) → Mem i L → (g : ℕ) → g < length γs
-        → (c : Call) × (a : ℕ) × Collected calls header root c × Opens c i a × (challengeOf (asked c) k ≡ getD γs g 0) × (batchingOf (given c) k ≡ getD Rs g [])
+        → (c : Call) × (a : ℕ) × Collected calls header root salt c × Opens c i a × (challengeOf (asked c) k ≡ getD γs g 0) × (batchingOf (given c) k ≡ getD Rs g [])
     opener = cov .opened-under
 
     sizes-in-order : SizesInOrder s
@@ -148,7 +151,7 @@ module _ (calls : List Call) (header root : Bytes) (ans : (c : Call) → Mem c c
     unfolding rs
     rs-count = rowsN-length γs Rs (rows s)
 
-    rs-only : (ps : List (List ℕ)) → TakesOpened calls header root L ps → ps ≡ rs
+    rs-only : (ps : List (List ℕ)) → TakesOpened calls header root salt L ps → ps ≡ rs
     rs-only ps t =
         rowsN-unique ps rs n L (t .count ∙ sym rs-count) (t .polynomials) rs-polys (cov .enough-leaves) L-below (cov .leaves-differ)
         (mem-all (λ (e : ℕ). valuesAtN ps e ≡ valuesAtN rs e) L (λ i m.
@@ -156,7 +159,7 @@ module _ (calls : List Call) (header root : Bytes) (ans : (c : Call) → Mem c c
         t .takes (w .0) (w .2) i (w .1) (w .3) m ∙ sym (rs-takes (w .0) (w .2) i (w .1) (w .3) m)))
 
     module _ (z : ℕ) (A : List ℕ) (at : List ℕ) (differ : Distinct at) (enough : suc (degree s) ≤ length at)
-        (acc : (i : ℕ) → Mem i at → Mem i L × AcceptedAt calls header root z A i) where
+        (acc : (i : ℕ) → Mem i at → Mem i L × AcceptedAt calls header root salt z A i) where
       A-poly : Poly n A
       A-poly =
           let i = first-of (degree s) at enough in
@@ -188,17 +191,17 @@ module _ (calls : List Call) (header root : Bytes) (ans : (c : Call) → Mem c c
           (piece-map (λ x. evalN (valuesAtN rs x) z) (s .ν) (s .ν * i) (points s) ∙ values-map rs z (piece (s .ν) i (points s)))
           ∙ stacked-value (s .μ) (map (valuesAtN rs) (piece (s .ν) i (points s))) z
 
-pub collected-replies : (calls : List Call) (header root : Bytes) → CollectedReplies calls header root
-collected-replies calls header root ans nc L k γs Rs cov = record {
-  extracted = rs calls header root ans nc L k γs Rs cov;
+pub collected-replies : (calls : List Call) (header root salt : Bytes) → CollectedReplies calls header root salt
+collected-replies calls header root salt ans nc L k γs Rs cov = record {
+  extracted = rs calls header root salt ans nc L k γs Rs cov;
   takes-opened = record {
-    count = rs-count calls header root ans nc L k γs Rs cov;
-    polynomials = rs-polys calls header root ans nc L k γs Rs cov;
-    takes = rs-takes calls header root ans nc L k γs Rs cov;
+    count = rs-count calls header root salt ans nc L k γs Rs cov;
+    polynomials = rs-polys calls header root salt ans nc L k γs Rs cov;
+    takes = rs-takes calls header root salt ans nc L k γs Rs cov;
   };
-  only-one = rs-only calls header root ans nc L k γs Rs cov;
+  only-one = rs-only calls header root salt ans nc L k γs Rs cov;
   answers-true = λ z A at d e acc. record {
-    answer-true = A-true calls header root ans nc L k γs Rs cov z A at d e acc;
-    values-true = A-values calls header root ans nc L k γs Rs cov z A at d e acc;
+    answer-true = A-true calls header root salt ans nc L k γs Rs cov z A at d e acc;
+    values-true = A-values calls header root salt ans nc L k γs Rs cov z A at d e acc;
   };
 }

@@ -1,24 +1,29 @@
--- Small instances: a row holds what the definitions give and what the paper says. The starred ones, then those of lengths, versions and blinding rows.
+-- Small instances: a row holds what the definitions give and what the paper says. The starred ones, then those of lengths, versions, salts and blinding rows.
 use mathlib.Core.List.{List, [], _∷_, _++_, map, flatten}
 use Prim.Native.Nat.{ℕ, _+_, _-_, _*_, _%_}
 use lib.ListN.{take, getD, replicate}
 use Rattle.tree.specs.Sets.{Node, missing}
+use Rattle.tree.specs.Leaf.{leafString, saltLength}
+use Rattle.tree.specs.Tree.{nodeString}
 use Rattle.algebra.specs.Prime.{q}
 use Rattle.algebra.specs.Inverse.{invN}
 use Rattle.algebra.specs.Numbers.{evalN, valuesAtN}
-use Rattle.scheme.specs.Sizes.{Sizes, arity, levels, columns, leafPoint}
+use Rattle.scheme.specs.Sizes.{Sizes, arity, levels, nodePrefix, columns, leafPoint}
 use Rattle.scheme.specs.Layers.{Lent, column, rowPolynomials, maskPolynomial, batchingAnswer, evaluationAnswer, polynomialValues}
 use Rattle.scheme.specs.Question.{Question, questionLength, questionVerdict}
 use Rattle.scheme.specs.Reply.{replyLength}
 use Rattle.scheme.specs.Commit.{commitVerdict}
 use Rattle.scheme.specs.Interpolate.{interpolationVerdict}
 
--- case P: h = 1, all other sizes 1; coefficient 5, tail 9, mask 7 + 2X, γ 10
+-- case P: h = 1, all other sizes 1; coefficient 5, tail 9, mask 7 + 2X, γ 10; the paper gives no nonces and no salt: zeros
 abbrev pub sizesP : Sizes
 sizesP = record { h = 1; μ = 1; ν = 1; w = 1; ℓ = 1; η = 1; β = 0 }
 
+abbrev pub saltP : List ℕ
+saltP = replicate saltLength 0
+
 abbrev pub lentP : ℕ → Lent
-lentP x = record { coefficients = x ∷ []; tails = 9 ∷ []; blinds = []; masks = 7 ∷ 2 ∷ []; nonces = replicate 64 0 }
+lentP x = record { coefficients = x ∷ []; tails = 9 ∷ []; blinds = []; masks = 7 ∷ 2 ∷ []; nonces = replicate 64 0; salt = saltP }
 
 abbrev pub rowsP : List (List ℕ)
 rowsP = rowPolynomials sizesP (lentP 5)
@@ -32,7 +37,7 @@ sizes4 = record { h = 2; μ = 2; ν = 2; w = 1; ℓ = 1; η = 1; β = 0 }
 
 abbrev pub columns4 : ℕ → List ℕ
 columns4 z =
-    take (columns sizes4) (evaluationAnswer sizes4 (record { coefficients = 1 ∷ 2 ∷ 3 ∷ 4 ∷ []; tails = 0 ∷ 0 ∷ []; blinds = []; masks = 0 ∷ 0 ∷ 0 ∷ []; nonces = replicate 128 0 }) z)
+    take (columns sizes4) (evaluationAnswer sizes4 (record { coefficients = 1 ∷ 2 ∷ 3 ∷ 4 ∷ []; tails = 0 ∷ 0 ∷ []; blinds = []; masks = 0 ∷ 0 ∷ 0 ∷ []; nonces = replicate 128 0; salt = saltP }) z)
 
 abbrev pub values4 : ℕ → List ℕ
 values4 z = polynomialValues sizes4 z (columns4 z)
@@ -45,7 +50,7 @@ sizes8 ℓ = record { h = 3; μ = 1; ν = 4; w = 1; ℓ = ℓ; η = 1; β = 0 }
 abbrev pub verdict8 : ℕ → ℕ
 verdict8 ℓ =
     commitVerdict (sizes8 ℓ)
-    (record { coefficients = replicate 4 0; tails = replicate ℓ 0; blinds = []; masks = replicate (4 + ℓ) 0; nonces = replicate 256 0 }) (replicate 16 0) (replicate 480 0)
+    (record { coefficients = replicate 4 0; tails = replicate ℓ 0; blinds = []; masks = replicate (4 + ℓ) 0; nonces = replicate 256 0; salt = saltP }) (replicate 16 0) (replicate 480 0)
 
 -- the verdict of committing in case P with the coefficient x
 abbrev pub verdictP : ℕ → ℕ
@@ -70,22 +75,27 @@ starred =
     ∷ (verdictP 4294967290 ∷ verdictP 4294967291 ∷ [], 0 ∷ 3 ∷ [])
     ∷ []
 
--- ---- lengths, versions, blinding rows
+-- ---- lengths, versions, salts, blinding rows
 
 -- what case P's question holds, but for its root
 abbrev pub questionP : Question
-questionP = record { sizes = sizesP; m = 1; root = []; challenges = 10 ∷ []; evaluationPoints = 6 ∷ []; indices = 1 ∷ [] }
+questionP = record { sizes = sizesP; m = 1; root = []; salt = saltP; challenges = 10 ∷ []; evaluationPoints = 6 ∷ []; indices = 1 ∷ [] }
 
 -- the verdict on n bytes that begin with the mark and a version, all others 0: a 1 where the version is taken
 abbrev pub verdictV : ℕ → ℕ → ℕ
 verdictV n v = questionVerdict (take n (0x53 ∷ 0x57 ∷ 0x51 ∷ v ∷ replicate 11 0))
+
+-- the verdict of committing in case P with a salt of n bytes
+abbrev pub verdictS : ℕ → ℕ
+verdictS n =
+    commitVerdict sizesP (record { coefficients = 5 ∷ []; tails = 9 ∷ []; blinds = []; masks = 7 ∷ 2 ∷ []; nonces = replicate 64 0; salt = replicate n 0 }) (replicate 4 0) (replicate 96 0)
 
 -- μ = ν = 2 and β = 1, one polynomial 1 + 2X + 3X^2 + 4X^3 + 5X^4, blinds
 abbrev pub sizes5 : Sizes
 sizes5 = record { h = 2; μ = 2; ν = 2; w = 1; ℓ = 1; η = 1; β = 1 }
 
 abbrev pub lent5 : List ℕ → Lent
-lent5 blinds = record { coefficients = 1 ∷ 2 ∷ 3 ∷ 4 ∷ 5 ∷ []; tails = 0 ∷ 0 ∷ 0 ∷ []; blinds = blinds; masks = 0 ∷ 0 ∷ 0 ∷ []; nonces = replicate 128 0 }
+lent5 blinds = record { coefficients = 1 ∷ 2 ∷ 3 ∷ 4 ∷ 5 ∷ []; tails = 0 ∷ 0 ∷ 0 ∷ []; blinds = blinds; masks = 0 ∷ 0 ∷ 0 ∷ []; nonces = replicate 128 0; salt = saltP }
 
 abbrev pub columns5 : ℕ → List ℕ
 columns5 z = take (columns sizes5) (evaluationAnswer sizes5 (lent5 (7 ∷ [])) z)
@@ -95,7 +105,7 @@ verdict5 blinds = commitVerdict sizes5 (lent5 blinds) (replicate 16 0) (replicat
 
 -- the verdict of committing with μ and β and nothing lent: a 2 where the sizes are taken
 abbrev pub verdictβ : ℕ → ℕ → ℕ
-verdictβ μ β = commitVerdict (record { h = 1; μ = μ; ν = 1; w = 1; ℓ = 1; η = 1; β = β }) (record { coefficients = []; tails = []; blinds = []; masks = []; nonces = [] }) [] []
+verdictβ μ β = commitVerdict (record { h = 1; μ = μ; ν = 1; w = 1; ℓ = 1; η = 1; β = β }) (record { coefficients = []; tails = []; blinds = []; masks = []; nonces = []; salt = [] }) [] []
 
 -- the verdict of interpolating, with room for n coefficients
 abbrev pub verdictI : List ℕ → List ℕ → ℕ → ℕ
@@ -103,8 +113,10 @@ verdictI points values n = interpolationVerdict points values (replicate n 0)
 
 abbrev pub further : List (List ℕ × List ℕ)
 further =
-    (questionLength sizesP 1 ∷ replyLength questionP ∷ [], 57 ∷ 88 ∷ [])
-    ∷ (verdictV 14 2 ∷ verdictV 15 1 ∷ verdictV 15 2 ∷ verdictV 15 3 ∷ [], 6 ∷ 5 ∷ 1 ∷ 5 ∷ [])
+    (questionLength sizesP 1 ∷ replyLength questionP ∷ [], 89 ∷ 88 ∷ [])
+    ∷ (verdictV 14 3 ∷ verdictV 15 1 ∷ verdictV 15 2 ∷ verdictV 15 3 ∷ verdictV 15 4 ∷ [], 6 ∷ 5 ∷ 5 ∷ 1 ∷ 5 ∷ [])
+    ∷ (verdictS 31 ∷ verdictS 32 ∷ verdictS 33 ∷ [], 2 ∷ 0 ∷ 2 ∷ [])
+    ∷ (leafString (7 ∷ 8 ∷ []) 258 (9 ∷ []) ++ nodeString 2 (nodePrefix sizesP (7 ∷ 8 ∷ [])) (λ c. c ∷ []) 3, 0 ∷ 7 ∷ 8 ∷ 2 ∷ 1 ∷ 9 ∷ 1 ∷ 7 ∷ 8 ∷ 6 ∷ 7 ∷ [])
     ∷ (column sizes5 (lent5 (7 ∷ [])) 0 ++ column sizes5 (lent5 (7 ∷ [])) 1, 1 ∷ 2 ∷ 7 ∷ (q - 4) ∷ 4 ∷ 5 ∷ [])
     ∷ (columns5 10 ++ polynomialValues sizes5 10 (columns5 10), 721 ∷ 536 ∷ 54321 ∷ [])
     ∷ (columns5 0 ++ polynomialValues sizes5 0 (columns5 0), 1 ∷ (q - 4) ∷ 1 ∷ [])

@@ -42,10 +42,10 @@ replyElements u r = every (all elements (r .batching) ∷ all elements (r .answe
 
 -- 8: the strings of the opened leaves, and the root that they and the missing nodes give
 unfoldable pub leafStrings : Question → Reply → List Bytes
-leafStrings u r = map (λ a. leafString (leafAt u a) (recordAt r a)) (upFrom 0 (u .sizes .ℓ))
+leafStrings u r = map (λ a. leafString (u .salt) (leafAt u a) (recordAt r a)) (upFrom 0 (u .sizes .ℓ))
 
 unfoldable pub replyRoot : Question → Reply → Bytes
-replyRoot u r = rootFrom digest (arity (u .sizes)) (nodePrefix (u .sizes)) (levels (u .sizes)) (u .indices) (map digest (leafStrings u r)) (r .nodes)
+replyRoot u r = rootFrom digest (arity (u .sizes)) (nodePrefix (u .sizes) (u .salt)) (levels (u .sizes)) (u .indices) (map digest (leafStrings u r)) (r .nodes)
 
 -- 9: at place a the batching answer k agrees with the opened values: R_k(e_i) = M_k(e_i) + γ_k P_0(e_i) + γ_k^2 P_1(e_i) + ..
 unfoldable pub batchingAt : Question → Reply → ℕ → ℕ → Bool
@@ -98,4 +98,6 @@ checkingC question reply buffer =
 
 -- the strings that an accepted call hashes: leaf strings, then node strings
 unfoldable pub hashedStrings : Question → Reply → List Bytes
-hashedStrings u r = leafStrings u r ++ hashed digest (arity (u .sizes)) (nodePrefix (u .sizes)) (levels (u .sizes)) (u .indices) (map digest (leafStrings u r)) (r .nodes)
+hashedStrings u r =
+    leafStrings u r
+    ++ hashed digest (arity (u .sizes)) (nodePrefix (u .sizes) (u .salt)) (levels (u .sizes)) (u .indices) (map digest (leafStrings u r)) (r .nodes)

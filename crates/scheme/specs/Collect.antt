@@ -51,12 +51,13 @@ asked c = readQuestion (c .question)
 abbrev pub given : Call → Reply
 given c = readReply (asked c) (c .reply)
 
--- the collection under a root and a header: the accepted calls of the list whose questions hold both
-pub record Collected (calls : List Call) (header root : Bytes) (c : Call) : Type 0 where
+-- the collection under a header, a root and a salt: the accepted calls of the list whose questions hold all three
+pub record Collected (calls : List Call) (header root salt : Bytes) (c : Call) : Type 0 where
   pub listed : Mem c calls
   pub accepted : c .verdict ≡ 0
   pub under-header : take headerLength (c .question) ≡ header
   pub under-root : asked c .root ≡ root
+  pub under-salt : asked c .salt ≡ salt
 
 -- a call opens leaf i, at place a of its indices
 pub record Opens (c : Call) (i a : ℕ) : Type 0 where
@@ -69,11 +70,11 @@ pub record Holds (c : Call) (z : ℕ) (A : List ℕ) (p : ℕ) : Type 0 where
   pub point : pointOf (asked c) p ≡ z
   pub answer : answerOf (given c) p ≡ A
 
-module _ (calls : List Call) (header root : Bytes) where
+module _ (calls : List Call) (header root salt : Bytes) where
   -- no two different strings hashed by the collection's calls share a digest
   abbrev pub NoCollision : Type 0
   NoCollision =
-      (c₁ c₂ : Call) → Collected calls header root c₁ → Collected calls header root c₂
+      (c₁ c₂ : Call) → Collected calls header root salt c₁ → Collected calls header root salt c₂
       → (x y : Bytes) → Mem x (hashedStrings (asked c₁) (given c₁)) → Mem y (hashedStrings (asked c₂) (given c₂)) → digest x ≡ digest y → x ≡ y
 
   -- d + 1 leaves or more, and in repetition k μ + β + 1 different challenges with one batching answer each,
@@ -86,20 +87,20 @@ module _ (calls : List Call) (header root : Bytes) where
     pub enough-challenges : length challenges ≡ suc (rows (headerSizes header))
     pub one-answer-each : length answers ≡ length challenges
     pub opened-under : (i : ℕ) → Mem i L → (g : ℕ) → g < length challenges
-        → (c : Call) × (a : ℕ) × Collected calls header root c × Opens c i a
+        → (c : Call) × (a : ℕ) × Collected calls header root salt c × Opens c i a
         × (challengeOf (asked c) k ≡ getD challenges g 0) × (batchingOf (given c) k ≡ getD answers g [])
 
   -- a list of rows, of degree at most d, that takes the values opened at these leaves, in every one of the calls
   pub record TakesOpened (L : List ℕ) (ps : List (List ℕ)) : Type 0 where
     pub count : length ps ≡ rows (headerSizes header)
     pub polynomials : Polys (suc (degree (headerSizes header))) ps
-    pub takes : (c : Call) → Collected calls header root c → (i a : ℕ) → Opens c i a → Mem i L
+    pub takes : (c : Call) → Collected calls header root salt c → (i a : ℕ) → Opens c i a → Mem i L
         → valuesAtN ps (leafPoint i) ≡ rowValues (headerSizes header) (recordAt (given c) a)
 
   -- an answer for z is accepted at leaf i: a call of the collection that holds it for z opens the leaf
   pub record AcceptedAt (z : ℕ) (A : List ℕ) (i : ℕ) : Type 0 where
     pub call : Call
-    pub collected : Collected calls header root call
+    pub collected : Collected calls header root salt call
     pub at-leaf : (a : ℕ) × Opens call i a
     pub at-point : (p : ℕ) × Holds call z A p
 
@@ -107,7 +108,7 @@ module _ (calls : List Call) (header root : Bytes) where
   -- and each call that holds it for z returns, for that point, the values at z of the polynomials that the rows hold
   pub record TrueValues (ps : List (List ℕ)) (z : ℕ) (A : List ℕ) : Type 0 where
     pub answer-true : A ≡ map (λ x. evalN (valuesAtN ps x) z) (points (headerSizes header))
-    pub values-true : (c : Call) → Collected calls header root c → (p : ℕ) → Holds c z A p → (i : ℕ) → i < headerSizes header .w
+    pub values-true : (c : Call) → Collected calls header root salt c → (p : ℕ) → Holds c z A p → (i : ℕ) → i < headerSizes header .w
         → getD (returned c) (p * headerSizes header .w + i) 0 ≡ evalN (heldPolynomial (headerSizes header) ps i) z
 
   -- what is claimed: exactly one list of rows takes the opened values, and every evaluation answer that is accepted

@@ -8,20 +8,20 @@ use Rattle.sponge.specs.Digest.{digest}
 use Rattle.lists.specs.Choice.{pick}
 use Rattle.lists.specs.Range.{upFrom}
 use Rattle.lists.specs.Bytes.{Bytes, bytesOf}
-use Rattle.tree.specs.Tree.{tree}
+use Rattle.tree.specs.Tree.{tree, nodeStrings}
 use Rattle.algebra.specs.Numbers.{valuesAtN}
 use Rattle.lists.specs.Pieces.{piece}
 use Rattle.lists.specs.Tests.{Test, verdictOf, every}
 use Rattle.scheme.specs.Sizes.{elements, Sizes, arity, levels, nodePrefix, leaves, rows, coefficientCount, blindCount, width, recordValues, leafPoint, sizesOk}
 use Rattle.scheme.specs.Layers.{Lent, rowPolynomials, maskPolynomial}
-use Rattle.tree.specs.Leaf.{leafString}
+use Rattle.tree.specs.Leaf.{leafString, saltLength}
 
 -- the lengths of what is lent, and of what is filled
 unfoldable pub lentOk : Sizes → Lent → Bool
 lentOk s l =
     every
     (eqb (length (l .coefficients)) (s .w * coefficientCount s) ∷ eqb (length (l .tails)) (rows s * s .ℓ) ∷ eqb (length (l .blinds)) (s .w * blindCount s)
-    ∷ eqb (length (l .masks)) (s .η * width s) ∷ eqb (length (l .nonces)) (32 * leaves s) ∷ [])
+    ∷ eqb (length (l .masks)) (s .η * width s) ∷ eqb (length (l .nonces)) (32 * leaves s) ∷ eqb (length (l .salt)) saltLength ∷ [])
 
 unfoldable pub filledOk : Sizes → List ℕ → Bytes → Bool
 filledOk s table nodes = every (eqb (length table) (leaves s * recordValues s) ∷ eqb (length nodes) (32 * (2 * leaves s - 1)) ∷ [])
@@ -49,11 +49,17 @@ unfoldable pub leafRecord : Sizes → List ℕ → Bytes → ℕ → Bytes
 leafRecord s table nonces i = bytesOf (piece (recordValues s) i table) ++ piece 32 i nonces
 
 -- the digests of the leaves, and the tree over them: leaves, then each level above, root last
-unfoldable pub leafDigests : Sizes → List ℕ → Bytes → List Bytes
-leafDigests s table nonces = map (λ i. digest (leafString i (leafRecord s table nonces i))) (upFrom 0 (leaves s))
+unfoldable pub leafDigests : Sizes → List ℕ → Bytes → Bytes → List Bytes
+leafDigests s table nonces salt = map (λ i. digest (leafString salt i (leafRecord s table nonces i))) (upFrom 0 (leaves s))
 
 unfoldable pub treeOf : Sizes → Lent → Bytes
-treeOf s l = flatten (tree digest (arity s) (nodePrefix s) (levels s) (leafDigests s (tableOf s l) (l .nonces)))
+treeOf s l = flatten (tree digest (arity s) (nodePrefix s (l .salt)) (levels s) (leafDigests s (tableOf s l) (l .nonces) (l .salt)))
+
+-- the strings that committing hashes: those of the leaves, then those of the nodes, level by level
+unfoldable pub committedStrings : Sizes → Lent → List Bytes
+committedStrings s l =
+    map (λ i. leafString (l .salt) i (leafRecord s (tableOf s l) (l .nonces) i)) (upFrom 0 (leaves s))
+    ++ nodeStrings digest (arity s) (nodePrefix s (l .salt)) (levels s) (leafDigests s (tableOf s l) (l .nonces) (l .salt))
 
 -- the tree's root, its last 32 bytes
 abbrev pub lastDigest : Bytes → Bytes

@@ -27,11 +27,12 @@ pub record WellLent (s : Sizes) (l : Lent) : Type 0 where
   pub lengths : lentOk s l ≡ true
   pub elements : every (lentElements l) ≡ true
 
--- a well-formed question that names the root and the sizes of a commitment
+-- a well-formed question that names the root, the salt and the sizes of a commitment
 pub record Names (s : Sizes) (l : Lent) (question : Bytes) : Type 0 where
   pub well-formed : questionVerdict question ≡ 0
   pub sizes : readQuestion question .sizes ≡ s
   pub root : readQuestion question .root ≡ lastDigest (treeOf s l)
+  pub salt : readQuestion question .salt ≡ l .salt
 
 -- a reply of the length that sizing answers, that the opener makes, and that is accepted with the true values, by both entries
 pub record Replied (s : Sizes) (l : Lent) (question buffer : Bytes) : Type 0 where

@@ -17,9 +17,9 @@ use Rattle.scheme.specs.Honest.{trueValues}
 unfoldable pub headerBytes : Sizes → ℕ → Bytes
 headerBytes s m = mark ++ (s .h ∷ s .μ ∷ (littleEndian 2 (s .ν) ++ (littleEndian 2 (s .w) ++ (s .ℓ ∷ s .η ∷ m ∷ s .β ∷ []))))
 
-unfoldable pub questionBytes : Sizes → ℕ → Bytes → List ℕ → List ℕ → List ℕ → Bytes
-questionBytes s m root challenges points indices =
-    headerBytes s m ++ (root ++ (bytesOf challenges ++ (bytesOf points ++ flatten (map (littleEndian 2) indices))))
+unfoldable pub questionBytes : Sizes → ℕ → Bytes → Bytes → List ℕ → List ℕ → List ℕ → Bytes
+questionBytes s m root salt challenges points indices =
+    headerBytes s m ++ (root ++ (salt ++ (bytesOf challenges ++ (bytesOf points ++ flatten (map (littleEndian 2) indices)))))
 
 -- the root of the commitment
 abbrev pub committedRoot : Sizes → Lent → Bytes
@@ -27,7 +27,7 @@ committedRoot s l = lastDigest (treeOf s l)
 
 -- the challenge γ in every repetition, the point 0, and the ℓ leaves from j on
 abbrev pub honestQuestion : Sizes → Lent → ℕ → ℕ → Bytes
-honestQuestion s l γ j = questionBytes s 1 (committedRoot s l) (replicate (s .η) γ) (0 ∷ []) (upFrom j (s .ℓ))
+honestQuestion s l γ j = questionBytes s 1 (committedRoot s l) (l .salt) (replicate (s .η) γ) (0 ∷ []) (upFrom j (s .ℓ))
 
 -- the check's call with the opener's reply
 abbrev pub honestCall : Sizes → Lent → Bytes → Call
@@ -58,6 +58,6 @@ honestCalls s l = flatten (map (honestRuns s l) (honestChallenges s))
 -- up to collisions, which nobody can rule out; and the rows that it then finds are the committed ones.
 pub record HonestCollection (s : Sizes) (l : Lent) : Type 0 where
   pub answered : (c : Call) → Mem c (honestCalls s l) → Answered c
-  pub covered : Covered (honestCalls s l) (headerBytes s 1) (committedRoot s l) (upFrom 0 (leaves s)) 0 (honestChallenges s) (honestAnswers s l)
-  pub found : NoCollision (honestCalls s l) (headerBytes s 1) (committedRoot s l)
-      → (e : Extracted (honestCalls s l) (headerBytes s 1) (committedRoot s l) (upFrom 0 (leaves s))) × (e .extracted ≡ rowPolynomials s l)
+  pub covered : Covered (honestCalls s l) (headerBytes s 1) (committedRoot s l) (l .salt) (upFrom 0 (leaves s)) 0 (honestChallenges s) (honestAnswers s l)
+  pub found : NoCollision (honestCalls s l) (headerBytes s 1) (committedRoot s l) (l .salt)
+      → (e : Extracted (honestCalls s l) (headerBytes s 1) (committedRoot s l) (l .salt) (upFrom 0 (leaves s))) × (e .extracted ≡ rowPolynomials s l)

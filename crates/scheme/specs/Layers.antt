@@ -12,16 +12,24 @@ use Rattle.scheme.specs.Sizes.{Sizes, columns, rows, width, points}
 use Rattle.scheme.specs.Matrix.{columnOf}
 
 -- what the committer is lent to read: coefficients polynomial by polynomial, tails row by row, blinds polynomial by polynomial, column by column and row by row,
--- masks repetition by repetition, nonces leaf by leaf
+-- masks repetition by repetition, nonces leaf by leaf, and the salt
 pub record Lent : Type 0 where
   pub coefficients : List ℕ
   pub tails : List ℕ
   pub blinds : List ℕ
   pub masks : List ℕ
   pub nonces : List ℕ
+  pub salt : List ℕ
 
-abbrev pub lentOf : List ℕ → List ℕ → List ℕ → List ℕ → List ℕ → Lent
-lentOf coefficients tails blinds masks nonces = record { coefficients = coefficients; tails = tails; blinds = blinds; masks = masks; nonces = nonces }
+abbrev pub lentOf : List ℕ → List ℕ → List ℕ → List ℕ → List ℕ → List ℕ → Lent
+lentOf coefficients tails blinds masks nonces salt = record {
+  coefficients = coefficients;
+  tails = tails;
+  blinds = blinds;
+  masks = masks;
+  nonces = nonces;
+  salt = salt;
+}
 
 -- ---- polynomials to rows (PCS)
 

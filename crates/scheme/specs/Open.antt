@@ -1,5 +1,5 @@
 -- Opening: its tests, and the reply to a question.
-use mathlib.Core.Bool.{Bool, not}
+use mathlib.Core.Bool.{Bool, not, _&&_}
 use mathlib.Core.List.{List, [], _∷_, _++_, map, flatten}
 use Prim.Native.Nat.{ℕ}
 use lib.Dec.{eqb}
@@ -41,14 +41,14 @@ lengthsOk u l table nodes buffer = every (lentOk (u .sizes) l ∷ filledOk (u .s
 abbrev pub wordsOk : Lent → List ℕ → Bool
 wordsOk l table = every (elements table ∷ lentElements l)
 
--- 8: the lent tree has the question's root
-abbrev pub rootOk : Question → Bytes → Bool
-rootOk u nodes = same (lastDigest nodes) (u .root)
+-- 8: a question with this root and this salt names the lent tree and the lent salt
+abbrev pub namesOk : Bytes → Bytes → Lent → Bytes → Bool
+namesOk root salt l nodes = same (lastDigest nodes) root && same (l .salt) salt
 
 unfoldable pub openTests : Bytes → Lent → List ℕ → Bytes → Bytes → List Test
 openTests question l table nodes buffer =
     let u : Question = readQuestion question in
-    questionTests question ++ ((2, not (lengthsOk u l table nodes buffer)) ∷ (3, not (wordsOk l table)) ∷ (8, not (rootOk u nodes)) ∷ [])
+    questionTests question ++ ((2, not (lengthsOk u l table nodes buffer)) ∷ (3, not (wordsOk l table)) ∷ (8, not (namesOk (u .root) (u .salt) l nodes)) ∷ [])
 
 unfoldable pub openVerdict : Bytes → Lent → List ℕ → Bytes → Bytes → ℕ
 openVerdict question l table nodes buffer = verdictOf (openTests question l table nodes buffer)

@@ -7,11 +7,12 @@ use lib.ListN.{length, getD, take, drop}
 use Rattle.lists.specs.Bytes.{Bytes, fromBytes, littleEndian, halves, words}
 use Rattle.lists.specs.Tests.{Test, verdictOf, all, same}
 use Rattle.lists.specs.Rising.{rising}
+use Rattle.tree.specs.Leaf.{saltLength}
 use Rattle.scheme.specs.Sizes.{Sizes, leaves, sizesOk, mostPoints, pointsOk, elements}
 
 -- "SWQ", and the version in two bytes
 abbrev pub version : ℕ
-version = 2
+version = 3
 
 abbrev pub mark : Bytes
 mark = 0x53 ∷ 0x57 ∷ 0x51 ∷ littleEndian 2 version
@@ -39,13 +40,17 @@ pub record Question : Type 0 where
   pub sizes : Sizes
   pub m : ℕ
   pub root : Bytes
+  pub salt : Bytes
   pub challenges : List ℕ
   pub evaluationPoints : List ℕ
   pub indices : List ℕ
 
--- header, root 32, challenges 4η, points 4m, indices 2ℓ: where each begins, and the length of all
+-- header, root 32, salt 32, challenges 4η, points 4m, indices 2ℓ: where each begins, and the length of all
+abbrev pub saltAt : ℕ
+saltAt = headerLength + 32
+
 abbrev pub challengesAt : ℕ
-challengesAt = headerLength + 32
+challengesAt = saltAt + saltLength
 
 abbrev pub pointsAt : Sizes → ℕ
 pointsAt s = challengesAt + 4 * s .η
@@ -66,6 +71,7 @@ questionAt s m b = record {
   sizes = s;
   m = m;
   root = take 32 (drop headerLength b);
+  salt = take saltLength (drop saltAt b);
   challenges = words (s .η) (drop challengesAt b);
   evaluationPoints = words m (drop (pointsAt s) b);
   indices = halves (s .ℓ) (drop (indicesAt s m) b);

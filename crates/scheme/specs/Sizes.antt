@@ -21,15 +21,15 @@ pub record Sizes : Type 0 where
 abbrev pub sizesOf : ℕ → ℕ → ℕ → ℕ → ℕ → ℕ → ℕ → Sizes
 sizesOf h μ ν w ℓ η β = record { h = h; μ = μ; ν = ν; w = w; ℓ = ℓ; η = η; β = β }
 
--- the children of a node of the tree, the levels below its root, and what a node's string begins with: a function of the sizes each, so that one place says it
+-- the children of a node of the tree, the levels below its root, and what a node's string begins with, 0x01 and the salt: a function of the sizes each, so that one place says it
 abbrev pub arity : Sizes → ℕ
 arity s = 2
 
 abbrev pub levels : Sizes → ℕ
 levels s = s .h
 
-abbrev pub nodePrefix : Sizes → Bytes
-nodePrefix s = 1 ∷ []
+abbrev pub nodePrefix : Sizes → Bytes → Bytes
+nodePrefix s salt = 1 ∷ salt
 
 -- N, the number of leaves
 abbrev pub leaves : Sizes → ℕ

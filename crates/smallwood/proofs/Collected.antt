@@ -72,6 +72,6 @@ answered x (c κs a r e h) = answered-c κs a r e h
 answered x (proof-rust κs a r e h) = answered-proof κs a r e h
 answered x (proof-c κs a r e h) = answered-proof-c κs a r e h
 
-pub collected : (calls : List AnyCall) (header root : Bytes) → ((x : AnyCall) → Mem x calls → Made x) → NoCollision (joined calls) header root
-    → (L : List ℕ) (k : ℕ) (challenges : List ℕ) (answers : List (List ℕ)) → Covered (joined calls) header root L k challenges answers → Extracted (joined calls) header root L
-collected calls header root made = collected-proofs calls header root (λ x m. answered x (made x m))
+pub collected : (calls : List AnyCall) (header root salt : Bytes) → ((x : AnyCall) → Mem x calls → Made x) → NoCollision (joined calls) header root salt
+    → (L : List ℕ) (k : ℕ) (challenges : List ℕ) (answers : List (List ℕ)) → Covered (joined calls) header root salt L k challenges answers → Extracted (joined calls) header root salt L
+collected calls header root salt made = collected-proofs calls header root salt (λ x m. answered x (made x m))

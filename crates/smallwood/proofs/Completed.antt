@@ -103,16 +103,16 @@ module _ (s : Sizes) (l : Lent) (right : WellLent s l) where
 
 -- a call of each: committing, sizing, opening, checking
 module _
-    (κ₁ : Lfts 7) (a₁ : Dens κ₁ commit-kinds.ps) (r₁ : resT commit-kinds.r κ₁ .Denot) (e₁ : AtExit (endedOf 7 commit-kinds.ps commit-kinds.r) κ₁) (h₁ : commit.Learnt κ₁ a₁ r₁ e₁)
+    (κ₁ : Lfts 8) (a₁ : Dens κ₁ commit-kinds.ps) (r₁ : resT commit-kinds.r κ₁ .Denot) (e₁ : AtExit (endedOf 8 commit-kinds.ps commit-kinds.r) κ₁) (h₁ : commit.Learnt κ₁ a₁ r₁ e₁)
     (κ₂ : Lfts 1) (a₂ : Dens κ₂ size-kinds.ps) (r₂ : resT size-kinds.r κ₂ .Denot) (e₂ : AtExit (endedOf 1 size-kinds.ps size-kinds.r) κ₂) (h₂ : size.Learnt κ₂ a₂ r₂ e₂)
-    (κ₃ : Lfts 9) (a₃ : Dens κ₃ open-kinds.ps) (r₃ : resT open-kinds.r κ₃ .Denot) (e₃ : AtExit (endedOf 9 open-kinds.ps open-kinds.r) κ₃) (h₃ : open-reads.Learnt κ₃ a₃ r₃ e₃)
+    (κ₃ : Lfts 10) (a₃ : Dens κ₃ open-kinds.ps) (r₃ : resT open-kinds.r κ₃ .Denot) (e₃ : AtExit (endedOf 10 open-kinds.ps open-kinds.r) κ₃) (h₃ : open-reads.Learnt κ₃ a₃ r₃ e₃)
     (κ₄ : Lfts 3) (a₄ : Dens κ₄ check-kinds.ps) (r₄ : resT check-kinds.r κ₄ .Denot) (e₄ : AtExit (endedOf 3 check-kinds.ps check-kinds.r) κ₄) (h₄ : check.Learnt κ₄ a₄ r₄ e₄) where
   -- what committing was lent
   abbrev sizesGiven : Sizes
   sizesGiven = sizesOf (a₁ .0) (a₁ .1 .0) (a₁ .1 .1 .0) (a₁ .1 .1 .1 .0) (a₁ .1 .1 .1 .1 .0) (a₁ .1 .1 .1 .1 .1 .0) (a₁ .1 .1 .1 .1 .1 .1 .0)
 
   abbrev lentGiven : Lent
-  lentGiven = lentOf (now (a₁ .1 .1 .1 .1 .1 .1 .1 .0)) (now (a₁ .1 .1 .1 .1 .1 .1 .1 .1 .0)) (now (a₁ .1 .1 .1 .1 .1 .1 .1 .1 .1 .0)) (now (a₁ .1 .1 .1 .1 .1 .1 .1 .1 .1 .1 .0)) (now (a₁ .1 .1 .1 .1 .1 .1 .1 .1 .1 .1 .1 .0))
+  lentGiven = lentOf (now (a₁ .1 .1 .1 .1 .1 .1 .1 .0)) (now (a₁ .1 .1 .1 .1 .1 .1 .1 .1 .0)) (now (a₁ .1 .1 .1 .1 .1 .1 .1 .1 .1 .0)) (now (a₁ .1 .1 .1 .1 .1 .1 .1 .1 .1 .1 .0)) (now (a₁ .1 .1 .1 .1 .1 .1 .1 .1 .1 .1 .1 .0)) (now (a₁ .1 .1 .1 .1 .1 .1 .1 .1 .1 .1 .1 .1 .0))
 
   -- the question that sizing was lent, and the length that it gave
   abbrev asked : Bytes
@@ -124,33 +124,33 @@ module _
   -- the calls belong together: each is lent what those before it left
   pub record Chained : Type 0 where
     pub right : WellLent sizesGiven lentGiven
-    pub room : filledOk sizesGiven (now (a₁ .1 .1 .1 .1 .1 .1 .1 .1 .1 .1 .1 .1 .0)) (now (a₁ .1 .1 .1 .1 .1 .1 .1 .1 .1 .1 .1 .1 .1 .0)) ≡ true
+    pub room : filledOk sizesGiven (now (a₁ .1 .1 .1 .1 .1 .1 .1 .1 .1 .1 .1 .1 .1 .0)) (now (a₁ .1 .1 .1 .1 .1 .1 .1 .1 .1 .1 .1 .1 .1 .1 .0)) ≡ true
     pub names : Names sizesGiven lentGiven asked
-    -- opening: the same question and the same secrets, the table and the tree as committing left them, a buffer of the length that sizing gave
+    -- opening: the same question, the same secrets and salt, the table and the tree as committing left them, a buffer of the length that sizing gave
     pub opened-question : now (a₃ .0) ≡ asked
-    pub opened-lent : lentOf (now (a₃ .1 .0)) (now (a₃ .1 .1 .0)) (now (a₃ .1 .1 .1 .0)) (now (a₃ .1 .1 .1 .1 .0)) (now (a₃ .1 .1 .1 .1 .1 .1 .0)) ≡ lentGiven
-    pub opened-table : now (a₃ .1 .1 .1 .1 .1 .0) ≡ now (e₁ .1 .1 .1 .1 .1 .1 .1 .1 .1 .1 .1 .1 .0)
-    pub opened-tree : now (a₃ .1 .1 .1 .1 .1 .1 .1 .0) ≡ now (e₁ .1 .1 .1 .1 .1 .1 .1 .1 .1 .1 .1 .1 .1 .0)
-    pub buffer : length (now (a₃ .1 .1 .1 .1 .1 .1 .1 .1 .0)) ≡ planned
+    pub opened-lent : lentOf (now (a₃ .1 .0)) (now (a₃ .1 .1 .0)) (now (a₃ .1 .1 .1 .0)) (now (a₃ .1 .1 .1 .1 .0)) (now (a₃ .1 .1 .1 .1 .1 .1 .0)) (now (a₃ .1 .1 .1 .1 .1 .1 .1 .0)) ≡ lentGiven
+    pub opened-table : now (a₃ .1 .1 .1 .1 .1 .0) ≡ now (e₁ .1 .1 .1 .1 .1 .1 .1 .1 .1 .1 .1 .1 .1 .0)
+    pub opened-tree : now (a₃ .1 .1 .1 .1 .1 .1 .1 .1 .0) ≡ now (e₁ .1 .1 .1 .1 .1 .1 .1 .1 .1 .1 .1 .1 .1 .1 .0)
+    pub buffer : length (now (a₃ .1 .1 .1 .1 .1 .1 .1 .1 .1 .0)) ≡ planned
     -- checking: the same question, the reply as opening left it, a value buffer of its length
     pub checked-question : now (a₄ .0) ≡ asked
-    pub checked-reply : now (a₄ .1 .0) ≡ now (e₃ .1 .1 .1 .1 .1 .1 .1 .1 .0)
+    pub checked-reply : now (a₄ .1 .0) ≡ now (e₃ .1 .1 .1 .1 .1 .1 .1 .1 .1 .0)
     pub values : length (now (a₄ .1 .1 .0)) ≡ sizesGiven .w * readQuestion asked .m
 
   -- then none of them refuses, and the values are the true ones
   pub completed : Chained → (r₁ ≡ 0) × (sizeNumber r₂ ≡ 0) × (openNumber r₃ ≡ 0) × (r₄ ≡ 0)
       × (now (e₄ .1 .1 .0) ≡ trueValues sizesGiven lentGiven (readQuestion asked .evaluationPoints))
   completed c =
-      let one = committed sizesGiven lentGiven (c .right) (now (a₁ .1 .1 .1 .1 .1 .1 .1 .1 .1 .1 .1 .1 .0)) (now (a₁ .1 .1 .1 .1 .1 .1 .1 .1 .1 .1 .1 .1 .1 .0)) (c .room) r₁ (now (e₁ .1 .1 .1 .1 .1 .1 .1 .1 .1 .1 .1 .1 .0))
-      (now (e₁ .1 .1 .1 .1 .1 .1 .1 .1 .1 .1 .1 .1 .1 .0)) h₁ in
+      let one = committed sizesGiven lentGiven (c .right) (now (a₁ .1 .1 .1 .1 .1 .1 .1 .1 .1 .1 .1 .1 .1 .0)) (now (a₁ .1 .1 .1 .1 .1 .1 .1 .1 .1 .1 .1 .1 .1 .1 .0)) (c .room) r₁ (now (e₁ .1 .1 .1 .1 .1 .1 .1 .1 .1 .1 .1 .1 .1 .0))
+      (now (e₁ .1 .1 .1 .1 .1 .1 .1 .1 .1 .1 .1 .1 .1 .1 .0)) h₁ in
       let two = sized sizesGiven lentGiven (c .right) asked (c .names) (sizeNumber r₂) planned h₂ in
       let table : List ℕ = now (a₃ .1 .1 .1 .1 .1 .0) in
-      let tree : Bytes = now (a₃ .1 .1 .1 .1 .1 .1 .1 .0) in
-      let buffer : Bytes = now (a₃ .1 .1 .1 .1 .1 .1 .1 .1 .0) in
+      let tree : Bytes = now (a₃ .1 .1 .1 .1 .1 .1 .1 .1 .0) in
+      let buffer : Bytes = now (a₃ .1 .1 .1 .1 .1 .1 .1 .1 .1 .0) in
       let et : table ≡ tableOf sizesGiven lentGiven = c .opened-table ∙ one .1 in
       let en : tree ≡ treeOf sizesGiven lentGiven = c .opened-tree ∙ one .2 in
       let fits : length buffer ≡ replyLength (readQuestion asked) = c .buffer ∙ two .1 in
-      let three = opened sizesGiven lentGiven (c .right) asked (c .names) table tree et en buffer fits (openNumber r₃) (openLength r₃) (now (e₃ .1 .1 .1 .1 .1 .1 .1 .1 .0))
+      let three = opened sizesGiven lentGiven (c .right) asked (c .names) table tree et en buffer fits (openNumber r₃) (openLength r₃) (now (e₃ .1 .1 .1 .1 .1 .1 .1 .1 .1 .0))
       (h₃ ∙ ap₂ (λ (q : Bytes) (x : Lent). opening q x table tree buffer) (c .opened-question) (c .opened-lent)) in
       let four = checked sizesGiven lentGiven (c .right) asked (c .names) table tree et en buffer fits (now (a₄ .1 .0)) (c .checked-reply ∙ three .2) (now (a₄ .1 .1 .0)) (c .values) r₄ (now (e₄ .1 .1 .0))
       (h₄ ∙ ap (λ (q : Bytes). checking q (now (a₄ .1 .0)) (now (a₄ .1 .1 .0))) (c .checked-question)) in
@@ -160,16 +160,16 @@ module _
 
 -- a call of each: committing, sizing, opening, checking
 module _
-    (κ₁ : Lfts 7) (a₁ : Dens κ₁ c-commit-kinds.ps) (r₁ : resT c-commit-kinds.r κ₁ .Denot) (e₁ : AtExit (endedOf 7 c-commit-kinds.ps c-commit-kinds.r) κ₁) (h₁ : c-commit.Learnt κ₁ a₁ r₁ e₁)
+    (κ₁ : Lfts 8) (a₁ : Dens κ₁ c-commit-kinds.ps) (r₁ : resT c-commit-kinds.r κ₁ .Denot) (e₁ : AtExit (endedOf 8 c-commit-kinds.ps c-commit-kinds.r) κ₁) (h₁ : c-commit.Learnt κ₁ a₁ r₁ e₁)
     (κ₂ : Lfts 2) (a₂ : Dens κ₂ c-size-kinds.ps) (r₂ : resT c-size-kinds.r κ₂ .Denot) (e₂ : AtExit (endedOf 2 c-size-kinds.ps c-size-kinds.r) κ₂) (h₂ : c-size.Learnt κ₂ a₂ r₂ e₂)
-    (κ₃ : Lfts 10) (a₃ : Dens κ₃ c-open-kinds.ps) (r₃ : resT c-open-kinds.r κ₃ .Denot) (e₃ : AtExit (endedOf 10 c-open-kinds.ps c-open-kinds.r) κ₃) (h₃ : c-open.Learnt κ₃ a₃ r₃ e₃)
+    (κ₃ : Lfts 11) (a₃ : Dens κ₃ c-open-kinds.ps) (r₃ : resT c-open-kinds.r κ₃ .Denot) (e₃ : AtExit (endedOf 11 c-open-kinds.ps c-open-kinds.r) κ₃) (h₃ : c-open.Learnt κ₃ a₃ r₃ e₃)
     (κ₄ : Lfts 3) (a₄ : Dens κ₄ c-check-kinds.ps) (r₄ : resT c-check-kinds.r κ₄ .Denot) (e₄ : AtExit (endedOf 3 c-check-kinds.ps c-check-kinds.r) κ₄) (h₄ : c-check.Learnt κ₄ a₄ r₄ e₄) where
   -- what committing was lent
   abbrev sizesGivenC : Sizes
   sizesGivenC = sizesOf (a₁ .0) (a₁ .1 .0) (a₁ .1 .1 .0) (a₁ .1 .1 .1 .0) (a₁ .1 .1 .1 .1 .0) (a₁ .1 .1 .1 .1 .1 .0) (a₁ .1 .1 .1 .1 .1 .1 .0)
 
   abbrev lentGivenC : Lent
-  lentGivenC = lentOf (now (a₁ .1 .1 .1 .1 .1 .1 .1 .0)) (now (a₁ .1 .1 .1 .1 .1 .1 .1 .1 .0)) (now (a₁ .1 .1 .1 .1 .1 .1 .1 .1 .1 .0)) (now (a₁ .1 .1 .1 .1 .1 .1 .1 .1 .1 .1 .0)) (now (a₁ .1 .1 .1 .1 .1 .1 .1 .1 .1 .1 .1 .0))
+  lentGivenC = lentOf (now (a₁ .1 .1 .1 .1 .1 .1 .1 .0)) (now (a₁ .1 .1 .1 .1 .1 .1 .1 .1 .0)) (now (a₁ .1 .1 .1 .1 .1 .1 .1 .1 .1 .0)) (now (a₁ .1 .1 .1 .1 .1 .1 .1 .1 .1 .1 .0)) (now (a₁ .1 .1 .1 .1 .1 .1 .1 .1 .1 .1 .1 .0)) (now (a₁ .1 .1 .1 .1 .1 .1 .1 .1 .1 .1 .1 .1 .0))
 
   -- the question that sizing was lent, and the length that it gave
   abbrev askedC : Bytes
@@ -181,34 +181,34 @@ module _
   -- the calls belong together: each is lent what those before it left
   pub record ChainedC : Type 0 where
     pub right : WellLent sizesGivenC lentGivenC
-    pub room : filledOk sizesGivenC (now (a₁ .1 .1 .1 .1 .1 .1 .1 .1 .1 .1 .1 .1 .0)) (now (a₁ .1 .1 .1 .1 .1 .1 .1 .1 .1 .1 .1 .1 .1 .0)) ≡ true
+    pub room : filledOk sizesGivenC (now (a₁ .1 .1 .1 .1 .1 .1 .1 .1 .1 .1 .1 .1 .1 .0)) (now (a₁ .1 .1 .1 .1 .1 .1 .1 .1 .1 .1 .1 .1 .1 .1 .0)) ≡ true
     pub names : Names sizesGivenC lentGivenC askedC
-    -- opening: the same question and the same secrets, the table and the tree as committing left them, a buffer of the length that sizing gave
+    -- opening: the same question, the same secrets and salt, the table and the tree as committing left them, a buffer of the length that sizing gave
     pub opened-question : now (a₃ .0) ≡ askedC
-    pub opened-lent : lentOf (now (a₃ .1 .0)) (now (a₃ .1 .1 .0)) (now (a₃ .1 .1 .1 .0)) (now (a₃ .1 .1 .1 .1 .0)) (now (a₃ .1 .1 .1 .1 .1 .1 .0)) ≡ lentGivenC
-    pub opened-table : now (a₃ .1 .1 .1 .1 .1 .0) ≡ now (e₁ .1 .1 .1 .1 .1 .1 .1 .1 .1 .1 .1 .1 .0)
-    pub opened-tree : now (a₃ .1 .1 .1 .1 .1 .1 .1 .0) ≡ now (e₁ .1 .1 .1 .1 .1 .1 .1 .1 .1 .1 .1 .1 .1 .0)
-    pub buffer : length (now (a₃ .1 .1 .1 .1 .1 .1 .1 .1 .0)) ≡ plannedC
+    pub opened-lent : lentOf (now (a₃ .1 .0)) (now (a₃ .1 .1 .0)) (now (a₃ .1 .1 .1 .0)) (now (a₃ .1 .1 .1 .1 .0)) (now (a₃ .1 .1 .1 .1 .1 .1 .0)) (now (a₃ .1 .1 .1 .1 .1 .1 .1 .0)) ≡ lentGivenC
+    pub opened-table : now (a₃ .1 .1 .1 .1 .1 .0) ≡ now (e₁ .1 .1 .1 .1 .1 .1 .1 .1 .1 .1 .1 .1 .1 .0)
+    pub opened-tree : now (a₃ .1 .1 .1 .1 .1 .1 .1 .1 .0) ≡ now (e₁ .1 .1 .1 .1 .1 .1 .1 .1 .1 .1 .1 .1 .1 .1 .0)
+    pub buffer : length (now (a₃ .1 .1 .1 .1 .1 .1 .1 .1 .1 .0)) ≡ plannedC
     -- checking: the same question, the reply as opening left it, a value buffer of its length
     pub checked-question : now (a₄ .0) ≡ askedC
-    pub checked-reply : now (a₄ .1 .0) ≡ now (e₃ .1 .1 .1 .1 .1 .1 .1 .1 .0)
+    pub checked-reply : now (a₄ .1 .0) ≡ now (e₃ .1 .1 .1 .1 .1 .1 .1 .1 .1 .0)
     pub values : length (now (a₄ .1 .1 .0)) ≡ 4 * (sizesGivenC .w * readQuestion askedC .m)
 
   -- then none of them refuses, and the values are the true ones
   pub completed-c : ChainedC → (r₁ ≡ 0) × (r₂ ≡ 0) × (r₃ ≡ 0) × (r₄ ≡ 0)
       × (now (e₄ .1 .1 .0) ≡ bytesOf (trueValues sizesGivenC lentGivenC (readQuestion askedC .evaluationPoints)))
   completed-c c =
-      let one = committed sizesGivenC lentGivenC (c .right) (now (a₁ .1 .1 .1 .1 .1 .1 .1 .1 .1 .1 .1 .1 .0)) (now (a₁ .1 .1 .1 .1 .1 .1 .1 .1 .1 .1 .1 .1 .1 .0)) (c .room) r₁ (now (e₁ .1 .1 .1 .1 .1 .1 .1 .1 .1 .1 .1 .1 .0))
-      (now (e₁ .1 .1 .1 .1 .1 .1 .1 .1 .1 .1 .1 .1 .1 .0)) h₁ in
+      let one = committed sizesGivenC lentGivenC (c .right) (now (a₁ .1 .1 .1 .1 .1 .1 .1 .1 .1 .1 .1 .1 .1 .0)) (now (a₁ .1 .1 .1 .1 .1 .1 .1 .1 .1 .1 .1 .1 .1 .1 .0)) (c .room) r₁ (now (e₁ .1 .1 .1 .1 .1 .1 .1 .1 .1 .1 .1 .1 .1 .0))
+      (now (e₁ .1 .1 .1 .1 .1 .1 .1 .1 .1 .1 .1 .1 .1 .1 .0)) h₁ in
       let two = sizedC sizesGivenC lentGivenC (c .right) askedC (c .names) (now (a₂ .1 .0)) r₂ plannedC h₂ in
       let table : List ℕ = now (a₃ .1 .1 .1 .1 .1 .0) in
-      let tree : Bytes = now (a₃ .1 .1 .1 .1 .1 .1 .1 .0) in
-      let buffer : Bytes = now (a₃ .1 .1 .1 .1 .1 .1 .1 .1 .0) in
+      let tree : Bytes = now (a₃ .1 .1 .1 .1 .1 .1 .1 .1 .0) in
+      let buffer : Bytes = now (a₃ .1 .1 .1 .1 .1 .1 .1 .1 .1 .0) in
       let et : table ≡ tableOf sizesGivenC lentGivenC = c .opened-table ∙ one .1 in
       let en : tree ≡ treeOf sizesGivenC lentGivenC = c .opened-tree ∙ one .2 in
       let fits : length buffer ≡ replyLength (readQuestion askedC) = c .buffer ∙ two .1 in
-      let three = openedC sizesGivenC lentGivenC (c .right) askedC (c .names) table tree et en buffer fits (now (a₃ .1 .1 .1 .1 .1 .1 .1 .1 .1 .0)) r₃ (now (e₃ .1 .1 .1 .1 .1 .1 .1 .1 .1 .0)) (now (e₃ .1 .1 .1 .1 .1 .1 .1 .1 .0))
-      (h₃ ∙ ap₂ (λ (q : Bytes) (x : Lent). openingC q x table tree buffer (now (a₃ .1 .1 .1 .1 .1 .1 .1 .1 .1 .0))) (c .opened-question) (c .opened-lent)) in
+      let three = openedC sizesGivenC lentGivenC (c .right) askedC (c .names) table tree et en buffer fits (now (a₃ .1 .1 .1 .1 .1 .1 .1 .1 .1 .1 .0)) r₃ (now (e₃ .1 .1 .1 .1 .1 .1 .1 .1 .1 .1 .0)) (now (e₃ .1 .1 .1 .1 .1 .1 .1 .1 .1 .0))
+      (h₃ ∙ ap₂ (λ (q : Bytes) (x : Lent). openingC q x table tree buffer (now (a₃ .1 .1 .1 .1 .1 .1 .1 .1 .1 .1 .0))) (c .opened-question) (c .opened-lent)) in
       let four = checkedC sizesGivenC lentGivenC (c .right) askedC (c .names) table tree et en buffer fits (now (a₄ .1 .0)) (c .checked-reply ∙ three .2) (now (a₄ .1 .1 .0)) (c .values) r₄ (now (e₄ .1 .1 .0))
       (h₄ ∙ ap (λ (q : Bytes). checkingC q (now (a₄ .1 .0)) (now (a₄ .1 .1 .0))) (c .checked-question)) in
       (one .0, two .0, three .0, four .0, four .1)

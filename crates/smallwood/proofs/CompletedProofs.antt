@@ -92,15 +92,15 @@ module _
 
 -- a call of each: committing, proving, checking
 module _
-    (κ₁ : Lfts 7) (a₁ : Dens κ₁ commit-kinds.ps) (r₁ : resT commit-kinds.r κ₁ .Denot) (e₁ : AtExit (endedOf 7 commit-kinds.ps commit-kinds.r) κ₁) (h₁ : commit.Learnt κ₁ a₁ r₁ e₁)
-    (κ₂ : Lfts 9) (a₂ : Dens κ₂ prove-kinds.ps) (r₂ : resT prove-kinds.r κ₂ .Denot) (e₂ : AtExit (endedOf 9 prove-kinds.ps prove-kinds.r) κ₂) (h₂ : prove.Learnt κ₂ a₂ r₂ e₂)
+    (κ₁ : Lfts 8) (a₁ : Dens κ₁ commit-kinds.ps) (r₁ : resT commit-kinds.r κ₁ .Denot) (e₁ : AtExit (endedOf 8 commit-kinds.ps commit-kinds.r) κ₁) (h₁ : commit.Learnt κ₁ a₁ r₁ e₁)
+    (κ₂ : Lfts 10) (a₂ : Dens κ₂ prove-kinds.ps) (r₂ : resT prove-kinds.r κ₂ .Denot) (e₂ : AtExit (endedOf 10 prove-kinds.ps prove-kinds.r) κ₂) (h₂ : prove.Learnt κ₂ a₂ r₂ e₂)
     (κ₃ : Lfts 3) (a₃ : Dens κ₃ check-kinds.ps) (r₃ : resT check-kinds.r κ₃ .Denot) (e₃ : AtExit (endedOf 3 check-kinds.ps check-kinds.r) κ₃) (h₃ : check.Learnt κ₃ a₃ r₃ e₃) where
   -- what committing was lent
   abbrev sizesGiven : Sizes
   sizesGiven = sizesOf (a₁ .0) (a₁ .1 .0) (a₁ .1 .1 .0) (a₁ .1 .1 .1 .0) (a₁ .1 .1 .1 .1 .0) (a₁ .1 .1 .1 .1 .1 .0) (a₁ .1 .1 .1 .1 .1 .1 .0)
 
   abbrev lentGiven : Lent
-  lentGiven = lentOf (now (a₁ .1 .1 .1 .1 .1 .1 .1 .0)) (now (a₁ .1 .1 .1 .1 .1 .1 .1 .1 .0)) (now (a₁ .1 .1 .1 .1 .1 .1 .1 .1 .1 .0)) (now (a₁ .1 .1 .1 .1 .1 .1 .1 .1 .1 .1 .0)) (now (a₁ .1 .1 .1 .1 .1 .1 .1 .1 .1 .1 .1 .0))
+  lentGiven = lentOf (now (a₁ .1 .1 .1 .1 .1 .1 .1 .0)) (now (a₁ .1 .1 .1 .1 .1 .1 .1 .1 .0)) (now (a₁ .1 .1 .1 .1 .1 .1 .1 .1 .1 .0)) (now (a₁ .1 .1 .1 .1 .1 .1 .1 .1 .1 .1 .0)) (now (a₁ .1 .1 .1 .1 .1 .1 .1 .1 .1 .1 .1 .0)) (now (a₁ .1 .1 .1 .1 .1 .1 .1 .1 .1 .1 .1 .1 .0))
 
   -- the question, κ and limit that proving was given, and the length that it gave
   abbrev asked : Bytes
@@ -118,32 +118,32 @@ module _
   -- the calls belong together: each is lent what those before it left
   pub record ProofChained : Type 0 where
     pub right : WellLent sizesGiven lentGiven
-    pub room : filledOk sizesGiven (now (a₁ .1 .1 .1 .1 .1 .1 .1 .1 .1 .1 .1 .1 .0)) (now (a₁ .1 .1 .1 .1 .1 .1 .1 .1 .1 .1 .1 .1 .1 .0)) ≡ true
+    pub room : filledOk sizesGiven (now (a₁ .1 .1 .1 .1 .1 .1 .1 .1 .1 .1 .1 .1 .1 .0)) (now (a₁ .1 .1 .1 .1 .1 .1 .1 .1 .1 .1 .1 .1 .1 .1 .0)) ≡ true
     pub names : NamesOffline sizesGiven lentGiven asked bits
-    -- proving: the same secrets, the table and the tree as committing left them, a buffer for the longest proof
-    pub proved-lent : lentOf (now (a₂ .1 .1 .1 .0)) (now (a₂ .1 .1 .1 .1 .0)) (now (a₂ .1 .1 .1 .1 .1 .0)) (now (a₂ .1 .1 .1 .1 .1 .1 .0)) (now (a₂ .1 .1 .1 .1 .1 .1 .1 .1 .0)) ≡ lentGiven
-    pub proved-table : now (a₂ .1 .1 .1 .1 .1 .1 .1 .0) ≡ now (e₁ .1 .1 .1 .1 .1 .1 .1 .1 .1 .1 .1 .1 .0)
-    pub proved-tree : now (a₂ .1 .1 .1 .1 .1 .1 .1 .1 .1 .0) ≡ now (e₁ .1 .1 .1 .1 .1 .1 .1 .1 .1 .1 .1 .1 .1 .0)
-    pub buffer : length (now (a₂ .1 .1 .1 .1 .1 .1 .1 .1 .1 .1 .0)) ≡ proofBound asked
+    -- proving: the same secrets and salt, the table and the tree as committing left them, a buffer for the longest proof
+    pub proved-lent : lentOf (now (a₂ .1 .1 .1 .0)) (now (a₂ .1 .1 .1 .1 .0)) (now (a₂ .1 .1 .1 .1 .1 .0)) (now (a₂ .1 .1 .1 .1 .1 .1 .0)) (now (a₂ .1 .1 .1 .1 .1 .1 .1 .1 .0)) (now (a₂ .1 .1 .1 .1 .1 .1 .1 .1 .1 .0)) ≡ lentGiven
+    pub proved-table : now (a₂ .1 .1 .1 .1 .1 .1 .1 .0) ≡ now (e₁ .1 .1 .1 .1 .1 .1 .1 .1 .1 .1 .1 .1 .1 .0)
+    pub proved-tree : now (a₂ .1 .1 .1 .1 .1 .1 .1 .1 .1 .1 .0) ≡ now (e₁ .1 .1 .1 .1 .1 .1 .1 .1 .1 .1 .1 .1 .1 .1 .0)
+    pub buffer : length (now (a₂ .1 .1 .1 .1 .1 .1 .1 .1 .1 .1 .1 .0)) ≡ proofBound asked
     -- checking: the same question and κ, of what proving left as many bytes as it said, a value buffer of the right length
     pub checked-question : now (a₃ .0) ≡ asked
     pub checked-bits : a₃ .1 .0 ≡ bits
-    pub checked-proof : now (a₃ .1 .1 .0) ≡ take provedLength (now (e₂ .1 .1 .1 .1 .1 .1 .1 .1 .1 .1 .0))
+    pub checked-proof : now (a₃ .1 .1 .0) ≡ take provedLength (now (e₂ .1 .1 .1 .1 .1 .1 .1 .1 .1 .1 .1 .0))
     pub values : length (now (a₃ .1 .1 .1 .0)) ≡ sizesGiven .w * headerPoints asked
 
   -- then proving refuses with 11 only where no counter below the limit qualifies; else neither refuses, and the values are the true ones
   pub completed-proof : ProofChained → (r₁ ≡ 0)
       × (((numberOf r₂ ≡ 11) × NoCounter lentGiven asked bits tried) ⊎ ((numberOf r₂ ≡ 0) × (r₃ ≡ 0) × (now (e₃ .1 .1 .1 .0) ≡ trueValues sizesGiven lentGiven (offlinePoints asked))))
   completed-proof c =
-      let one = committed sizesGiven lentGiven (c .right) (now (a₁ .1 .1 .1 .1 .1 .1 .1 .1 .1 .1 .1 .1 .0)) (now (a₁ .1 .1 .1 .1 .1 .1 .1 .1 .1 .1 .1 .1 .1 .0)) (c .room) r₁
-      (now (e₁ .1 .1 .1 .1 .1 .1 .1 .1 .1 .1 .1 .1 .0)) (now (e₁ .1 .1 .1 .1 .1 .1 .1 .1 .1 .1 .1 .1 .1 .0)) h₁ in
+      let one = committed sizesGiven lentGiven (c .right) (now (a₁ .1 .1 .1 .1 .1 .1 .1 .1 .1 .1 .1 .1 .1 .0)) (now (a₁ .1 .1 .1 .1 .1 .1 .1 .1 .1 .1 .1 .1 .1 .1 .0)) (c .room) r₁
+      (now (e₁ .1 .1 .1 .1 .1 .1 .1 .1 .1 .1 .1 .1 .1 .0)) (now (e₁ .1 .1 .1 .1 .1 .1 .1 .1 .1 .1 .1 .1 .1 .1 .0)) h₁ in
       let table : List ℕ = now (a₂ .1 .1 .1 .1 .1 .1 .1 .0) in
-      let tree : Bytes = now (a₂ .1 .1 .1 .1 .1 .1 .1 .1 .1 .0) in
-      let buffer : Bytes = now (a₂ .1 .1 .1 .1 .1 .1 .1 .1 .1 .1 .0) in
+      let tree : Bytes = now (a₂ .1 .1 .1 .1 .1 .1 .1 .1 .1 .1 .0) in
+      let buffer : Bytes = now (a₂ .1 .1 .1 .1 .1 .1 .1 .1 .1 .1 .1 .0) in
       let proof : Bytes = now (a₃ .1 .1 .0) in
       let values : List ℕ = now (a₃ .1 .1 .1 .0) in
       let two = proved sizesGiven lentGiven (c .right) asked bits tried (c .names) table tree (c .proved-table ∙ one .1) (c .proved-tree ∙ one .2) buffer (c .buffer)
-      (numberOf r₂) provedLength (now (e₂ .1 .1 .1 .1 .1 .1 .1 .1 .1 .1 .0))
+      (numberOf r₂) provedLength (now (e₂ .1 .1 .1 .1 .1 .1 .1 .1 .1 .1 .1 .0))
       (h₂ ∙ ap (λ (x : Lent). proving asked bits tried x table tree buffer) (c .proved-lent)) proof (c .checked-proof) in
       let three : (r₃, now (e₃ .1 .1 .1 .0)) ≡ checkingProof asked bits proof values =
       h₃ ∙ ap₂ (λ (x : Bytes) (k : ℕ). checkingProof x k proof values) (c .checked-question) (c .checked-bits) in
@@ -153,15 +153,15 @@ module _
 
 -- a call of each: committing, proving, checking
 module _
-    (κ₁ : Lfts 7) (a₁ : Dens κ₁ c-commit-kinds.ps) (r₁ : resT c-commit-kinds.r κ₁ .Denot) (e₁ : AtExit (endedOf 7 c-commit-kinds.ps c-commit-kinds.r) κ₁) (h₁ : c-commit.Learnt κ₁ a₁ r₁ e₁)
-    (κ₂ : Lfts 10) (a₂ : Dens κ₂ c-prove-kinds.ps) (r₂ : resT c-prove-kinds.r κ₂ .Denot) (e₂ : AtExit (endedOf 10 c-prove-kinds.ps c-prove-kinds.r) κ₂) (h₂ : c-prove.Learnt κ₂ a₂ r₂ e₂)
+    (κ₁ : Lfts 8) (a₁ : Dens κ₁ c-commit-kinds.ps) (r₁ : resT c-commit-kinds.r κ₁ .Denot) (e₁ : AtExit (endedOf 8 c-commit-kinds.ps c-commit-kinds.r) κ₁) (h₁ : c-commit.Learnt κ₁ a₁ r₁ e₁)
+    (κ₂ : Lfts 11) (a₂ : Dens κ₂ c-prove-kinds.ps) (r₂ : resT c-prove-kinds.r κ₂ .Denot) (e₂ : AtExit (endedOf 11 c-prove-kinds.ps c-prove-kinds.r) κ₂) (h₂ : c-prove.Learnt κ₂ a₂ r₂ e₂)
     (κ₃ : Lfts 3) (a₃ : Dens κ₃ c-check-kinds.ps) (r₃ : resT c-check-kinds.r κ₃ .Denot) (e₃ : AtExit (endedOf 3 c-check-kinds.ps c-check-kinds.r) κ₃) (h₃ : c-check.Learnt κ₃ a₃ r₃ e₃) where
   -- what committing was lent
   abbrev sizesGivenC : Sizes
   sizesGivenC = sizesOf (a₁ .0) (a₁ .1 .0) (a₁ .1 .1 .0) (a₁ .1 .1 .1 .0) (a₁ .1 .1 .1 .1 .0) (a₁ .1 .1 .1 .1 .1 .0) (a₁ .1 .1 .1 .1 .1 .1 .0)
 
   abbrev lentGivenC : Lent
-  lentGivenC = lentOf (now (a₁ .1 .1 .1 .1 .1 .1 .1 .0)) (now (a₁ .1 .1 .1 .1 .1 .1 .1 .1 .0)) (now (a₁ .1 .1 .1 .1 .1 .1 .1 .1 .1 .0)) (now (a₁ .1 .1 .1 .1 .1 .1 .1 .1 .1 .1 .0)) (now (a₁ .1 .1 .1 .1 .1 .1 .1 .1 .1 .1 .1 .0))
+  lentGivenC = lentOf (now (a₁ .1 .1 .1 .1 .1 .1 .1 .0)) (now (a₁ .1 .1 .1 .1 .1 .1 .1 .1 .0)) (now (a₁ .1 .1 .1 .1 .1 .1 .1 .1 .1 .0)) (now (a₁ .1 .1 .1 .1 .1 .1 .1 .1 .1 .1 .0)) (now (a₁ .1 .1 .1 .1 .1 .1 .1 .1 .1 .1 .1 .0)) (now (a₁ .1 .1 .1 .1 .1 .1 .1 .1 .1 .1 .1 .1 .0))
 
   -- the question, κ and limit that proving was given, and the length that it gave
   abbrev askedC : Bytes
@@ -174,38 +174,38 @@ module _
   triedC = a₂ .1 .1 .0
 
   abbrev provedLengthC : ℕ
-  provedLengthC = now (e₂ .1 .1 .1 .1 .1 .1 .1 .1 .1 .1 .1 .0)
+  provedLengthC = now (e₂ .1 .1 .1 .1 .1 .1 .1 .1 .1 .1 .1 .1 .0)
 
   -- the calls belong together: each is lent what those before it left
   pub record ProofChainedC : Type 0 where
     pub right : WellLent sizesGivenC lentGivenC
-    pub room : filledOk sizesGivenC (now (a₁ .1 .1 .1 .1 .1 .1 .1 .1 .1 .1 .1 .1 .0)) (now (a₁ .1 .1 .1 .1 .1 .1 .1 .1 .1 .1 .1 .1 .1 .0)) ≡ true
+    pub room : filledOk sizesGivenC (now (a₁ .1 .1 .1 .1 .1 .1 .1 .1 .1 .1 .1 .1 .1 .0)) (now (a₁ .1 .1 .1 .1 .1 .1 .1 .1 .1 .1 .1 .1 .1 .1 .0)) ≡ true
     pub names : NamesOffline sizesGivenC lentGivenC askedC bitsC
-    -- proving: the same secrets, the table and the tree as committing left them, a buffer for the longest proof
-    pub proved-lent : lentOf (now (a₂ .1 .1 .1 .0)) (now (a₂ .1 .1 .1 .1 .0)) (now (a₂ .1 .1 .1 .1 .1 .0)) (now (a₂ .1 .1 .1 .1 .1 .1 .0)) (now (a₂ .1 .1 .1 .1 .1 .1 .1 .1 .0)) ≡ lentGivenC
-    pub proved-table : now (a₂ .1 .1 .1 .1 .1 .1 .1 .0) ≡ now (e₁ .1 .1 .1 .1 .1 .1 .1 .1 .1 .1 .1 .1 .0)
-    pub proved-tree : now (a₂ .1 .1 .1 .1 .1 .1 .1 .1 .1 .0) ≡ now (e₁ .1 .1 .1 .1 .1 .1 .1 .1 .1 .1 .1 .1 .1 .0)
-    pub buffer : length (now (a₂ .1 .1 .1 .1 .1 .1 .1 .1 .1 .1 .0)) ≡ proofBound askedC
+    -- proving: the same secrets and salt, the table and the tree as committing left them, a buffer for the longest proof
+    pub proved-lent : lentOf (now (a₂ .1 .1 .1 .0)) (now (a₂ .1 .1 .1 .1 .0)) (now (a₂ .1 .1 .1 .1 .1 .0)) (now (a₂ .1 .1 .1 .1 .1 .1 .0)) (now (a₂ .1 .1 .1 .1 .1 .1 .1 .1 .0)) (now (a₂ .1 .1 .1 .1 .1 .1 .1 .1 .1 .0)) ≡ lentGivenC
+    pub proved-table : now (a₂ .1 .1 .1 .1 .1 .1 .1 .0) ≡ now (e₁ .1 .1 .1 .1 .1 .1 .1 .1 .1 .1 .1 .1 .1 .0)
+    pub proved-tree : now (a₂ .1 .1 .1 .1 .1 .1 .1 .1 .1 .1 .0) ≡ now (e₁ .1 .1 .1 .1 .1 .1 .1 .1 .1 .1 .1 .1 .1 .1 .0)
+    pub buffer : length (now (a₂ .1 .1 .1 .1 .1 .1 .1 .1 .1 .1 .1 .0)) ≡ proofBound askedC
     -- checking: the same question and κ, of what proving left as many bytes as it said, a value buffer of the right length
     pub checked-question : now (a₃ .0) ≡ askedC
     pub checked-bits : a₃ .1 .0 ≡ bitsC
-    pub checked-proof : now (a₃ .1 .1 .0) ≡ take provedLengthC (now (e₂ .1 .1 .1 .1 .1 .1 .1 .1 .1 .1 .0))
+    pub checked-proof : now (a₃ .1 .1 .0) ≡ take provedLengthC (now (e₂ .1 .1 .1 .1 .1 .1 .1 .1 .1 .1 .1 .0))
     pub values : length (now (a₃ .1 .1 .1 .0)) ≡ 4 * (sizesGivenC .w * headerPoints askedC)
 
   -- then proving refuses with 11 only where no counter below the limit qualifies; else neither refuses, and the values are the true ones
   pub completed-proof-c : ProofChainedC → (r₁ ≡ 0)
       × (((r₂ ≡ 11) × NoCounter lentGivenC askedC bitsC triedC) ⊎ ((r₂ ≡ 0) × (r₃ ≡ 0) × (now (e₃ .1 .1 .1 .0) ≡ bytesOf (trueValues sizesGivenC lentGivenC (offlinePoints askedC)))))
   completed-proof-c c =
-      let one = committed sizesGivenC lentGivenC (c .right) (now (a₁ .1 .1 .1 .1 .1 .1 .1 .1 .1 .1 .1 .1 .0)) (now (a₁ .1 .1 .1 .1 .1 .1 .1 .1 .1 .1 .1 .1 .1 .0)) (c .room) r₁
-      (now (e₁ .1 .1 .1 .1 .1 .1 .1 .1 .1 .1 .1 .1 .0)) (now (e₁ .1 .1 .1 .1 .1 .1 .1 .1 .1 .1 .1 .1 .1 .0)) h₁ in
+      let one = committed sizesGivenC lentGivenC (c .right) (now (a₁ .1 .1 .1 .1 .1 .1 .1 .1 .1 .1 .1 .1 .1 .0)) (now (a₁ .1 .1 .1 .1 .1 .1 .1 .1 .1 .1 .1 .1 .1 .1 .0)) (c .room) r₁
+      (now (e₁ .1 .1 .1 .1 .1 .1 .1 .1 .1 .1 .1 .1 .1 .0)) (now (e₁ .1 .1 .1 .1 .1 .1 .1 .1 .1 .1 .1 .1 .1 .1 .0)) h₁ in
       let table : List ℕ = now (a₂ .1 .1 .1 .1 .1 .1 .1 .0) in
-      let tree : Bytes = now (a₂ .1 .1 .1 .1 .1 .1 .1 .1 .1 .0) in
-      let buffer : Bytes = now (a₂ .1 .1 .1 .1 .1 .1 .1 .1 .1 .1 .0) in
+      let tree : Bytes = now (a₂ .1 .1 .1 .1 .1 .1 .1 .1 .1 .1 .0) in
+      let buffer : Bytes = now (a₂ .1 .1 .1 .1 .1 .1 .1 .1 .1 .1 .1 .0) in
       let proof : Bytes = now (a₃ .1 .1 .0) in
       let values : Bytes = now (a₃ .1 .1 .1 .0) in
       let two = provedC sizesGivenC lentGivenC (c .right) askedC bitsC triedC (c .names) table tree (c .proved-table ∙ one .1) (c .proved-tree ∙ one .2) buffer (c .buffer)
-      (now (a₂ .1 .1 .1 .1 .1 .1 .1 .1 .1 .1 .1 .0)) r₂ provedLengthC (now (e₂ .1 .1 .1 .1 .1 .1 .1 .1 .1 .1 .0))
-      (h₂ ∙ ap (λ (x : Lent). provingC askedC bitsC triedC x table tree buffer (now (a₂ .1 .1 .1 .1 .1 .1 .1 .1 .1 .1 .1 .0))) (c .proved-lent)) proof (c .checked-proof) in
+      (now (a₂ .1 .1 .1 .1 .1 .1 .1 .1 .1 .1 .1 .1 .0)) r₂ provedLengthC (now (e₂ .1 .1 .1 .1 .1 .1 .1 .1 .1 .1 .1 .0))
+      (h₂ ∙ ap (λ (x : Lent). provingC askedC bitsC triedC x table tree buffer (now (a₂ .1 .1 .1 .1 .1 .1 .1 .1 .1 .1 .1 .1 .0))) (c .proved-lent)) proof (c .checked-proof) in
       let three : (r₃, now (e₃ .1 .1 .1 .0)) ≡ checkingProofC askedC bitsC proof values =
       h₃ ∙ ap₂ (λ (x : Bytes) (k : ℕ). checkingProofC x k proof values) (c .checked-question) (c .checked-bits) in
       (one .0, ⊎-map (λ u. u) (λ y. let e = three ∙ y .1 .1 values (c .values) in (y .0, first e, rest e)) two)

@@ -43,29 +43,29 @@ module _ (κs : Lfts 2) (a : Dens κs size-kinds.ps) (r : resT size-kinds.r κs 
   agreed = sized question (now (a .1 .0)) r n learnt done
 
   -- and one of `smallwood_open` with the same question
-  module _ (κs′ : Lfts 10) (a′ : Dens κs′ open-kinds.ps) (r′ : resT open-kinds.r κs′ .Denot) (e′ : AtExit (endedOf 10 open-kinds.ps open-kinds.r) κs′)
+  module _ (κs′ : Lfts 11) (a′ : Dens κs′ open-kinds.ps) (r′ : resT open-kinds.r κs′ .Denot) (e′ : AtExit (endedOf 11 open-kinds.ps open-kinds.r) κs′)
       (learnt′ : open-reads.Learnt κs′ a′ r′ e′) (same : now (a′ .0) ≡ question) where
     abbrev l : Lent
-    l = lentOf (now (a′ .1 .0)) (now (a′ .1 .1 .0)) (now (a′ .1 .1 .1 .0)) (now (a′ .1 .1 .1 .1 .0)) (now (a′ .1 .1 .1 .1 .1 .1 .0))
+    l = lentOf (now (a′ .1 .0)) (now (a′ .1 .1 .0)) (now (a′ .1 .1 .1 .0)) (now (a′ .1 .1 .1 .1 .0)) (now (a′ .1 .1 .1 .1 .1 .1 .0)) (now (a′ .1 .1 .1 .1 .1 .1 .1 .0))
 
     abbrev table : List ℕ
     table = now (a′ .1 .1 .1 .1 .1 .0)
 
     abbrev nodes : Bytes
-    nodes = now (a′ .1 .1 .1 .1 .1 .1 .1 .0)
+    nodes = now (a′ .1 .1 .1 .1 .1 .1 .1 .1 .0)
 
     -- the buffer and the length that it is lent
     abbrev buffer : Bytes
-    buffer = now (a′ .1 .1 .1 .1 .1 .1 .1 .1 .0)
+    buffer = now (a′ .1 .1 .1 .1 .1 .1 .1 .1 .1 .0)
 
     abbrev before : ℕ
-    before = now (a′ .1 .1 .1 .1 .1 .1 .1 .1 .1 .0)
+    before = now (a′ .1 .1 .1 .1 .1 .1 .1 .1 .1 .1 .0)
 
-    outcome : (r′, now (e′ .1 .1 .1 .1 .1 .1 .1 .1 .1 .0), now (e′ .1 .1 .1 .1 .1 .1 .1 .1 .0)) ≡ openingC question l table nodes buffer before
+    outcome : (r′, now (e′ .1 .1 .1 .1 .1 .1 .1 .1 .1 .1 .0), now (e′ .1 .1 .1 .1 .1 .1 .1 .1 .1 .0)) ≡ openingC question l table nodes buffer before
     outcome = learnt′ ∙ ap (λ (b : Bytes). openingC b l table nodes buffer before) same
 
     -- where it returned 0, it left the same length and filled as many bytes
-    pub length-opened : r′ ≡ 0 → (now (e′ .1 .1 .1 .1 .1 .1 .1 .1 .1 .0) ≡ n) × (length (now (e′ .1 .1 .1 .1 .1 .1 .1 .1 .0)) ≡ n)
+    pub length-opened : r′ ≡ 0 → (now (e′ .1 .1 .1 .1 .1 .1 .1 .1 .1 .1 .0) ≡ n) × (length (now (e′ .1 .1 .1 .1 .1 .1 .1 .1 .1 .0)) ≡ n)
     length-opened z =
         let o : openingC question l table nodes buffer before ≡ opening question l table nodes buffer =
         opening-C question l table nodes buffer before (sym (ap (λ (x : ℕ × ℕ × Bytes). x .0) outcome) ∙ z) in

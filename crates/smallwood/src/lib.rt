@@ -35,10 +35,11 @@ pub extern "C" fn smallwood_commit(
     blinds: &[u32],
     masks: &[u32],
     nonces: &[u8],
+    salt: &[u8],
     table: &mut [u32],
     tree: &mut [u8],
 ) -> u32
-    ensures { λ r. ⌜ (r, now (table .exit), now (tree .exit)) ≡ committing (sizesOf h mu nu w l eta beta) (lentOf (now (coefficients .entry)) (now (tails .entry)) (now (blinds .entry)) (now (masks .entry)) (now (nonces .entry))) (now (table .entry)) (now (tree .entry)) ⌝ }
+    ensures { λ r. ⌜ (r, now (table .exit), now (tree .exit)) ≡ committing (sizesOf h mu nu w l eta beta) (lentOf (now (coefficients .entry)) (now (tails .entry)) (now (blinds .entry)) (now (masks .entry)) (now (nonces .entry)) (now (salt .entry))) (now (table .entry)) (now (tree .entry)) ⌝ }
 {
     committer::commit(
         h,
@@ -53,6 +54,7 @@ pub extern "C" fn smallwood_commit(
         blinds,
         masks,
         nonces,
+        salt,
         table,
         tree,
     )
@@ -83,11 +85,12 @@ pub extern "C" fn smallwood_open(
     masks: &[u32],
     table: &[u32],
     nonces: &[u8],
+    salt: &[u8],
     tree: &[u8],
     reply: &mut [u8],
     length: &mut u64,
 ) -> u32
-    ensures { λ r. ⌜ (r, now (length .exit), now (reply .exit)) ≡ openingC (now (question .entry)) (lentOf (now (coefficients .entry)) (now (tails .entry)) (now (blinds .entry)) (now (masks .entry)) (now (nonces .entry))) (now (table .entry)) (now (tree .entry)) (now (reply .entry)) (now (length .entry)) ⌝ }
+    ensures { λ r. ⌜ (r, now (length .exit), now (reply .exit)) ≡ openingC (now (question .entry)) (lentOf (now (coefficients .entry)) (now (tails .entry)) (now (blinds .entry)) (now (masks .entry)) (now (nonces .entry)) (now (salt .entry))) (now (table .entry)) (now (tree .entry)) (now (reply .entry)) (now (length .entry)) ⌝ }
 {
     let answer = opener::open(
         question,
@@ -97,6 +100,7 @@ pub extern "C" fn smallwood_open(
         masks,
         table,
         nonces,
+        salt,
         tree,
         reply,
     );
@@ -180,11 +184,12 @@ pub extern "C" fn smallwood_prove(
     masks: &[u32],
     table: &[u32],
     nonces: &[u8],
+    salt: &[u8],
     tree: &[u8],
     proof: &mut [u8],
     length: &mut u64,
 ) -> u32
-    ensures { λ r. ⌜ (r, now (length .exit), now (proof .exit)) ≡ provingC (now (question .entry)) kappa limit (lentOf (now (coefficients .entry)) (now (tails .entry)) (now (blinds .entry)) (now (masks .entry)) (now (nonces .entry))) (now (table .entry)) (now (tree .entry)) (now (proof .entry)) (now (length .entry)) ⌝ }
+    ensures { λ r. ⌜ (r, now (length .exit), now (proof .exit)) ≡ provingC (now (question .entry)) kappa limit (lentOf (now (coefficients .entry)) (now (tails .entry)) (now (blinds .entry)) (now (masks .entry)) (now (nonces .entry)) (now (salt .entry))) (now (table .entry)) (now (tree .entry)) (now (proof .entry)) (now (length .entry)) ⌝ }
 {
     let answer = prover::prove(
         question,
@@ -196,6 +201,7 @@ pub extern "C" fn smallwood_prove(
         masks,
         table,
         nonces,
+        salt,
         tree,
         proof,
     );

@@ -1,5 +1,5 @@
 -- Binding: two openings that give one root agree on every leaf that both open, unless two different strings that they hash share a digest.
-use mathlib.Core.List.{List, _++_, map, map-map, List·Memᴰ as Mem, Memᴰ·append-left as in-left, Memᴰ·append-right as in-right, List·Memᴰ·append-cases as in-cases}
+use mathlib.Core.List.{List, _++_, map, List·Memᴰ as Mem, Memᴰ·append-left as in-left, Memᴰ·append-right as in-right, List·Memᴰ·append-cases as in-cases}
 use mathlib.Core.Logic.{⊎-elim}
 use mathlib.Core.Path.{_≡_, sym, ap, _∙_, subst}
 use Prim.Native.Nat.{ℕ, zero, suc, _/_, _^_, _≤_, _<_}
@@ -8,12 +8,13 @@ use native.Mathlib.Omega.{arith}
 use lib.ListN.{length, drop, length-append, length-map, length-drop}
 use Rattle.lists.specs.All.{Below, below-mem, Sized, all-drop, sized-mem, mem-sized, all-each}
 use Rattle.lists.specs.Bytes.{Bytes}
-use Rattle.lists.specs.Maps.{map-of, map-agree, map-in, append-cancel}
+use Rattle.lists.specs.Maps.{map-of, map-agree, append-cancel}
 use Rattle.lists.specs.Pieces.{flatten-inj}
 use Rattle.tree.specs.Sets.{children, parents, siblings, missing}
 use Rattle.tree.specs.Tree.{found, nodeString, strings, rootFrom, hashed}
 use Rattle.tree.proofs.Counts.{missing-count}
-use Rattle.tree.proofs.Found.{found-all, found-left, found-in, found-under}
+use Rattle.tree.proofs.Found.{found-left, found-in, found-under}
+use Rattle.tree.proofs.Strings.{found-above, string-in}
 use Rattle.tree.proofs.Members.{child-in, parents-in, known, parents-below}
 
 -- an opening of the shape that its set asks for: a string of the right size for each node of the set and for each missing node
@@ -61,18 +62,6 @@ module _ (digest : Bytes → Bytes) (size : ℕ) (sized : (x : Bytes) → length
       ∙ ⊎-elim (sized-mem size ds (f .sizes) (found (s ++ siblings b s) (ds ++ nodes) (o .0))) (sized-mem size nodes (f .node-sizes) (found (s ++ siblings b s) (ds ++ nodes) (o .0)))
       (in-cases ds (found-in (ds ++ nodes) (known b s m (o .1)) long)))
 
-  -- the digest of a node above the set is that of its string, which is hashed
-  found-above : (s : List ℕ) (ds nodes : List Bytes) (p : ℕ) → Mem p (parents b s)
-      → found (parents b s) (map digest (strings digest b pre s ds nodes)) p ≡ digest (nodeString b pre (found (s ++ siblings b s) (ds ++ nodes)) p)
-  unfolding strings
-  found-above s ds nodes p m = simp map-map (found-all _ m)
-
-  -- and its string is one of those hashed
-  string-in : (s : List ℕ) (ds nodes : List Bytes) (p : ℕ) → Mem p (parents b s)
-      → Mem (nodeString b pre (found (s ++ siblings b s) (ds ++ nodes)) p) (strings digest b pre s ds nodes)
-  unfolding strings
-  string-in s ds nodes p m = map-in _ m
-
   -- a node's string has its children's digests in it
   node-inj : (v₁ v₂ : ℕ → Bytes) (p c : ℕ) → Sized size (map v₁ (children b p)) → Sized size (map v₂ (children b p)) → Mem c (children b p)
       → nodeString b pre v₁ p ≡ nodeString b pre v₂ p → v₁ c ≡ v₂ c
@@ -98,8 +87,8 @@ module _ (digest : Bytes → Bytes) (size : ℕ) (sized : (x : Bytes) → length
       binding h (parents b s₁) (parents b s₂) _ _ _ _ (fits-up h s₁ ds₁ n₁ f₁) (fits-up h s₂ ds₂ n₂ f₂)
       (λ x y k₁ k₂. a x y (in-right (strings digest b pre s₁ ds₁ n₁) k₁) (in-right (strings digest b pre s₂ ds₂ n₂) k₂)) e (i / b) p₁ p₂ in
       let same : nodeString b pre v₁ (i / b) ≡ nodeString b pre v₂ (i / b) =
-      a _ _ (in-left _ (string-in s₁ ds₁ n₁ (i / b) p₁)) (in-left _ (string-in s₂ ds₂ n₂ (i / b) p₂))
-      (sym (found-above s₁ ds₁ n₁ (i / b) p₁) ∙ up ∙ found-above s₂ ds₂ n₂ (i / b) p₂) in
+      a _ _ (in-left _ (string-in digest b pre s₁ ds₁ n₁ (i / b) p₁)) (in-left _ (string-in digest b pre s₂ ds₂ n₂ (i / b) p₂))
+      (sym (found-above digest b pre s₁ ds₁ n₁ (i / b) p₁) ∙ up ∙ found-above digest b pre s₂ ds₂ n₂ (i / b) p₂) in
       sym (found-left (siblings b s₁) ds₁ n₁ m₁ (f₁ .digests))
       ∙ node-inj v₁ v₂ (i / b) i (children-sized h s₁ ds₁ n₁ f₁ (i / b) p₁) (children-sized h s₂ ds₂ n₂ f₂ (i / b) p₂) (child-in b i pos) same
       ∙ found-left (siblings b s₂) ds₂ n₂ m₂ (f₂ .digests)

@@ -12,6 +12,7 @@ pub mod Found
 pub mod Digests
 pub mod OpenedDigests
 pub mod Walk
+pub mod Strings
 pub mod Turns
 pub mod Children
 pub mod Ancestors

@@ -42,6 +42,11 @@ module _ (digest : Bytes → Bytes) (b : ℕ) (pre : Bytes) where
   tree zero level = level
   tree (suc h) level = level ++ tree h (above (b ^ h) level)
 
+  -- the strings of its nodes, level by level
+  unfoldable pub nodeStrings : ℕ → List Bytes → List Bytes
+  nodeStrings zero level = []
+  nodeStrings (suc h) level = map (nodeString b pre (at level)) (upFrom 0 (b ^ h)) ++ nodeStrings h (above (b ^ h) level)
+
   unfoldable pub root : ℕ → List Bytes → Bytes
   root zero level = at level 0
   root (suc h) level = root h (above (b ^ h) level)

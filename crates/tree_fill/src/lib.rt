@@ -1,15 +1,17 @@
 // Filling a tree: from the digests of the leaves, level by level, to the root.
 //
-// fill_levels is general in the number b of a node's children and in what a node's string begins with; fill_tree takes two children and 0x01.
+// fill_levels is general in the number b of a node's children and in what a node's string begins with; fill_tree takes two children, and 0x01 and the salt.
 // buf is a node's string; its first off bytes are there from the start.
 ghost use mathlib.Core.Path.{_≡_};
-ghost use mathlib.Core.List.{[], _∷_, flatten};
+ghost use mathlib.Core.List.{_∷_, flatten};
 ghost use Prim.Native.Nat.{_*_, _^_};
 ghost use lib.ListN.{length, take};
 ghost use Rattle.sponge.specs.Digest.{digest};
+ghost use Rattle.tree.specs.Leaf.{saltLength};
 ghost use Rattle.tree.specs.Sets.{treeSize};
 ghost use Rattle.tree.specs.Tree.{parts, allParts, tree as treeOf};
 ghost use Rattle.tree_fill.specs.Clauses.{CanHashLevel, withLevel, CanFillLevels};
+use digests::PREFIX;
 use digests::copy;
 use digests::node_buffer;
 use digests::write_digest;
@@ -48,10 +50,10 @@ fn fill_levels(b: usize, h: usize, n: usize, tree: &mut [u8], buf: &mut [u8], of
 }
 
 // Fills the tree over the n = 2^h leaf digests that stand in front.
-pub fn fill_tree(h: usize, n: usize, tree: &mut [u8])
-    requires { ⌜ (n ≡ 2 ^ h) × (length (now tree) ≡ 32 * treeSize 2 h) ⌝ }
-    ensures { λ _. ⌜ now (tree .exit) ≡ flatten (treeOf digest 2 (1 ∷ []) h (parts n (now (tree .entry)))) ⌝ }
+pub fn fill_tree(salt: &[u8], h: usize, n: usize, tree: &mut [u8])
+    requires { ⌜ (length (now salt) ≡ saltLength) × (n ≡ 2 ^ h) × (length (now tree) ≡ 32 * treeSize 2 h) ⌝ }
+    ensures { λ _. ⌜ now (tree .exit) ≡ flatten (treeOf digest 2 (1 ∷ now (salt .entry)) h (parts n (now (tree .entry)))) ⌝ }
 {
-    let mut buf = node_buffer();
-    fill_levels(2, h, n, tree, &mut buf, 1);
+    let mut buf = node_buffer(salt);
+    fill_levels(2, h, n, tree, &mut buf, PREFIX);
 }

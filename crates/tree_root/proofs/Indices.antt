@@ -8,14 +8,15 @@ use Rattle.sponge.specs.Digest.{digest}
 use Rattle.lists.specs.All.{Below}
 use Rattle.lists.specs.Bytes.{Bytes}
 use Rattle.tree.specs.Clauses.{IndexSet}
+use Rattle.tree.specs.Leaf.{prefixLength}
 use Rattle.tree.specs.Sets.{missing}
 use Rattle.tree.specs.Tree.{rootFrom}
 use Rattle.node_sets.proofs.Sets.{index-nodes}
 use Rattle.tree_root.specs.Clauses.{CanRoot}
 
 pub index-root : {h : ℕ} {s idx : List ℕ} → IndexSet h s → length idx ≡ 64 → take (length s) idx ≡ s
-    → {dig nodes buf : Bytes} → length dig ≡ 2048 → length buf ≡ 65 → 32 * length (missing 2 h s) ≤ length nodes
-    → CanRoot 2 h idx (length s) dig nodes buf 1
+    → {dig nodes buf : Bytes} → length dig ≡ 2048 → length buf ≡ 97 → 32 * length (missing 2 h s) ≤ length nodes
+    → CanRoot 2 h idx (length s) dig nodes buf prefixLength
 index-root {h} {s} i long copied {nodes = nodes} d b n = record {
   set = index-nodes i long copied;
   some = i .some;

@@ -1,17 +1,19 @@
 // The root that an opening gives: from the digests of some leaves and the missing nodes, level by level.
 //
-// The inner functions are general in the number b of a node's children and in what a node's string begins with; root_of takes two children and 0x01.
+// The inner functions are general in the number b of a node's children and in what a node's string begins with; root_of takes two children, and 0x01 and the salt.
 // A set of nodes of one level is the first n numbers of idx, in rising order; dig holds its digests. nodes holds the digests of missing nodes.
 // a is a place in a set, t a place in a list of nodes. buf is a node's string; its first off bytes are there from the start.
 ghost use mathlib.Core.Path.{_≡_};
-ghost use mathlib.Core.List.{[], _∷_};
+ghost use mathlib.Core.List.{_∷_};
 ghost use Prim.Native.Nat.{_*_, _≤_};
 ghost use lib.ListN.{length, take};
 ghost use Rattle.sponge.specs.Digest.{digest};
+ghost use Rattle.tree.specs.Leaf.{saltLength};
 ghost use Rattle.tree.specs.Sets.{missing};
 ghost use Rattle.tree.specs.Tree.{parts, allParts, rootFrom};
 ghost use Rattle.tree.specs.Clauses.{IndexSet};
 ghost use Rattle.tree_root.specs.Clauses.{CanGather, Gathered, CanHashParents, ParentsHashed, CanRoot};
+use digests::PREFIX;
 use digests::copy;
 use digests::copy_front;
 use digests::first_digest;
@@ -115,16 +117,16 @@ fn root_from(
 }
 
 // The root that the digests of some leaves and the missing nodes give.
-pub fn root_of(h: usize, indices: &[usize], digests: &[u8], nodes: &[u8]) -> [u8; 32]
-    requires { ⌜ IndexSet h (now indices) × (32 * length (now indices) ≤ length (now digests)) × (32 * length (missing 2 h (now indices)) ≤ length (now nodes)) ⌝ }
-    ensures { λ r. ⌜ r ≡ rootFrom digest 2 (1 ∷ []) h (now (indices .entry)) (parts (length (now (indices .entry))) (now (digests .entry))) (allParts (now (nodes .entry))) ⌝ }
+pub fn root_of(salt: &[u8], h: usize, indices: &[usize], digests: &[u8], nodes: &[u8]) -> [u8; 32]
+    requires { ⌜ (length (now salt) ≡ saltLength) × IndexSet h (now indices) × (32 * length (now indices) ≤ length (now digests)) × (32 * length (missing 2 h (now indices)) ≤ length (now nodes)) ⌝ }
+    ensures { λ r. ⌜ r ≡ rootFrom digest 2 (1 ∷ now (salt .entry)) h (now (indices .entry)) (parts (length (now (indices .entry))) (now (digests .entry))) (allParts (now (nodes .entry))) ⌝ }
 {
     let n = indices.len();
     let mut idx = [0usize; 64];
     copy_indices(&mut idx, indices);
     let mut dig = [0u8; 2048];
     copy_front(&mut dig, digests, 32 * n);
-    let mut buf = node_buffer();
-    root_from(2, h, &mut idx, n, &mut dig, nodes, &mut buf, 1);
+    let mut buf = node_buffer(salt);
+    root_from(2, h, &mut idx, n, &mut dig, nodes, &mut buf, PREFIX);
     first_digest(&dig)
 }

@@ -1,5 +1,5 @@
 // Prints SHAKE256 outputs, each as a line of hexadecimal digits. 32 bytes by `digest`: of the two messages of FIPS 202's published examples, the empty one
-// and 1600 bits that are 200 bytes 0xa3; of the first n bytes of a pattern, for n from 0 to 307; of four leaf strings, of 135, 139, 271 and 275 bytes. Then
+// and 1600 bits that are 200 bytes 0xa3; of the first n bytes of a pattern, for n from 0 to 339; of four leaf strings, of 135, 139, 271 and 275 bytes. Then
 // outputs of many lengths by `draw`, and outputs of 137 bytes by `draw_after`. The file stdout is made by tools/sponge_vectors.py from a second
 // implementation.
 ghost use mathlib.Core.Path.{_≡_};
@@ -41,24 +41,24 @@ fn print_all(m: &[u8]) {
     }
 }
 
-// The digest of the last leaf of 4,096 with so many row and mask values: its string is 0x00, the index, the values and the nonce, 4 values + 35 bytes.
+// The digest of the last leaf of 4,096 with so many row and mask values: its string is 0x00, the salt, the index, the values and the nonce, 4 values + 67 bytes. Values and nonce are the pattern's first bytes, the salt is its last 32.
 fn print_leaf(m: &[u8], values: usize)
-    requires { ⌜ (values ≤ 68) × (4 * values + 32 ≤ length (now m)) ⌝ }
+    requires { ⌜ (values ≤ 68) × (408 ≤ length (now m)) ⌝ }
 {
     let size = 4 * values + 32;
     let mut d = [0u8; 32];
-    digests::leaf_digest(LeafIndex(4095), &m[0..size], &mut d);
+    digests::leaf_digest(&m[376..408], LeafIndex(4095), &m[0..size], &mut d);
     print_bytes(&d);
 }
 
-// With 25 and with 59 values the string is one byte short of whole blocks, and the padding is one byte; with one value more it ends three bytes after.
+// With 17 and with 51 values the string is one byte short of whole blocks, and the padding is one byte; with one value more it ends three bytes after.
 fn print_leaves(m: &[u8])
-    requires { ⌜ 272 ≤ length (now m) ⌝ }
+    requires { ⌜ 408 ≤ length (now m) ⌝ }
 {
-    print_leaf(m, 25);
-    print_leaf(m, 26);
-    print_leaf(m, 59);
-    print_leaf(m, 60);
+    print_leaf(m, 17);
+    print_leaf(m, 18);
+    print_leaf(m, 51);
+    print_leaf(m, 52);
 }
 
 fn fill_and_print(m: &[u8], out: &mut [u8]) {
@@ -114,12 +114,12 @@ fn main() {
     print_digest_of(&example);
     let mut m = [0u8; 408];
     fill_pattern(&mut m);
-    print_all(&m[0..307]);
+    print_all(&m[0..339]);
     print_leaves(&m);
     print_draws(&m[0..0]);
-    print_draws(&m[0..65]);
+    print_draws(&m[0..97]);
     print_draws(&m[0..136]);
-    print_draws(&m[0..307]);
+    print_draws(&m[0..339]);
     print_tails(&m, 0);
     print_tails(&m, 132);
     print_tails(&m, 135);

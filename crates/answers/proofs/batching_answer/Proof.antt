@@ -1,12 +1,13 @@
 -- `answers::batching_answer` meets its contract: the polynomial through the combined rows is the combination of the rows' polynomials.
 use mathlib.Core.Path.{_≡_, refl, sym, _∙_, ap, subst}
-use mathlib.Core.List.{List, []}
+use mathlib.Core.List.{List}
 use Prim.Native.Nat.{ℕ, _+_, _≤_}
 use lib.ListN.{length}
 use Rattle.algebra.specs.Prime.{q}
 use Rattle.algebra.specs.Numbers.{interpN, Polys}
 use Rattle.lists.specs.Range.{upFrom}
-use Rattle.scheme.specs.Layers.{lentOf, extendedRows, combination}
+use Rattle.scheme.specs.Layers.{extendedRows, combination}
+use Rattle.lent.specs.Partly.{lentRows}
 use Rattle.scheme.proofs.HonestAnswers.{combination-length}
 use Rattle.commitment.specs.Shape.{sizesIn}
 use Rattle.answers.proofs.Combining.{batching-one, interpolation-asks}
@@ -23,7 +24,7 @@ interpolate-from-requires : tie.Need-interpolate-from-requires
 interpolate-from-requires c κs =
     let s = c .before .before .before .before .before .before .before .before .before .before .before .before .args in
     let n : ℕ = length (s .out .now) in
-    let es : List (List ℕ) = extendedRows (sizesIn (s .s)) (lentOf (s .coefficients .now) (s .tails .now) (s .blinds .now) [] []) in
+    let es : List (List ℕ) = extendedRows (sizesIn (s .s)) (lentRows (s .coefficients .now) (s .tails .now) (s .blinds .now)) in
     interpolation-asks (s .first .0) n (s .gamma .0) es (s .out .now) (c .before .before .before .before .combine-lent .last .1 .1 .1 .1 .1 .0)
     (c .before .before .before .before .before .before .before .before .before .before .before .before .pre .2)
     (answer-some (sizesIn (s .s)) (s .coefficients .now) (s .tails .now) (s .blinds .now) (c .before .before .before .before .before .before .before .before .before .before .before .before .pre .0) n
@@ -45,7 +46,7 @@ returns : tie.Need-returns
 returns c =
     let s = c .before .before .before .before .before .before .before .before .before .before .before .before .before .before .before .before .before .before .before .before .before .args in
     let n : ℕ = length (s .out .now) in
-    let es : List (List ℕ) = extendedRows (sizesIn (s .s)) (lentOf (s .coefficients .now) (s .tails .now) (s .blinds .now) [] []) in
+    let es : List (List ℕ) = extendedRows (sizesIn (s .s)) (lentRows (s .coefficients .now) (s .tails .now) (s .blinds .now)) in
     let sum : List ℕ = c .before .before .before .before .before .before .before .before .before .before .before .before .before .combine-lent .last .1 .1 .1 .1 .1 .0 in
     let e : sum ≡ combination n (s .gamma .0) es = c .before .before .before .before .before .before .before .before .before .before .before .before .before .combine-lent .ensures ∙ ap (λ (k : ℕ). combination k (s .gamma .0) es)
     (sym (c .before .before .before .before .before .before .before .before .before .before .before .before .before .before .before .before .before .before .before .before .before .pre .1)) in

@@ -1,11 +1,12 @@
 -- `answers::put_answer` meets its contract: narrow answers take a small array.
 use mathlib.Core.Path.{_≡_, sym, _∙_, ap, subst}
-use mathlib.Core.List.{List, []}
+use mathlib.Core.List.{List}
 use Prim.Native.Nat.{ℕ, _+_, _*_, _≤_}
 use lib.ListN.{length, take}
 use lib.Seq.{length-take-le}
 use Rattle.lists.specs.Bytes.{bytesOf}
-use Rattle.scheme.specs.Layers.{lentOf, extendedRows, combination}
+use Rattle.scheme.specs.Layers.{extendedRows, combination}
+use Rattle.lent.specs.Partly.{lentRows}
 use Rattle.commitment.specs.Shape.{sizesIn}
 use Rattle.lists.specs.Spliced.{spliced}
 use Rattle.answers.proofs.Rows.{answer-fits, answer-room}
@@ -46,7 +47,7 @@ returns c =
     let s = c .before .before .before .before .before .before .before .before .before .before .before .before .args in
     let b : List ℕ = c .before .before .before .before .before .before .blank-few .result in
     let l : length b ≡ 32 = search needs in
-    let es : List (List ℕ) = extendedRows (sizesIn (s .s)) (lentOf (s .coefficients .now) (s .tails .now) (s .blinds .now) [] []) in
+    let es : List (List ℕ) = extendedRows (sizesIn (s .s)) (lentRows (s .coefficients .now) (s .tails .now) (s .blinds .now)) in
     c .before .before .before .put-answer-in .ensures ∙ ap (λ (k : ℕ). spliced (s .at) (4 * k) (bytesOf (combination k (s .z .0) es)) (s .out .now)) (length-take-le (s .n) b (omega arith))
 
 blank-requires : tie.Need-blank-requires
@@ -87,7 +88,7 @@ returns-2 c =
     let s = c .before .before .before .before .before .before .before .before .before .before .before .before .args in
     let b : List ℕ = c .before .before .before .before .before .before .blank .result in
     let l : length b ≡ 320 = search needs in
-    let es : List (List ℕ) = extendedRows (sizesIn (s .s)) (lentOf (s .coefficients .now) (s .tails .now) (s .blinds .now) [] []) in
+    let es : List (List ℕ) = extendedRows (sizesIn (s .s)) (lentRows (s .coefficients .now) (s .tails .now) (s .blinds .now)) in
     c .before .before .before .put-answer-in2 .ensures ∙ ap (λ (k : ℕ). spliced (s .at) (4 * k) (bytesOf (combination k (s .z .0) es)) (s .out .now))
     (sym (answer-room (sizesIn (s .s)) (s .coefficients .now) (s .tails .now) (s .blinds .now) (c .before .before .before .before .before .before .before .before .before .before .before .before .pre .0) (s .n) b
     (c .before .before .before .before .before .before .before .before .before .before .before .before .pre .1) l))

@@ -1,9 +1,10 @@
 -- `answers::put_answer_in` meets its contract.
 use mathlib.Core.Path.{sym, _∙_, ap}
-use mathlib.Core.List.{List, []}
+use mathlib.Core.List.{List}
 use Prim.Native.Nat.{ℕ}
 use lib.ListN.{length}
-use Rattle.scheme.specs.Layers.{lentOf, extendedRows, combination}
+use Rattle.scheme.specs.Layers.{extendedRows, combination}
+use Rattle.lent.specs.Partly.{lentRows}
 use Rattle.scheme.proofs.HonestAnswers.{combination-length}
 use Rattle.commitment.specs.Shape.{sizesIn}
 use Rattle.answers.proofs.Writing.{put-answer}
@@ -27,7 +28,7 @@ returns : tie.Need-returns
 returns c =
     let s = c .before .before .before .before .before .before .before .before .before .before .before .before .before .before .args in
     let n : ℕ = length (s .answer .now) in
-    let es : List (List ℕ) = extendedRows (sizesIn (s .s)) (lentOf (s .coefficients .now) (s .tails .now) (s .blinds .now) [] []) in
+    let es : List (List ℕ) = extendedRows (sizesIn (s .s)) (lentRows (s .coefficients .now) (s .tails .now) (s .blinds .now)) in
     c .before .before .put-words .ensures
     ∙ put-answer (s .at) n (c .before .before .before .before .before .before .before .combine-lent .last .1 .1 .1 .1 .1 .0) (combination n (s .z .0) es) (s .out .now)
     (c .before .before .before .before .before .before .before .combine-lent .ensures ∙ ap (λ (k : ℕ). combination k (s .z .0) es)

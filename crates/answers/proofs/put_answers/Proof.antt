@@ -1,10 +1,11 @@
 -- `answers::put_answers` meets its contract. The invariant: the first p answers are written.
 use mathlib.Core.Path.{_≡_, refl, sym, _∙_, ap, subst}
-use mathlib.Core.List.{List, []}
+use mathlib.Core.List.{List}
 use Prim.Native.Nat.{ℕ, _+_, _*_, _-_, _≤_}
 use lib.ListN.{length, drop, getD}
 use Rattle.lists.specs.Bytes.{words, length-words, word-from, bytesOf}
-use Rattle.scheme.specs.Layers.{lentOf, extendedRows}
+use Rattle.scheme.specs.Layers.{extendedRows}
+use Rattle.lent.specs.Partly.{lentRows}
 use Rattle.scheme.proofs.HonestAnswers.{combination-length}
 use Rattle.commitment.specs.Shape.{sizesIn}
 use Rattle.lists.specs.Spliced.{spliced}
@@ -18,7 +19,7 @@ use Rattle.answers.proofs.put_answers.Tie as tie
 
 abbrev Inv-loop : tie.InvT-loop
 Inv-loop s question points m coefficients tails blinds n out₀ at size p₀ out p =
-    (size ≡ 4 * n) × (p ≤ m) × (out ≡ answersTo (answerAt n (extendedRows (sizesIn s) (lentOf coefficients tails blinds [] []))) (words m (drop points question)) n at out₀ p) × (length out ≡ length out₀)
+    (size ≡ 4 * n) × (p ≤ m) × (out ≡ answersTo (answerAt n (extendedRows (sizesIn s) (lentRows coefficients tails blinds))) (words m (drop points question)) n at out₀ p) × (length out ≡ length out₀)
 
 abbrev μ-loop : tie.MeasureT-loop
 μ-loop s question points m coefficients tails blinds n out₀ at size p₀ out p = m - p
@@ -34,7 +35,7 @@ loop-holds c =
     let s = c .before .before .before .before .before .args in (
       refl,
       omega arith,
-      answers-none (answerAt (s .n) (extendedRows (sizesIn (s .s)) (lentOf (s .coefficients .now) (s .tails .now) (s .blinds .now) [] []))) (words (s .m) (drop (s .points) (s .question .now))) (s .n) (s .at)
+      answers-none (answerAt (s .n) (extendedRows (sizesIn (s .s)) (lentRows (s .coefficients .now) (s .tails .now) (s .blinds .now)))) (words (s .m) (drop (s .points) (s .question .now))) (s .n) (s .at)
           (s .out .now),
       refl,
     )
@@ -51,7 +52,7 @@ word-requires c κs = search needs
 mul-put-answer : tie.Need-mul-put-answer Inv-loop μ-loop
 mul-put-answer c =
     let s = c .before .before .before .before .before .before .before .before .before .args in
-    let es : List (List ℕ) = extendedRows (sizesIn (s .s)) (lentOf (s .coefficients .now) (s .tails .now) (s .blinds .now) [] []) in
+    let es : List (List ℕ) = extendedRows (sizesIn (s .s)) (lentRows (s .coefficients .now) (s .tails .now) (s .blinds .now)) in
     let h : s .at + 4 * s .n * c .before .before .before .loop .p + 4 * s .n ≤ length (s .out .now) =
     answers-room (answerAt (s .n) es) (words (s .m) (drop (s .points) (s .question .now))) (s .n) (s .at) (s .out .now) (s .m) (length-words (s .m) (drop (s .points) (s .question .now)))
     (λ z. combination-length (s .n) z es) (c .before .before .before .before .before .before .before .before .before .pre .3) (c .before .before .before .loop .p) (omega arith) in
@@ -60,7 +61,7 @@ mul-put-answer c =
 add-put-answer : tie.Need-add-put-answer Inv-loop μ-loop
 add-put-answer c =
     let s = c .before .before .before .before .before .before .before .before .before .args in
-    let es : List (List ℕ) = extendedRows (sizesIn (s .s)) (lentOf (s .coefficients .now) (s .tails .now) (s .blinds .now) [] []) in
+    let es : List (List ℕ) = extendedRows (sizesIn (s .s)) (lentRows (s .coefficients .now) (s .tails .now) (s .blinds .now)) in
     let h : s .at + 4 * s .n * c .before .before .before .loop .p + 4 * s .n ≤ length (s .out .now) =
     answers-room (answerAt (s .n) es) (words (s .m) (drop (s .points) (s .question .now))) (s .n) (s .at) (s .out .now) (s .m) (length-words (s .m) (drop (s .points) (s .question .now)))
     (λ z. combination-length (s .n) z es) (c .before .before .before .before .before .before .before .before .before .pre .3) (c .before .before .before .loop .p) (omega arith) in
@@ -69,7 +70,7 @@ add-put-answer c =
 put-answer-requires : tie.Need-put-answer-requires Inv-loop μ-loop
 put-answer-requires c κs =
     let s = c .before .before .before .before .before .before .before .before .before .args in
-    let es : List (List ℕ) = extendedRows (sizesIn (s .s)) (lentOf (s .coefficients .now) (s .tails .now) (s .blinds .now) [] []) in
+    let es : List (List ℕ) = extendedRows (sizesIn (s .s)) (lentRows (s .coefficients .now) (s .tails .now) (s .blinds .now)) in
     let h : s .at + 4 * s .n * c .before .before .before .loop .p + 4 * s .n ≤ length (s .out .now) =
     answers-room (answerAt (s .n) es) (words (s .m) (drop (s .points) (s .question .now))) (s .n) (s .at) (s .out .now) (s .m) (length-words (s .m) (drop (s .points) (s .question .now)))
     (λ z. combination-length (s .n) z es) (c .before .before .before .before .before .before .before .before .before .pre .3) (c .before .before .before .loop .p) (omega arith) in (
@@ -90,7 +91,7 @@ loop-again c =
     let s = c .before .before .before .before .before .before .before .before .before .before .before .before .args in
     let p : ℕ = c .before .before .before .before .before .before .loop .p in
     let xs : List ℕ = (words (s .m) (drop (s .points) (s .question .now))) in
-    let es : List (List ℕ) = extendedRows (sizesIn (s .s)) (lentOf (s .coefficients .now) (s .tails .now) (s .blinds .now) [] []) in
+    let es : List (List ℕ) = extendedRows (sizesIn (s .s)) (lentRows (s .coefficients .now) (s .tails .now) (s .blinds .now)) in
     let f : ℕ → List ℕ = answerAt (s .n) es in
     let z : c .before .before .before .before .word .result ≡ getD xs p 0 = c .before .before .before .before .word .ensures ∙ sym (word-from (s .m) (s .points) p (s .question .now) (omega arith)) in
     let r = answers-turn f xs (s .n) (s .at) (s .out .now) (s .m) (length-words (s .m) (drop (s .points) (s .question .now)))
@@ -105,7 +106,7 @@ same-length c = search needs
 returns : tie.Need-returns Inv-loop μ-loop
 returns c =
     let s = c .before .before .before .before .before .before .before .args in
-    c .before .loop .inv .2 ∙ answers-all (answerAt (s .n) (extendedRows (sizesIn (s .s)) (lentOf (s .coefficients .now) (s .tails .now) (s .blinds .now) [] []))) (words (s .m) (drop (s .points) (s .question .now))) (s .n) (s .at)
+    c .before .loop .inv .2 ∙ answers-all (answerAt (s .n) (extendedRows (sizesIn (s .s)) (lentRows (s .coefficients .now) (s .tails .now) (s .blinds .now)))) (words (s .m) (drop (s .points) (s .question .now))) (s .n) (s .at)
     (s .out .now)
     (s .m) (length-words (s .m) (drop (s .points) (s .question .now))) (c .before .loop .p) (omega arith)
 

@@ -1,9 +1,10 @@
 -- `answers::put_batching_in` meets its contract.
 use mathlib.Core.Path.{_∙_, ap}
-use mathlib.Core.List.{List, []}
+use mathlib.Core.List.{List}
 use Prim.Native.Nat.{ℕ}
 use lib.ListN.{length}
-use Rattle.scheme.specs.Layers.{lentOf, extendedRows}
+use Rattle.scheme.specs.Layers.{extendedRows}
+use Rattle.lent.specs.Partly.{lentRows}
 use Rattle.scheme.proofs.HonestAnswers.{combination-length}
 use Rattle.commitment.specs.Shape.{sizesIn}
 use Rattle.answers.specs.Answers.{batchingOver}
@@ -31,7 +32,7 @@ returns : tie.Need-returns
 returns c =
     let s = c .before .before .before .before .before .before .before .before .before .before .before .before .before .before .before .before .before .before .before .args in
     let n : ℕ = length (s .mask .now) in
-    let es : List (List ℕ) = extendedRows (sizesIn (s .s)) (lentOf (s .coefficients .now) (s .tails .now) (s .blinds .now) [] []) in
+    let es : List (List ℕ) = extendedRows (sizesIn (s .s)) (lentRows (s .coefficients .now) (s .tails .now) (s .blinds .now)) in
     c .before .before .put-words .ensures
     ∙ put-answer (s .at) n (c .before .before .before .before .before .before .before .before .before .batching-answer .last .1 .1 .1 .1 .1 .1 .1 .1 .0) (batchingOver (s .first .0) n es (s .mask .now) (s .gamma .0)) (s .out .now)
     (c .before .before .before .before .before .before .before .before .before .batching-answer .ensures ∙ ap (λ (k : ℕ). batchingOver (s .first .0) k es (s .mask .now) (s .gamma .0))

@@ -1,14 +1,15 @@
 -- `answers::put_batchings` meets its contract. The invariant: the first k answers are written.
 use Rattle.scheme.specs.Sizes.{SizesInOrder}
 use mathlib.Core.Path.{_≡_, refl, sym, _∙_, ap, ap₂, subst}
-use mathlib.Core.List.{List, []}
+use mathlib.Core.List.{List}
 use Prim.Native.Nat.{ℕ, _+_, _*_, _-_, _≤_, _<_}
 use native.Mathlib.Nat.{zero-add}
 use lib.ListN.{length, take, drop, getD}
 use Rattle.lists.specs.Bytes.{words, word-from, bytesOf}
 use Rattle.lists.specs.Parts.{part-is}
 use Rattle.lists.specs.Range.{upFrom, length-upFrom, upFrom-at}
-use Rattle.scheme.specs.Layers.{lentOf, extendedRows}
+use Rattle.scheme.specs.Layers.{extendedRows}
+use Rattle.lent.specs.Partly.{lentRows}
 use Rattle.scheme.proofs.HonestAnswers.{combination-length}
 use Rattle.commitment.specs.Shape.{sizesIn}
 use Rattle.algebra.specs.Pairs.{pointsEnd}
@@ -22,7 +23,7 @@ use Rattle.answers.proofs.put_batchings.Tie as tie
 
 abbrev Inv-loop : tie.InvT-loop
 Inv-loop s question challenges first coefficients tails blinds n masks out₀ at eta size k₀ out k =
-    (eta ≡ s .eta) × (size ≡ 4 * n) × (k ≤ eta) × (out ≡ answersTo (batchingAt (first .0) n (extendedRows (sizesIn s) (lentOf coefficients tails blinds [] [])) masks (words (s .eta) (drop challenges question))) (upFrom 0 (s .eta)) n at
+    (eta ≡ s .eta) × (size ≡ 4 * n) × (k ≤ eta) × (out ≡ answersTo (batchingAt (first .0) n (extendedRows (sizesIn s) (lentRows coefficients tails blinds)) masks (words (s .eta) (drop challenges question))) (upFrom 0 (s .eta)) n at
     out₀ k) × (length out ≡ length out₀)
 
 abbrev μ-loop : tie.MeasureT-loop
@@ -37,7 +38,7 @@ mul-size c = search needs
 loop-holds : tie.Need-loop-holds Inv-loop μ-loop
 loop-holds c =
     let s = c .before .before .before .before .before .before .before .args in
-    let es : List (List ℕ) = extendedRows (sizesIn (s .s)) (lentOf (s .coefficients .now) (s .tails .now) (s .blinds .now) [] []) in
+    let es : List (List ℕ) = extendedRows (sizesIn (s .s)) (lentRows (s .coefficients .now) (s .tails .now) (s .blinds .now)) in
     (refl, refl, omega arith, answers-none (batchingAt (s .first .0) (s .n) es (s .masks .now) (words (s .s .eta) (drop (s .challenges) (s .question .now)))) (upFrom 0 (s .s .eta)) (s .n) (s .at) (s .out .now), refl)
 
 mul-word : tie.Need-mul-word Inv-loop μ-loop
@@ -87,7 +88,7 @@ part-put-batching-end c =
 mul-put-batching-2 : tie.Need-mul-put-batching-2 Inv-loop μ-loop
 mul-put-batching-2 c =
     let s = c .before .before .before .before .before .before .before .before .before .before .before .before .args in
-    let es : List (List ℕ) = extendedRows (sizesIn (s .s)) (lentOf (s .coefficients .now) (s .tails .now) (s .blinds .now) [] []) in
+    let es : List (List ℕ) = extendedRows (sizesIn (s .s)) (lentRows (s .coefficients .now) (s .tails .now) (s .blinds .now)) in
     let h : s .at + 4 * s .n * c .before .before .before .before .loop .k + 4 * s .n ≤ length (s .out .now) =
     answers-room (batchingAt (s .first .0) (s .n) es (s .masks .now) (words (s .s .eta) (drop (s .challenges) (s .question .now)))) (upFrom 0 (s .s .eta)) (s .n) (s .at) (s .out .now) (s .s .eta) (length-upFrom 0 (s .s .eta))
     (λ k. combination-length (s .n) (getD (words (s .s .eta) (drop (s .challenges) (s .question .now))) k 0) _) (c .before .before .before .before .before .before .before .before .before .before .before .before .pre .5)
@@ -98,7 +99,7 @@ mul-put-batching-2 c =
 add-put-batching : tie.Need-add-put-batching Inv-loop μ-loop
 add-put-batching c =
     let s = c .before .before .before .before .before .before .before .before .before .before .before .before .args in
-    let es : List (List ℕ) = extendedRows (sizesIn (s .s)) (lentOf (s .coefficients .now) (s .tails .now) (s .blinds .now) [] []) in
+    let es : List (List ℕ) = extendedRows (sizesIn (s .s)) (lentRows (s .coefficients .now) (s .tails .now) (s .blinds .now)) in
     let h : s .at + 4 * s .n * c .before .before .before .before .loop .k + 4 * s .n ≤ length (s .out .now) =
     answers-room (batchingAt (s .first .0) (s .n) es (s .masks .now) (words (s .s .eta) (drop (s .challenges) (s .question .now)))) (upFrom 0 (s .s .eta)) (s .n) (s .at) (s .out .now) (s .s .eta) (length-upFrom 0 (s .s .eta))
     (λ k. combination-length (s .n) (getD (words (s .s .eta) (drop (s .challenges) (s .question .now))) k 0) _) (c .before .before .before .before .before .before .before .before .before .before .before .before .pre .5)
@@ -109,7 +110,7 @@ add-put-batching c =
 put-batching-requires : tie.Need-put-batching-requires Inv-loop μ-loop
 put-batching-requires c κs =
     let s = c .before .before .before .before .before .before .before .before .before .before .before .before .args in
-    let es : List (List ℕ) = extendedRows (sizesIn (s .s)) (lentOf (s .coefficients .now) (s .tails .now) (s .blinds .now) [] []) in
+    let es : List (List ℕ) = extendedRows (sizesIn (s .s)) (lentRows (s .coefficients .now) (s .tails .now) (s .blinds .now)) in
     let h : s .at + 4 * s .n * c .before .before .before .before .loop .k + 4 * s .n ≤ length (s .out .now) =
     answers-room (batchingAt (s .first .0) (s .n) es (s .masks .now) (words (s .s .eta) (drop (s .challenges) (s .question .now)))) (upFrom 0 (s .s .eta)) (s .n) (s .at) (s .out .now) (s .s .eta) (length-upFrom 0 (s .s .eta))
     (λ k. combination-length (s .n) (getD (words (s .s .eta) (drop (s .challenges) (s .question .now))) k 0) _) (c .before .before .before .before .before .before .before .before .before .before .before .before .pre .5)
@@ -133,7 +134,7 @@ loop-again : tie.Need-loop-again Inv-loop μ-loop
 loop-again c =
     let s = c .before .before .before .before .before .before .before .before .before .before .before .before .before .before .before .args in
     let k : ℕ = c .before .before .before .before .before .before .before .loop .k in
-    let es : List (List ℕ) = extendedRows (sizesIn (s .s)) (lentOf (s .coefficients .now) (s .tails .now) (s .blinds .now) [] []) in
+    let es : List (List ℕ) = extendedRows (sizesIn (s .s)) (lentRows (s .coefficients .now) (s .tails .now) (s .blinds .now)) in
     let γs : List ℕ = (words (s .s .eta) (drop (s .challenges) (s .question .now))) in
     let f : ℕ → List ℕ = batchingAt (s .first .0) (s .n) es (s .masks .now) γs in
     let mask : List ℕ = take (s .n * k + s .n - s .n * k) (drop (s .n * k) (s .masks .now)) in
@@ -155,7 +156,7 @@ same-length c = search needs
 returns : tie.Need-returns Inv-loop μ-loop
 returns c =
     let s = c .before .before .before .before .before .before .before .before .before .args in
-    let es : List (List ℕ) = extendedRows (sizesIn (s .s)) (lentOf (s .coefficients .now) (s .tails .now) (s .blinds .now) [] []) in
+    let es : List (List ℕ) = extendedRows (sizesIn (s .s)) (lentRows (s .coefficients .now) (s .tails .now) (s .blinds .now)) in
     c .before .loop .inv .3 ∙ answers-all (batchingAt (s .first .0) (s .n) es (s .masks .now) (words (s .s .eta) (drop (s .challenges) (s .question .now)))) (upFrom 0 (s .s .eta)) (s .n) (s .at) (s .out .now) (s .s .eta)
     (length-upFrom 0 (s .s .eta)) (c .before .loop .k) (omega arith)
 

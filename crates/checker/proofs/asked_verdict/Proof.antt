@@ -57,99 +57,119 @@ question-indices-requires c κs =
 root-at-requires : tie.Need-root-at-requires
 root-at-requires c κs = search needs
 
+salt-at-requires : tie.Need-salt-at-requires
+salt-at-requires c κs = search needs
+
 challenges-at-requires : tie.Need-challenges-at-requires
 challenges-at-requires c κs = search needs
 
 array-share-prefix-challenges : tie.Need-array-share-prefix-challenges
 array-share-prefix-challenges c =
-    let s = c .before .before .before .before .before .before .before .before .before .before .before .before .before .before .before .before .before .before .args in
-    let b : length (c .before .before .before .before .before .before .before .before .before .before .before .before .before .blank-challenges .result) ≡ 4 = search needs in
+    let s = c .before .before .before .before .before .before .before .before .before .before .before .before .before .before .before .before .before .before .before .args in
+    let b : length (c .before .before .before .before .before .before .before .before .before .before .before .before .before .before .blank-challenges .result) ≡ 4 = search needs in
     omega (
       arith,
       sizes-in-order (sizesIn (s .s)) (taken (s .question .now) (s .s) (s .m)
-          (c .before .before .before .before .before .before .before .before .before .before .before .before .before .before .before .before .before .before .pre) .sizes-ok) .η-high,
-      c .before .before .before .before .before .before .before .before .before .before .before .question-challenges .kept .1 .1 .1 .0,
+          (c .before .before .before .before .before .before .before .before .before .before .before .before .before .before .before .before .before .before .before .pre) .sizes-ok) .η-high,
+      c .before .before .before .before .before .before .before .before .before .before .before .before .question-challenges .kept .1 .1 .1 .0,
     )
 
 slice-aggregate-reply-verdict : tie.Need-slice-aggregate-reply-verdict
 slice-aggregate-reply-verdict c =
-    let s = c .before .before .before .before .before .before .before .before .before .before .before .before .before .before .before .before .before .before .before .args in
-    sym (ap length (c .before .before .before .before .before .before .before .before .before .before .before .before .question-challenges .ensures) ∙ challenges-count (s .question .now) (s .s) (s .m)
-    (c .before .before .before .before .before .before .before .before .before .before .before .before .before .before .before .before .before .before .before .pre))
+    let s = c .before .before .before .before .before .before .before .before .before .before .before .before .before .before .before .before .before .before .before .before .args in
+    sym (ap length (c .before .before .before .before .before .before .before .before .before .before .before .before .before .question-challenges .ensures) ∙ challenges-count (s .question .now) (s .s) (s .m)
+    (c .before .before .before .before .before .before .before .before .before .before .before .before .before .before .before .before .before .before .before .before .pre))
 
 array-share-prefix-points : tie.Need-array-share-prefix-points
 array-share-prefix-points c =
-    let s = c .before .before .before .before .before .before .before .before .before .before .before .before .before .before .before .before .before .before .before .args in
-    let b : length (c .before .before .before .before .before .before .before .before .before .before .blank-points .result) ≡ 8 = search needs in
+    let s = c .before .before .before .before .before .before .before .before .before .before .before .before .before .before .before .before .before .before .before .before .args in
+    let b : length (c .before .before .before .before .before .before .before .before .before .before .before .blank-points .result) ≡ 8 = search needs in
     omega (
       arith,
-      taken (s .question .now) (s .s) (s .m) (c .before .before .before .before .before .before .before .before .before .before .before .before .before .before .before .before .before .before .before .pre) .m-high,
-      c .before .before .before .before .before .before .before .before .question-points .kept .1 .1 .1 .0,
+      taken (s .question .now) (s .s) (s .m) (c .before .before .before .before .before .before .before .before .before .before .before .before .before .before .before .before .before .before .before .before .pre) .m-high,
+      c .before .before .before .before .before .before .before .before .before .question-points .kept .1 .1 .1 .0,
     )
 
 slice-aggregate-reply-verdict-2 : tie.Need-slice-aggregate-reply-verdict-2
 slice-aggregate-reply-verdict-2 c =
-    let s = c .before .before .before .before .before .before .before .before .before .before .before .before .before .before .before .before .before .before .before .before .args in
-    sym (ap length (c .before .before .before .before .before .before .before .before .before .question-points .ensures) ∙ points-count (s .question .now) (s .s) (s .m)
-    (c .before .before .before .before .before .before .before .before .before .before .before .before .before .before .before .before .before .before .before .before .pre))
+    let s = c .before .before .before .before .before .before .before .before .before .before .before .before .before .before .before .before .before .before .before .before .before .args in
+    sym (ap length (c .before .before .before .before .before .before .before .before .before .before .question-points .ensures) ∙ points-count (s .question .now) (s .s) (s .m)
+    (c .before .before .before .before .before .before .before .before .before .before .before .before .before .before .before .before .before .before .before .before .before .pre))
 
 array-share-prefix-indices : tie.Need-array-share-prefix-indices
 array-share-prefix-indices c =
-    let s = c .before .before .before .before .before .before .before .before .before .before .before .before .before .before .before .before .before .before .before .before .args in
-    let b : length (c .before .before .before .before .before .before .before .blank-indices .result) ≡ 64 = search needs in
+    let s = c .before .before .before .before .before .before .before .before .before .before .before .before .before .before .before .before .before .before .before .before .before .args in
+    let b : length (c .before .before .before .before .before .before .before .before .blank-indices .result) ≡ 64 = search needs in
     omega (
       arith,
       sizes-in-order (sizesIn (s .s)) (taken (s .question .now) (s .s) (s .m)
-          (c .before .before .before .before .before .before .before .before .before .before .before .before .before .before .before .before .before .before .before .before .pre) .sizes-ok) .ℓ-high,
-      c .before .before .before .before .before .question-indices .kept .1 .1 .1 .0,
+          (c .before .before .before .before .before .before .before .before .before .before .before .before .before .before .before .before .before .before .before .before .before .pre) .sizes-ok) .ℓ-high,
+      c .before .before .before .before .before .before .question-indices .kept .1 .1 .1 .0,
     )
 
 slice-aggregate-reply-verdict-3 : tie.Need-slice-aggregate-reply-verdict-3
 slice-aggregate-reply-verdict-3 c =
-    let s = c .before .before .before .before .before .before .before .before .before .before .before .before .before .before .before .before .before .before .before .before .before .args in
-    sym (ap length (c .before .before .before .before .before .before .question-indices .ensures) ∙ asked-indices (s .question .now) (s .s) (s .m)
-    (c .before .before .before .before .before .before .before .before .before .before .before .before .before .before .before .before .before .before .before .before .before .pre) .0)
+    let s = c .before .before .before .before .before .before .before .before .before .before .before .before .before .before .before .before .before .before .before .before .before .before .args in
+    sym (ap length (c .before .before .before .before .before .before .before .question-indices .ensures) ∙ asked-indices (s .question .now) (s .s) (s .m)
+    (c .before .before .before .before .before .before .before .before .before .before .before .before .before .before .before .before .before .before .before .before .before .before .pre) .0)
 
 sub-reply-verdict : tie.Need-sub-reply-verdict
-sub-reply-verdict c = omega (arith, c .before .before .before .before .root-at .ensures, c .before .before .before .challenges-at .ensures)
+sub-reply-verdict c = search needs
 
 part-reply-verdict-start : tie.Need-part-reply-verdict-start
-part-reply-verdict-start c = omega (arith, c .before .before .before .before .root-at .ensures, c .before .before .before .challenges-at .ensures)
+part-reply-verdict-start c = search needs
 
 part-reply-verdict-end : tie.Need-part-reply-verdict-end
 part-reply-verdict-end c =
-    let s = c .before .before .before .before .before .before .before .before .before .before .before .before .before .before .before .before .before .before .before .before .before .args in
-    omega (
-      arith,
-      c .before .before .before .challenges-at .ensures,
-      taken (s .question .now) (s .s) (s .m)
-          (c .before .before .before .before .before .before .before .before .before .before .before .before .before .before .before .before .before .before .before .before .before .pre) .long,
-    )
+    let s = c .before .before .before .before .before .before .before .before .before .before .before .before .before .before .before .before .before .before .before .before .before .before in
+    let a = s .args in
+    omega (arith, c .before .before .before .before .salt-at .ensures, taken (a .question .now) (a .s) (a .m) (s .pre) .long)
+
+sub-reply-verdict-2 : tie.Need-sub-reply-verdict-2
+sub-reply-verdict-2 c = search needs
+
+part-reply-verdict-start-2 : tie.Need-part-reply-verdict-start-2
+part-reply-verdict-start-2 c = search needs
+
+part-reply-verdict-end-2 : tie.Need-part-reply-verdict-end-2
+part-reply-verdict-end-2 c =
+    let s = c .before .before .before .before .before .before .before .before .before .before .before .before .before .before .before .before .before .before .before .before .before .before .before in
+    let a = s .args in
+    omega (arith, c .before .before .before .before .challenges-at .ensures, taken (a .question .now) (a .s) (a .m) (s .pre) .long)
 
 reply-verdict-requires : tie.Need-reply-verdict-requires
 reply-verdict-requires c κs =
-    let s = c .before .before .before .before .before .before .before .before .before .before .before .before .before .before .before .before .before .before .before .before .before .before .args in
-    was-posed (s .question .now) (s .s) (s .m) (take (s .s .eta) (c .before .before .before .before .before .before .before .before .before .before .before .before .before .before .before .question-challenges .last .1 .1 .1 .0))
-    (take (s .m) (c .before .before .before .before .before .before .before .before .before .before .before .question-points .last .1 .1 .1 .0))
-    (take (s .s .l) (c .before .before .before .before .before .before .before .question-indices .last .1 .1 .1 .0))
-    (c .before .before .before .before .before .before .before .before .before .before .before .before .before .before .before .before .before .before .before .before .before .before .pre)
-    (c .before .before .before .before .before .before .before .before .before .before .before .before .before .before .before .question-challenges .ensures)
-    (c .before .before .before .before .before .before .before .before .before .before .before .question-points .ensures) (c .before .before .before .before .before .before .before .question-indices .ensures)
+    let s = c .before .before .before .before .before .before .before .before .before .before .before .before .before .before .before .before .before .before .before .before .before .before .before .before in
+    let a = s .args in
+    let q : List ℕ = a .question .now in
+    let saltAt′ = c .before .before .before .before .before .before .salt-at in
+    let challengesAt′ = c .before .before .before .before .before .challenges-at in
+    let challenges′ = c .before .before .before .before .before .before .before .before .before .before .before .before .before .before .before .before .before .question-challenges in
+    let points′ = c .before .before .before .before .before .before .before .before .before .before .before .before .before .question-points in
+    let indices′ = c .before .before .before .before .before .before .before .before .before .question-indices in
+    was-posed q (a .s) (a .m) (take (challengesAt′ .result - saltAt′ .result) (drop (saltAt′ .result) q))
+    (take (a .s .eta) (challenges′ .last .1 .1 .1 .0)) (take (a .m) (points′ .last .1 .1 .1 .0)) (take (a .s .l) (indices′ .last .1 .1 .1 .0)) (s .pre)
+    (ap₂ (λ (to from : ℕ). take (to - from) (drop from q)) (challengesAt′ .ensures) (saltAt′ .ensures))
+    (challenges′ .ensures) (points′ .ensures) (indices′ .ensures)
 
 returns : tie.Need-returns
 returns c =
-    let s = c .before .before .before .before .before .before .before .before .before .before .before .before .before .before .before .before .before .before .before .before .before .before .before .args in
-    let root : List ℕ = take (c .before .before .before .before .before .challenges-at .result - c .before .before .before .before .before .before .root-at .result)
-    (drop (c .before .before .before .before .before .before .root-at .result) (s .question .now)) in
+    let s = c .before .before .before .before .before .before .before .before .before .before .before .before .before .before .before .before .before .before .before .before .before .before .before .before .before in
+    let a = s .args in
+    let q : List ℕ = a .question .now in
+    let rootAt′ = c .before .before .before .before .before .before .before .before .root-at in
+    let saltAt′ = c .before .before .before .before .before .before .before .salt-at in
+    let challengesAt′ = c .before .before .before .before .before .before .challenges-at in
+    let challenges′ = c .before .before .before .before .before .before .before .before .before .before .before .before .before .before .before .before .before .before .question-challenges in
+    let points′ = c .before .before .before .before .before .before .before .before .before .before .before .before .before .before .question-points in
+    let indices′ = c .before .before .before .before .before .before .before .before .before .before .question-indices in
     c .reply-verdict .ensures
-    ∙ ap (λ (u : Question). verdictOf (replyTests u (s .reply .now)))
-    (posed-is (s .question .now) (s .s) (s .m) root (take (s .s .eta) (c .before .before .before .before .before .before .before .before .before .before .before .before .before .before .before .before .question-challenges .last .1 .1 .1 .0))
-    (take (s .m) (c .before .before .before .before .before .before .before .before .before .before .before .before .question-points .last .1 .1 .1 .0))
-    (take (s .s .l) (c .before .before .before .before .before .before .before .before .question-indices .last .1 .1 .1 .0))
-    (c .before .before .before .before .before .before .before .before .before .before .before .before .before .before .before .before .before .before .before .before .before .before .before .pre)
-    (ap₂ (λ (to from : ℕ). take (to - from) (drop from (s .question .now))) (c .before .before .before .before .before .challenges-at .ensures) (c .before .before .before .before .before .before .root-at .ensures))
-    (c .before .before .before .before .before .before .before .before .before .before .before .before .before .before .before .before .question-challenges .ensures)
-    (c .before .before .before .before .before .before .before .before .before .before .before .before .question-points .ensures) (c .before .before .before .before .before .before .before .before .question-indices .ensures))
+    ∙ ap (λ (u : Question). verdictOf (replyTests u (a .reply .now)))
+    (posed-is q (a .s) (a .m) (take (saltAt′ .result - rootAt′ .result) (drop (rootAt′ .result) q)) (take (challengesAt′ .result - saltAt′ .result) (drop (saltAt′ .result) q))
+    (take (a .s .eta) (challenges′ .last .1 .1 .1 .0)) (take (a .m) (points′ .last .1 .1 .1 .0)) (take (a .s .l) (indices′ .last .1 .1 .1 .0)) (s .pre)
+    (ap₂ (λ (to from : ℕ). take (to - from) (drop from q)) (saltAt′ .ensures) (rootAt′ .ensures))
+    (ap₂ (λ (to from : ℕ). take (to - from) (drop from q)) (challengesAt′ .ensures) (saltAt′ .ensures))
+    (challenges′ .ensures) (points′ .ensures) (indices′ .ensures))
 
 pub asked-verdict-spec : {M : Type 1} → statement M
 asked-verdict-spec =
@@ -167,6 +187,7 @@ asked-verdict-spec =
     slice-aggregate-question-indices
     question-indices-requires
     root-at-requires
+    salt-at-requires
     challenges-at-requires
     array-share-prefix-challenges
     slice-aggregate-reply-verdict
@@ -177,5 +198,8 @@ asked-verdict-spec =
     sub-reply-verdict
     part-reply-verdict-start
     part-reply-verdict-end
+    sub-reply-verdict-2
+    part-reply-verdict-start-2
+    part-reply-verdict-end-2
     reply-verdict-requires
     returns)

@@ -17,15 +17,15 @@ same-length-2 c = search needs
 
 returns : tie.Need-returns
 returns c =
-    let args = c .before .before .before .before .before .before .before .before .before .before .before .args in
-    refused (sizesOf (args .h) (args .mu) (args .nu) (args .w) (args .l) (args .eta) (args .beta)) (lentOf (args .coefficients .now) (args .tails .now) (args .blinds .now) (args .masks .now) (args .nonces .now)) (args .table .now)
+    let args = c .before .before .before .before .before .before .before .before .before .before .before .before .args in
+    refused (sizesOf (args .h) (args .mu) (args .nu) (args .w) (args .l) (args .eta) (args .beta)) (lentOf (args .coefficients .now) (args .tails .now) (args .blinds .now) (args .masks .now) (args .nonces .now) (args .salt .now)) (args .table .now)
     (args .tree .now)
     (c .before .verdict .result) (c .before .verdict .ensures) (c .if1 .taken)
 
 fill-requires : tie.Need-fill-requires
 fill-requires c κs =
-    let args = c .before .before .before .before .before .before .before .before .before .before .before .before .before .args in
-    committable (sizesOf (args .h) (args .mu) (args .nu) (args .w) (args .l) (args .eta) (args .beta)) (lentOf (args .coefficients .now) (args .tails .now) (args .blinds .now) (args .masks .now) (args .nonces .now)) (args .table .now)
+    let args = c .before .before .before .before .before .before .before .before .before .before .before .before .before .before .args in
+    committable (sizesOf (args .h) (args .mu) (args .nu) (args .w) (args .l) (args .eta) (args .beta)) (lentOf (args .coefficients .now) (args .tails .now) (args .blinds .now) (args .masks .now) (args .nonces .now) (args .salt .now)) (args .table .now)
     (args .tree .now)
     (c .before .before .before .verdict .result) (c .before .before .before .verdict .ensures) (c .before .before .if1 .left)
 
@@ -37,10 +37,10 @@ same-length-4 c = search needs
 
 returns-2 : tie.Need-returns-2
 returns-2 c =
-    let args = c .before .before .before .before .before .before .before .before .before .before .before .before .before .before .before .before .before .before .args in
-    committed (sizesOf (args .h) (args .mu) (args .nu) (args .w) (args .l) (args .eta) (args .beta)) (lentOf (args .coefficients .now) (args .tails .now) (args .blinds .now) (args .masks .now) (args .nonces .now)) (args .table .now)
+    let args = c .before .before .before .before .before .before .before .before .before .before .before .before .before .before .before .before .before .before .before .args in
+    committed (sizesOf (args .h) (args .mu) (args .nu) (args .w) (args .l) (args .eta) (args .beta)) (lentOf (args .coefficients .now) (args .tails .now) (args .blinds .now) (args .masks .now) (args .nonces .now) (args .salt .now)) (args .table .now)
     (args .tree .now)
-    (c .before .before .before .before .before .before .before .before .verdict .result) (c .before .before .before .before .fill .last .1 .1 .1 .1 .1 .1 .0) (c .before .before .before .before .fill .last .1 .1 .1 .1 .1 .1 .1 .0)
+    (c .before .before .before .before .before .before .before .before .verdict .result) (c .before .before .before .before .fill .last .1 .1 .1 .1 .1 .1 .1 .0) (c .before .before .before .before .fill .last .1 .1 .1 .1 .1 .1 .1 .1 .0)
     (c .before .before .before .before .before .before .before .before .verdict .ensures) (c .before .before .before .before .before .before .before .if1 .left) (c .before .before .before .before .fill .ensures .0)
     (c .before .before .before .before .fill .ensures .1)
 

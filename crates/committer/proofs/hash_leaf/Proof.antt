@@ -37,32 +37,32 @@ array-share-prefix-leaf c = search needs
 
 slice-aggregate-leaf-digest : tie.Need-slice-aggregate-leaf-digest
 slice-aggregate-leaf-digest c =
-    let args = c .before .before .before .before .before .before .before .before .before .before .before .args in
+    let args = c .before .before .before .before .before .before .before .before .before .before .before .before .args in
     sym (record-length (args .values .now) (args .nonce .now) (c .before .before .before .before .before .before .before .blank-record .result) (c .before .before .before .before .before .put-words .last .0)
-    (c .before .before .put-bytes .last .0) (4 * length (args .values .now)) refl (c .before .before .before .before .before .before .before .before .before .before .before .pre .2)
+    (c .before .before .put-bytes .last .0) (4 * length (args .values .now)) refl (c .before .before .before .before .before .before .before .before .before .before .before .before .pre .3)
     (c .before .before .before .before .before .put-words .ensures) (c .before .before .put-bytes .ensures))
 
 leaf-digest-requires : tie.Need-leaf-digest-requires
 leaf-digest-requires c κs =
-    let args = c .before .before .before .before .before .before .before .before .before .before .before .before .args in
+    let args = c .before .before .before .before .before .before .before .before .before .before .before .before .before .args in
     let e = record-length (args .values .now) (args .nonce .now) (c .before .before .before .before .before .before .before .before .blank-record .result) (c .before .before .before .before .before .before .put-words .last .0)
-    (c .before .before .before .put-bytes .last .0) (4 * length (args .values .now)) refl (c .before .before .before .before .before .before .before .before .before .before .before .before .pre .2)
+    (c .before .before .before .put-bytes .last .0) (4 * length (args .values .now)) refl (c .before .before .before .before .before .before .before .before .before .before .before .before .before .pre .3)
     (c .before .before .before .before .before .before .put-words .ensures) (c .before .before .before .put-bytes .ensures) in
     let l : length (take (4 * length (args .values .now) + 32) (c .before .before .before .put-bytes .last .0)) ≤ 304 = omega
-    (arith, e, c .before .before .before .before .before .before .before .before .before .before .before .before .pre .1) in
-    (c .before .before .before .before .before .before .before .before .before .before .before .before .pre .0, l, c .before .before .before .before .before .before .before .before .before .before .before .before .pre .3)
+    (arith, e, c .before .before .before .before .before .before .before .before .before .before .before .before .before .pre .2) in
+    (c .before .before .before .before .before .before .before .before .before .before .before .before .before .pre .0, c .before .before .before .before .before .before .before .before .before .before .before .before .before .pre .1, l, c .before .before .before .before .before .before .before .before .before .before .before .before .before .pre .4)
 
 same-length : tie.Need-same-length
 same-length c = search needs
 
 returns : tie.Need-returns
 returns c =
-    let args = c .before .before .before .before .before .before .before .before .before .before .before .before .before .before .before .args in
+    let args = c .before .before .before .before .before .before .before .before .before .before .before .before .before .before .before .before .args in
     c .before .before .leaf-digest .ensures
-    ∙ ap (λ (x : Bytes). digest (leafString (args .index .0) x))
+    ∙ ap (λ (x : Bytes). digest (leafString (args .salt .now) (args .index .0) x))
     (record-is (args .values .now) (args .nonce .now) (c .before .before .before .before .before .before .before .before .before .before .before .blank-record .result)
     (c .before .before .before .before .before .before .before .before .before .put-words .last .0) (c .before .before .before .before .before .before .put-bytes .last .0) (4 * length (args .values .now)) refl
-    (c .before .before .before .before .before .before .before .before .before .before .before .before .before .before .before .pre .2)
+    (c .before .before .before .before .before .before .before .before .before .before .before .before .before .before .before .before .pre .3)
     (c .before .before .before .before .before .before .before .before .before .put-words .ensures) (c .before .before .before .before .before .before .put-bytes .ensures))
 
 pub hash-leaf-spec : {M : Type 1} → statement M

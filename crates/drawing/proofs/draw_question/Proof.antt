@@ -6,7 +6,7 @@ use lib.ListN.{drop, length, take}
 use Rattle.scheme.specs.Question.{challengesAt}
 use Rattle.lists.specs.Parts.{lent-fits, lent-front, lent-length}
 use Rattle.lists.specs.Bytes.{bytesOf, littleEndian}
-use Rattle.fiat_shamir.specs.Offline.{headerRoot}
+use Rattle.fiat_shamir.specs.Offline.{headerRootSalt}
 use Rattle.fiat_shamir.specs.Draw.{drawnBytes}
 use Rattle.drawing.proofs.Parts.{challenges-ask}
 use Rattle.commitment.specs.Shape.{sizesIn}
@@ -91,7 +91,7 @@ returns c =
     let b = s .question .now in
     let n : length (blankChallenges′ .result) ≡ 4 = search needs in
     c .before .before .put-parts .ensures
-    ∙ ap (λ (xs : List ℕ). headerRoot b ++ (bytesOf xs ++ (drop challengesAt b ++ flatten (map (littleEndian 2) (s .indices .now)))))
+    ∙ ap (λ (xs : List ℕ). headerRootSalt b ++ (bytesOf xs ++ (drop challengesAt b ++ flatten (map (littleEndian 2) (s .indices .now)))))
     (lent-front (s .s .eta) (drawChallenges′ .last .1 .0) (blankChallenges′ .result) (omega (arith, n, challenges-ask b (sizesIn (s .s)) (s .m) (st .pre .0) .0)) (drawChallenges′ .kept .1 .0) ∙ drawChallenges′ .ensures)
 
 pub draw-question-spec : {M : Type 1} → statement M

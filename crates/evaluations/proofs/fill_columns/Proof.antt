@@ -55,7 +55,7 @@ returns c =
     let g : SizesInOrder S = pre .0 .extend .laid .sizes in
     let t₁ : List ℕ = c .before .before .before .before .before .before .before .before .before .before .before .before .before .before .before .before .before .before .before .fill-rows .last .1 .1 .1 .1 .1 .1 .0 in
     let t₂ : List ℕ = c .before .before .before .before .before .before .before .before .fill-masks .last .1 .1 .1 .1 .1 .0 in
-    table-filled S (lentOf (a .coefficients .now) (a .tails .now) (a .blinds .now) (a .masks .now) []) t₁ t₂ (g .η-low)
+    table-filled S (lentOf (a .coefficients .now) (a .tails .now) (a .blinds .now) (a .masks .now) [] []) t₁ t₂ (g .η-low)
     (columns-lent S (a .coefficients .now) (a .tails .now) (a .blinds .now) (a .masks .now) t₁
     (c .before .before .before .before .before .before .before .before .before .before .before .before .before .before .before .before .before .before .before .fill-rows .ensures .1))
     (c .before .before .before .before .before .before .before .before .fill-masks .ensures .0) (c .before .before .before .before .before .before .before .before .fill-masks .ensures .1)

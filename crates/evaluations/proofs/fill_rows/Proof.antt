@@ -1,11 +1,12 @@
 -- `evaluations::fill_rows` meets its contract. The invariant: the columns below lo are filled.
-use mathlib.Core.List.{List, []}
+use mathlib.Core.List.{List}
 use mathlib.Core.Path.{_≡_, refl, _∙_, subst}
 use Prim.Native.Nat.{ℕ, _+_, _-_, _≤_}
 use lib.ListN.{length}
 use Rattle.stepping.specs.Lanes.{Small}
 use Rattle.extrapolation.specs.Extrapolated.{Columns}
-use Rattle.scheme.specs.Layers.{Lent, lentOf}
+use Rattle.scheme.specs.Layers.{Lent}
+use Rattle.lent.specs.Partly.{lentRows}
 use Rattle.scheme.specs.Sizes.{Sizes, rows}
 use Rattle.commitment.specs.Shape.{sizesIn}
 use Rattle.evaluations.specs.Values.{rowPolynomial}
@@ -17,7 +18,7 @@ use Rattle.evaluations.proofs.fill_rows.Tie as tie
 
 abbrev Inv-loop : tie.InvT-loop
 Inv-loop s coefficients tails blinds values₀ lines₀ table₀ n width stride rows lo₀ values lines table lo =
-    (lo ≤ rows) × (length values ≡ length values₀) × (length lines ≡ length lines₀) × (length table ≡ length table₀) × Small lines × Columns (rowPolynomial (sizesIn s) (lentOf coefficients tails blinds [] [])) lo
+    (lo ≤ rows) × (length values ≡ length values₀) × (length lines ≡ length lines₀) × (length table ≡ length table₀) × Small lines × Columns (rowPolynomial (sizesIn s) (lentRows coefficients tails blinds)) lo
     n 0 stride table
 
 abbrev μ-loop : tie.MeasureT-loop
@@ -44,7 +45,7 @@ loop-holds c =
       refl,
       c .before .before .before .before .before .before .before .before .before .before .pre .1 .small,
       columns-none
-          (rowPolynomial (sizesIn (a .s)) (lentOf (a .coefficients .now) (a .tails .now) (a .blinds .now) [] [])) (c .before .before .before .leaf-count .result) (c .before .record-values .result) (a .table .now),
+          (rowPolynomial (sizesIn (a .s)) (lentRows (a .coefficients .now) (a .tails .now) (a .blinds .now))) (c .before .before .before .leaf-count .result) (c .before .record-values .result) (a .table .now),
     )
 
 sub-least : tie.Need-sub-least Inv-loop μ-loop
@@ -122,7 +123,7 @@ loop-again c =
     let loop = c .before .before .before .before .before .before .before .before .before .before .before .before .before .before .before .before .loop in
     let pre = c .before .before .before .before .before .before .before .before .before .before .before .before .before .before .before .before .before .before .before .before .before .before .before .before .before .before .before .pre in
     let S : Sizes = sizesIn (a .s) in
-    let L : Lent = lentOf (a .coefficients .now) (a .tails .now) (a .blinds .now) [] [] in
+    let L : Lent = lentRows (a .coefficients .now) (a .tails .now) (a .blinds .now) in
     let g = pre .0 .laid .sizes in
     let e : loop .lo + few .result ≤ height .result = omega (
       arith,
@@ -164,7 +165,7 @@ returns c =
     let loop = c .before .loop in
     let pre = c .before .before .before .before .before .before .before .before .before .before .before .before .pre in
     let S : Sizes = sizesIn (a .s) in
-    let L : Lent = lentOf (a .coefficients .now) (a .tails .now) (a .blinds .now) [] [] in
+    let L : Lent = lentRows (a .coefficients .now) (a .tails .now) (a .blinds .now) in
     let e : loop .lo ≡ rows S = omega (arith, loop .inv .0, c .loop-test .left, height .ensures) in (
       loop .inv .4,
       row-columns S (pre .0 .laid .sizes) (leaf .result) (wide .result) (stride .result) (leaf .ensures) (wide .ensures) (stride .ensures) L (rows S) (loop .table)

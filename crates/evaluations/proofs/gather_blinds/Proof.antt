@@ -2,7 +2,8 @@
 use mathlib.Core.List.{List, []}
 use mathlib.Core.Path.{refl}
 use Prim.Native.Nat.{ℕ}
-use Rattle.scheme.specs.Layers.{Lent, lentOf}
+use Rattle.scheme.specs.Layers.{Lent}
+use Rattle.lent.specs.Partly.{lentRows}
 use Rattle.scheme.specs.Sizes.{Sizes, blindCount, coefficientCount}
 use Rattle.commitment.specs.Shape.{sizesIn}
 use Rattle.evaluations.proofs.Entries.{blinding-row, blinds-room, blinds-there, coefficients-room, polynomial-room, top-there}
@@ -26,7 +27,7 @@ mul-to c =
     let a = c .before .before .before .before .before .args in
     let pre = c .before .before .before .before .before .pre in
     let S : Sizes = sizesIn (a .s) in
-    let L : Lent = lentOf (a .coefficients .now) [] (a .blinds .now) [] [] in
+    let L : Lent = lentRows (a .coefficients .now) [] (a .blinds .now) in
     let h = polynomial-room S L (pre .0) (a .i) (pre .1) (coefficientCount S) (blindCount S) refl refl in
     let g = pre .0 .sizes .columns-high in
     search needs
@@ -39,7 +40,7 @@ mul-top c =
     let a = c .before .before .before .before .before .before .args in
     let pre = c .before .before .before .before .before .before .pre in
     let S : Sizes = sizesIn (a .s) in
-    let L : Lent = lentOf (a .coefficients .now) [] (a .blinds .now) [] [] in
+    let L : Lent = lentRows (a .coefficients .now) [] (a .blinds .now) in
     let k = c .coefficient-count in
     let h = coefficients-room S L (pre .0) (a .i) (pre .1) (k .result) (blindCount S) (k .ensures) refl in
     search needs
@@ -55,7 +56,7 @@ add-top c =
     let a = c .before .before .before .before .before .before .before .args in
     let pre = c .before .before .before .before .before .before .before .pre in
     let S : Sizes = sizesIn (a .s) in
-    let L : Lent = lentOf (a .coefficients .now) [] (a .blinds .now) [] [] in
+    let L : Lent = lentRows (a .coefficients .now) [] (a .blinds .now) in
     let k = c .before .coefficient-count in
     let h = coefficients-room S L (pre .0) (a .i) (pre .1) (k .result) (blindCount S) (k .ensures) refl in
     search needs
@@ -68,7 +69,7 @@ mul-gather-lane c =
     let a = c .before .before .before .before .before .before .before .before .args in
     let pre = c .before .before .before .before .before .before .before .before .pre in
     let S : Sizes = sizesIn (a .s) in
-    let L : Lent = lentOf (a .coefficients .now) [] (a .blinds .now) [] [] in
+    let L : Lent = lentRows (a .coefficients .now) [] (a .blinds .now) in
     let k = c .before .before .coefficient-count in
     let m = c .blind-count in
     let h = blinds-room S L (pre .0) (a .i) (pre .1) (k .result) (m .result) (k .ensures) (m .ensures) in
@@ -79,7 +80,7 @@ add-gather-lane c =
     let a = c .before .before .before .before .before .before .before .before .args in
     let pre = c .before .before .before .before .before .before .before .before .pre in
     let S : Sizes = sizesIn (a .s) in
-    let L : Lent = lentOf (a .coefficients .now) [] (a .blinds .now) [] [] in
+    let L : Lent = lentRows (a .coefficients .now) [] (a .blinds .now) in
     let k = c .before .before .coefficient-count in
     let m = c .blind-count in
     let h = blinds-room S L (pre .0) (a .i) (pre .1) (k .result) (m .result) (k .ensures) (m .ensures) in
@@ -92,7 +93,7 @@ gather-lane-requires c κs =
     let a = c .before .before .before .before .before .before .before .before .before .args in
     let pre = c .before .before .before .before .before .before .before .before .before .pre in
     let S : Sizes = sizesIn (a .s) in
-    let L : Lent = lentOf (a .coefficients .now) [] (a .blinds .now) [] [] in
+    let L : Lent = lentRows (a .coefficients .now) [] (a .blinds .now) in
     let k = c .before .before .before .coefficient-count in
     let m = c .before .blind-count in (
       pre .3,
@@ -105,7 +106,7 @@ add-gather-lane-2 c =
     let a = c .before .before .before .before .before .before .before .before .before .before .before .before .args in
     let pre = c .before .before .before .before .before .before .before .before .before .before .before .before .pre in
     let S : Sizes = sizesIn (a .s) in
-    let L : Lent = lentOf (a .coefficients .now) [] (a .blinds .now) [] [] in
+    let L : Lent = lentRows (a .coefficients .now) [] (a .blinds .now) in
     let k = c .before .before .before .before .before .before .coefficient-count in
     let h = coefficients-room S L (pre .0) (a .i) (pre .1) (k .result) (blindCount S) (k .ensures) refl in
     let b = pre .2 in
@@ -116,7 +117,7 @@ add-gather-lane-3 c =
     let a = c .before .before .before .before .before .before .before .before .before .before .before .before .args in
     let pre = c .before .before .before .before .before .before .before .before .before .before .before .before .pre in
     let S : Sizes = sizesIn (a .s) in
-    let L : Lent = lentOf (a .coefficients .now) [] (a .blinds .now) [] [] in
+    let L : Lent = lentRows (a .coefficients .now) [] (a .blinds .now) in
     let h = polynomial-room S L (pre .0) (a .i) (pre .1) (coefficientCount S) (blindCount S) refl refl in
     let g = pre .0 .sizes .columns-high in
     search needs
@@ -126,7 +127,7 @@ gather-lane-requires-2 c κs =
     let a = c .before .before .before .before .before .before .before .before .before .before .before .before .before .args in
     let pre = c .before .before .before .before .before .before .before .before .before .before .before .before .before .pre in
     let S : Sizes = sizesIn (a .s) in
-    let L : Lent = lentOf (a .coefficients .now) [] (a .blinds .now) [] [] in
+    let L : Lent = lentRows (a .coefficients .now) [] (a .blinds .now) in
     let k = c .before .before .before .before .before .before .before .coefficient-count in
     let m = c .before .before .before .before .before .blind-count in (
       pre .3,
@@ -142,7 +143,7 @@ returns c =
     let a = c .before .before .before .before .before .before .before .before .before .before .before .before .before .before .before .before .args in
     let pre = c .before .before .before .before .before .before .before .before .before .before .before .before .before .before .before .before .pre in
     let S : Sizes = sizesIn (a .s) in
-    let L : Lent = lentOf (a .coefficients .now) [] (a .blinds .now) [] [] in
+    let L : Lent = lentRows (a .coefficients .now) [] (a .blinds .now) in
     let k = c .before .before .before .before .before .before .before .before .before .before .coefficient-count in
     let m = c .before .before .before .before .before .before .before .before .blind-count in
     let v₁ : List ℕ = c .before .before .before .before .before .before .gather-lane .last .1 .1 .1 .1 .1 .1 .0 in

@@ -2,7 +2,8 @@
 use mathlib.Core.List.{List, []}
 use mathlib.Core.Path.{refl}
 use Prim.Native.Nat.{ℕ}
-use Rattle.scheme.specs.Layers.{Lent, lentOf}
+use Rattle.scheme.specs.Layers.{Lent}
+use Rattle.lent.specs.Partly.{lentRows}
 use Rattle.scheme.specs.Sizes.{Sizes, blindCount, coefficientCount}
 use Rattle.commitment.specs.Shape.{sizesIn}
 use Rattle.evaluations.proofs.Entries.{blinds-room, blinds-there, coefficients-room, first-there, kept-row, lowered-row, lowered-there, polynomial-room, row-there}
@@ -29,7 +30,7 @@ mul-first c =
     let a = c .before .before .before .before .before .before .before .args in
     let pre = c .before .before .before .before .before .before .before .pre in
     let S : Sizes = sizesIn (a .s) in
-    let L : Lent = lentOf (a .coefficients .now) [] (a .blinds .now) [] [] in
+    let L : Lent = lentRows (a .coefficients .now) [] (a .blinds .now) in
     let k = c .coefficient-count in
     let h = coefficients-room S L (pre .0) (a .i) (pre .1) (k .result) (blindCount S) (k .ensures) refl in
     search needs
@@ -39,7 +40,7 @@ add-first c =
     let a = c .before .before .before .before .before .before .before .args in
     let pre = c .before .before .before .before .before .before .before .pre in
     let S : Sizes = sizesIn (a .s) in
-    let L : Lent = lentOf (a .coefficients .now) [] (a .blinds .now) [] [] in
+    let L : Lent = lentRows (a .coefficients .now) [] (a .blinds .now) in
     let k = c .coefficient-count in
     let h = coefficients-room S L (pre .0) (a .i) (pre .1) (k .result) (blindCount S) (k .ensures) refl in
     let b = pre .2 in
@@ -51,7 +52,7 @@ mul-to c =
     let a = c .before .before .before .before .before .before .before .args in
     let pre = c .before .before .before .before .before .before .before .pre in
     let S : Sizes = sizesIn (a .s) in
-    let L : Lent = lentOf (a .coefficients .now) [] (a .blinds .now) [] [] in
+    let L : Lent = lentRows (a .coefficients .now) [] (a .blinds .now) in
     let h = polynomial-room S L (pre .0) (a .i) (pre .1) (coefficientCount S) (blindCount S) refl refl in
     let g = pre .0 .sizes .columns-high in
     search needs
@@ -64,7 +65,7 @@ mul-start c =
     let a = c .before .before .before .before .before .before .before .before .before .args in
     let pre = c .before .before .before .before .before .before .before .before .before .pre in
     let S : Sizes = sizesIn (a .s) in
-    let L : Lent = lentOf (a .coefficients .now) [] (a .blinds .now) [] [] in
+    let L : Lent = lentRows (a .coefficients .now) [] (a .blinds .now) in
     let k = c .before .before .coefficient-count in
     let m = c .blind-count in
     let h = blinds-room S L (pre .0) (a .i) (pre .1) (k .result) (m .result) (k .ensures) (m .ensures) in
@@ -75,7 +76,7 @@ add-start c =
     let a = c .before .before .before .before .before .before .before .before .before .args in
     let pre = c .before .before .before .before .before .before .before .before .before .pre in
     let S : Sizes = sizesIn (a .s) in
-    let L : Lent = lentOf (a .coefficients .now) [] (a .blinds .now) [] [] in
+    let L : Lent = lentRows (a .coefficients .now) [] (a .blinds .now) in
     let k = c .before .before .coefficient-count in
     let m = c .blind-count in
     let h = blinds-room S L (pre .0) (a .i) (pre .1) (k .result) (m .result) (k .ensures) (m .ensures) in
@@ -88,7 +89,7 @@ gather-lane-requires c κs =
     let a = c .before .before .before .before .before .before .before .before .before .before .args in
     let pre = c .before .before .before .before .before .before .before .before .before .before .pre in
     let S : Sizes = sizesIn (a .s) in
-    let L : Lent = lentOf (a .coefficients .now) [] (a .blinds .now) [] [] in
+    let L : Lent = lentRows (a .coefficients .now) [] (a .blinds .now) in
     let k = c .before .before .before .coefficient-count in
     let m = c .before .blind-count in (
       pre .3,
@@ -101,7 +102,7 @@ add-gather-lowered c =
     let a = c .before .before .before .before .before .before .before .before .before .before .before .before .before .args in
     let pre = c .before .before .before .before .before .before .before .before .before .before .before .before .before .pre in
     let S : Sizes = sizesIn (a .s) in
-    let L : Lent = lentOf (a .coefficients .now) [] (a .blinds .now) [] [] in
+    let L : Lent = lentRows (a .coefficients .now) [] (a .blinds .now) in
     let k = c .before .before .before .before .before .before .coefficient-count in
     let h = coefficients-room S L (pre .0) (a .i) (pre .1) (k .result) (blindCount S) (k .ensures) refl in
     let b = pre .2 in
@@ -116,7 +117,7 @@ add-gather-lowered-2 c =
     let a = c .before .before .before .before .before .before .before .before .before .before .before .before .before .args in
     let pre = c .before .before .before .before .before .before .before .before .before .before .before .before .before .pre in
     let S : Sizes = sizesIn (a .s) in
-    let L : Lent = lentOf (a .coefficients .now) [] (a .blinds .now) [] [] in
+    let L : Lent = lentRows (a .coefficients .now) [] (a .blinds .now) in
     let h = polynomial-room S L (pre .0) (a .i) (pre .1) (coefficientCount S) (blindCount S) refl refl in
     let g = pre .0 .sizes .columns-high in
     search needs
@@ -126,7 +127,7 @@ gather-lowered-requires c κs =
     let a = c .before .before .before .before .before .before .before .before .before .before .before .before .before .before .args in
     let pre = c .before .before .before .before .before .before .before .before .before .before .before .before .before .before .pre in
     let S : Sizes = sizesIn (a .s) in
-    let L : Lent = lentOf (a .coefficients .now) [] (a .blinds .now) [] [] in
+    let L : Lent = lentRows (a .coefficients .now) [] (a .blinds .now) in
     let k = c .before .before .before .before .before .before .before .coefficient-count in
     let m = c .before .before .before .before .before .blind-count in (
       pre .3,
@@ -141,7 +142,7 @@ gather-lane-requires-2 c κs =
     let a = c .before .before .before .before .before .before .before .before .before .args in
     let pre = c .before .before .before .before .before .before .before .before .before .pre in
     let S : Sizes = sizesIn (a .s) in
-    let L : Lent = lentOf (a .coefficients .now) [] (a .blinds .now) [] [] in
+    let L : Lent = lentRows (a .coefficients .now) [] (a .blinds .now) in
     let k = c .before .before .coefficient-count in (
       pre .3,
       row-there S L (pre .0) (a .i) (pre .1) (k .result) (blindCount S) (k .ensures) refl (a .row) (pre .2),
@@ -156,7 +157,7 @@ returns c =
     let a = c .before .before .before .before .before .before .before .before .before .before .before .before .before .before .before .before .before .args in
     let pre = c .before .before .before .before .before .before .before .before .before .before .before .before .before .before .before .before .before .pre in
     let S : Sizes = sizesIn (a .s) in
-    let L : Lent = lentOf (a .coefficients .now) [] (a .blinds .now) [] [] in
+    let L : Lent = lentRows (a .coefficients .now) [] (a .blinds .now) in
     let k = c .before .before .before .before .before .before .before .before .before .before .coefficient-count in
     let m = c .before .before .before .before .before .before .before .before .blind-count in
     let v₁ : List ℕ = c .before .before .before .before .before .before .gather-lane .last .1 .1 .1 .1 .1 .1 .0 in
@@ -174,7 +175,7 @@ returns-2 c =
     let a = c .before .before .before .before .before .before .before .before .before .before .before .before .args in
     let pre = c .before .before .before .before .before .before .before .before .before .before .before .before .pre in
     let S : Sizes = sizesIn (a .s) in
-    let L : Lent = lentOf (a .coefficients .now) [] (a .blinds .now) [] [] in
+    let L : Lent = lentRows (a .coefficients .now) [] (a .blinds .now) in
     let k = c .before .before .before .before .before .coefficient-count in (
       c .before .before .gather-lane2 .ensures .0,
       kept-row S L (pre .0) (a .i) (pre .1) (k .result) (blindCount S) (k .ensures) refl (a .row) (a .j) (a .values .now) (c .before .before .gather-lane2 .last .1 .1 .1 .1 .1 .1 .0) (c .before .before .before .before .if1 .left) (pre .2)

@@ -2,7 +2,8 @@
 use mathlib.Core.List.{[]}
 use mathlib.Core.Path.{_≡_, subst}
 use Prim.Native.Nat.{ℕ, _+_, _-_}
-use Rattle.scheme.specs.Layers.{Lent, lentOf}
+use Rattle.scheme.specs.Layers.{Lent}
+use Rattle.lent.specs.Partly.{lentRows}
 use Rattle.scheme.specs.Sizes.{Sizes}
 use Rattle.commitment.specs.Shape.{sizesIn}
 use Rattle.evaluations.specs.Values.{EntriesGathered}
@@ -34,7 +35,7 @@ returns-2 c =
     let a = c .before .before .before .before .before .before .before .before .before .args in
     let pre = c .before .before .before .before .before .before .before .before .before .pre in
     let S : Sizes = sizesIn (a .s) in
-    let L : Lent = lentOf (a .coefficients .now) [] (a .blinds .now) [] [] in
+    let L : Lent = lentRows (a .coefficients .now) [] (a .blinds .now) in
     let e : a .s .mu + (a .row - a .s .mu) ≡ a .row = omega (arith, c .before .before .before .before .if1 .left) in
     subst (λ (k : ℕ). EntriesGathered S L (a .i) k (a .j) (a .values .now) (c .before .before .gather-blinds .last .1 .1 .1 .1 .1 .1 .0)) e (c .before .before .gather-blinds .ensures)
 

@@ -1,10 +1,11 @@
 -- `evaluations::gather_row` meets its contract: the entries, and then the tails. The invariant: the columns of the first i polynomials are there.
-use mathlib.Core.List.{List, []}
+use mathlib.Core.List.{List}
 use mathlib.Core.Path.{_∙_, _≡_, ap, refl, subst}
 use Prim.Native.Nat.{ℕ, _*_, _-_, _≤_}
 use lib.ListN.{length}
 use Rattle.stepping.specs.Lanes.{entry}
-use Rattle.scheme.specs.Layers.{Lent, column, lentOf}
+use Rattle.scheme.specs.Layers.{Lent, column}
+use Rattle.lent.specs.Partly.{lentRows}
 use Rattle.scheme.specs.Sizes.{Sizes}
 use Rattle.commitment.specs.Shape.{sizesIn}
 use Rattle.lent.proofs.Rows.{tails-there}
@@ -17,7 +18,7 @@ use Rattle.evaluations.proofs.gather_row.Tie as tie
 
 abbrev Inv-loop : tie.InvT-loop
 Inv-loop s coefficients tails blinds row j values₀ columns l w i₀ values i =
-    (i ≤ w) × (length values ≡ length values₀) × GatherInv (λ (a : ℕ). entry (column (sizesIn s) (lentOf coefficients tails blinds [] []) a) row) 0 j values₀ values (s .nu * i)
+    (i ≤ w) × (length values ≡ length values₀) × GatherInv (λ (a : ℕ). entry (column (sizesIn s) (lentRows coefficients tails blinds) a) row) 0 j values₀ values (s .nu * i)
 
 abbrev μ-loop : tie.MeasureT-loop
 μ-loop s coefficients tails blinds row j values₀ columns l w i₀ values i = w - i
@@ -34,7 +35,7 @@ cast-w c = search needs
 loop-holds : tie.Need-loop-holds Inv-loop μ-loop
 loop-holds c =
     let a = c .before .before .before .before .before .before .before .args in
-    let L : Lent = lentOf (a .coefficients .now) (a .tails .now) (a .blinds .now) [] [] in
+    let L : Lent = lentRows (a .coefficients .now) (a .tails .now) (a .blinds .now) in
     let f : ℕ → ℕ = λ (k : ℕ). entry (column (sizesIn (a .s)) L k) (a .row) in
     let e : 0 ≡ a .s .nu * 0 = omega arith in
     (omega arith, refl, subst (λ (k : ℕ). GatherInv f 0 (a .j) (a .values .now) (a .values .now) k) e (gather-none f 0 (a .j) (a .values .now)))
@@ -45,7 +46,7 @@ gather-polynomial-requires c κs =
     let pre = c .before .before .before .before .before .before .before .before .before .before .pre in
     let loop = c .before .before .loop in
     let S : Sizes = sizesIn (a .s) in
-    let L : Lent = lentOf (a .coefficients .now) (a .tails .now) (a .blinds .now) [] [] in
+    let L : Lent = lentRows (a .coefficients .now) (a .tails .now) (a .blinds .now) in
     (pre .0 .laid, c .before .loop-test .taken, pre .1, pre .2, omega (arith, pre .3, loop .inv .1))
 
 add-i : tie.Need-add-i Inv-loop μ-loop
@@ -60,7 +61,7 @@ loop-again c =
     let pre = c .before .before .before .before .before .before .before .before .before .before .before .before .before .pre in
     let loop = c .before .before .before .before .before .loop in
     let S : Sizes = sizesIn (a .s) in
-    let L : Lent = lentOf (a .coefficients .now) (a .tails .now) (a .blinds .now) [] [] in
+    let L : Lent = lentRows (a .coefficients .now) (a .tails .now) (a .blinds .now) in
     let v : List ℕ = c .before .before .gather-polynomial .last .1 .1 .1 .1 .1 .1 .0 in (
       omega (arith, c .before .before .before .before .loop-test .taken),
       c .before .before .gather-polynomial .kept .1 .1 .1 .1 .1 .1 .0 ∙ loop .inv .1,
@@ -71,14 +72,14 @@ mul-gather-lane : tie.Need-mul-gather-lane Inv-loop μ-loop
 mul-gather-lane c =
     let a = c .before .before .before .before .before .before .before .before .before .args in
     let pre = c .before .before .before .before .before .before .before .before .before .pre in
-    let h = tails-there (sizesIn (a .s)) (lentOf (a .coefficients .now) (a .tails .now) (a .blinds .now) [] []) (pre .0) (a .row) (pre .1) in
+    let h = tails-there (sizesIn (a .s)) (lentRows (a .coefficients .now) (a .tails .now) (a .blinds .now)) (pre .0) (a .row) (pre .1) in
     search needs
 
 gather-lane-requires : tie.Need-gather-lane-requires Inv-loop μ-loop
 gather-lane-requires c κs =
     let a = c .before .before .before .before .before .before .before .before .before .before .args in
     let pre = c .before .before .before .before .before .before .before .before .before .before .pre in
-    let h = tails-there (sizesIn (a .s)) (lentOf (a .coefficients .now) (a .tails .now) (a .blinds .now) [] []) (pre .0) (a .row) (pre .1) in
+    let h = tails-there (sizesIn (a .s)) (lentRows (a .coefficients .now) (a .tails .now) (a .blinds .now)) (pre .0) (a .row) (pre .1) in
     (pre .2, omega (arith, h), omega (arith, pre .3, c .before .before .before .before .before .column-count .ensures, c .before .before .loop .inv .1))
 
 same-length : tie.Need-same-length Inv-loop μ-loop
@@ -90,7 +91,7 @@ returns c =
     let pre = c .before .before .before .before .before .before .before .before .before .before .before .before .before .pre in
     let loop = c .before .before .before .before .before .loop in
     let S : Sizes = sizesIn (a .s) in
-    let L : Lent = lentOf (a .coefficients .now) (a .tails .now) (a .blinds .now) [] [] in
+    let L : Lent = lentRows (a .coefficients .now) (a .tails .now) (a .blinds .now) in
     let f : ℕ → ℕ = λ (k : ℕ). entry (column S L k) (a .row) in
     let v : List ℕ = c .before .before .gather-lane .last .1 .1 .1 .1 .1 .1 .0 in
     let n : ℕ = c .before .before .before .before .before .before .before .before .column-count .result in

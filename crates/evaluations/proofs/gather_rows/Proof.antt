@@ -1,9 +1,8 @@
 -- `evaluations::gather_rows` meets its contract. The invariant: the lanes below j are there.
-use mathlib.Core.List.{[]}
 use mathlib.Core.Path.{_≡_, refl, _∙_, subst}
 use Prim.Native.Nat.{ℕ, _+_, _-_, _*_, _≤_}
 use lib.ListN.{length}
-use Rattle.scheme.specs.Layers.{lentOf}
+use Rattle.lent.specs.Partly.{lentRows}
 use Rattle.scheme.specs.Sizes.{rows, width}
 use Rattle.commitment.specs.Shape.{sizesIn}
 use Rattle.lent.specs.Rows.{CanExtend}
@@ -17,7 +16,7 @@ use Rattle.evaluations.proofs.gather_rows.Tie as tie
 abbrev Inv-loop : tie.InvT-loop
 Inv-loop s coefficients tails blinds lo lanes values₀ j₀ values j =
     (j ≤ lanes) × CanExtend (sizesIn s) coefficients tails blinds × (lo + lanes ≤ rows (sizesIn s)) × (lanes ≤ 4) × (4 * width (sizesIn s) ≤ length values) × (length values ≡ length values₀) × RowLanes (sizesIn s)
-    (lentOf coefficients tails blinds [] []) lo j values
+    (lentRows coefficients tails blinds) lo j values
 
 abbrev μ-loop : tie.MeasureT-loop
 μ-loop s coefficients tails blinds lo lanes values₀ j₀ values j = lanes - j
@@ -26,7 +25,7 @@ loop-holds : tie.Need-loop-holds Inv-loop μ-loop
 loop-holds c =
     let a = c .before .before .before .before .args in
     let pre = c .before .before .before .before .pre in
-    (omega arith, pre .0, pre .1, pre .2, pre .3, refl, rows-none (sizesIn (a .s)) (lentOf (a .coefficients .now) (a .tails .now) (a .blinds .now) [] []) (a .lo) (a .values .now))
+    (omega arith, pre .0, pre .1, pre .2, pre .3, refl, rows-none (sizesIn (a .s)) (lentRows (a .coefficients .now) (a .tails .now) (a .blinds .now)) (a .lo) (a .values .now))
 
 add-gather-row : tie.Need-add-gather-row Inv-loop μ-loop
 add-gather-row c = let h = c .before .loop .inv .2 in search needs
@@ -53,7 +52,7 @@ loop-again c =
       loop .inv .3,
       omega (arith, loop .inv .4, kept),
       kept ∙ loop .inv .5,
-      rows-turn (sizesIn (a .s)) (lentOf (a .coefficients .now) (a .tails .now) (a .blinds .now) [] []) (a .lo) (loop .j) (loop .values) (c .before .before .gather-row .last .1 .1 .1 .1 .1 .1 .0)
+      rows-turn (sizesIn (a .s)) (lentRows (a .coefficients .now) (a .tails .now) (a .blinds .now)) (a .lo) (loop .j) (loop .values) (c .before .before .gather-row .last .1 .1 .1 .1 .1 .1 .0)
           (omega (arith, loop .inv .3, c .before .before .before .before .loop-test .taken)) (loop .inv .6) (c .before .before .gather-row .ensures .0) (c .before .before .gather-row .ensures .1),
     )
 
@@ -65,7 +64,7 @@ returns c =
     let a = c .before .before .before .before .before .before .args in
     let loop = c .before .loop in
     let e : loop .j ≡ a .lanes = omega (arith, loop .inv .0, c .loop-test .left) in
-    subst (λ (k : ℕ). RowLanes (sizesIn (a .s)) (lentOf (a .coefficients .now) (a .tails .now) (a .blinds .now) [] []) (a .lo) k (loop .values)) e (loop .inv .6)
+    subst (λ (k : ℕ). RowLanes (sizesIn (a .s)) (lentRows (a .coefficients .now) (a .tails .now) (a .blinds .now)) (a .lo) k (loop .values)) e (loop .inv .6)
 
 pub gather-rows-spec : {M : Type 1} → statement M
 gather-rows-spec =

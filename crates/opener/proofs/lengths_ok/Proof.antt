@@ -16,7 +16,7 @@ filled-ok-requires : tie.Need-filled-ok-requires
 filled-ok-requires c κs = search needs
 
 length-for-requires : tie.Need-length-for-requires
-length-for-requires c κs = c .before .before .before .before .before .before .before .before .before .before .before .pre
+length-for-requires c κs = c .before .before .before .before .before .before .before .before .before .before .before .before .pre
 
 both-requires : tie.Need-both-requires
 both-requires c κs = search needs
@@ -26,7 +26,7 @@ both-requires-2 c κs = search needs
 
 returns : tie.Need-returns
 returns c =
-    let n : ℕ = length (c .before .before .before .before .before .before .before .before .before .before .before .before .before .before .args .reply .now) in
+    let n : ℕ = length (c .before .before .before .before .before .before .before .before .before .before .before .before .before .before .before .args .reply .now) in
     every-three _ _ _ (c .both2 .result) (c .before .both .result) (c .before .both .ensures ∙ ap₂ _&&_ (c .before .before .before .filled-ok .ensures) (ap (eqb n) (c .before .before .length-for .ensures)))
     (c .both2 .ensures ∙ ap (λ (x : Bool). x && c .before .both .result) (c .before .before .before .before .lent-ok .ensures))
 

@@ -37,7 +37,7 @@ array-share-prefix-indices c =
     let b : length (c .before .before .before .blank-indices .result) ≡ 64 = search needs in
     omega (
       arith,
-      sizes-in-order _ (taken (c .before .before .before .before .before .before .before .before .before .before .before .before .before .before .before .before .before .before .args .question .now)
+      sizes-in-order _ (taken (c .before .before .before .before .before .before .before .before .before .before .before .before .before .before .before .before .before .before .before .args .question .now)
           (c .before .before .before .before .before .before .s .given .0 .0) (c .before .before .before .before .before .before .s .given .0 .1 .0)
           (sym (c .before .before .before .before .before .before .before .before .ask .ensures) ∙ c .before .before .before .before .before .before .s .given .1) .sizes-ok) .ℓ-high,
       c .before .question-indices .kept .1 .1 .1 .0,
@@ -46,7 +46,7 @@ array-share-prefix-indices c =
 slice-aggregate-lent-verdict : tie.Need-slice-aggregate-lent-verdict
 slice-aggregate-lent-verdict c =
     sym (ap length (c .before .before .question-indices .ensures) ∙ asked-indices
-    (c .before .before .before .before .before .before .before .before .before .before .before .before .before .before .before .before .before .before .before .args .question .now)
+    (c .before .before .before .before .before .before .before .before .before .before .before .before .before .before .before .before .before .before .before .before .args .question .now)
     (c .before .before .before .before .before .before .before .s .given .0 .0) (c .before .before .before .before .before .before .before .s .given .0 .1 .0)
     (sym (c .before .before .before .before .before .before .before .before .before .ask .ensures) ∙ c .before .before .before .before .before .before .before .s .given .1) .0)
 
@@ -61,7 +61,7 @@ array-share-prefix-indices-2 c =
     let b : length (c .before .before .before .before .before .before .before .blank-indices .result) ≡ 64 = search needs in
     omega (
       arith,
-      sizes-in-order _ (taken (c .before .before .before .before .before .before .before .before .before .before .before .before .before .before .before .before .before .before .before .before .before .before .args .question .now)
+      sizes-in-order _ (taken (c .before .before .before .before .before .before .before .before .before .before .before .before .before .before .before .before .before .before .before .before .before .before .before .args .question .now)
           (c .before .before .before .before .before .before .before .before .before .before .s .given .0 .0) (c .before .before .before .before .before .before .before .before .before .before .s .given .0 .1 .0)
           (sym (c .before .before .before .before .before .before .before .before .before .before .before .before .ask .ensures) ∙
           c .before .before .before .before .before .before .before .before .before .before .s .given .1) .sizes-ok) .ℓ-high,
@@ -71,14 +71,14 @@ array-share-prefix-indices-2 c =
 slice-aggregate-write-reply : tie.Need-slice-aggregate-write-reply
 slice-aggregate-write-reply c =
     sym (ap length (c .before .before .before .before .before .before .question-indices .ensures) ∙ asked-indices
-    (c .before .before .before .before .before .before .before .before .before .before .before .before .before .before .before .before .before .before .before .before .before .before .before .args .question .now)
+    (c .before .before .before .before .before .before .before .before .before .before .before .before .before .before .before .before .before .before .before .before .before .before .before .before .args .question .now)
     (c .before .before .before .before .before .before .before .before .before .before .before .s .given .0 .0) (c .before .before .before .before .before .before .before .before .before .before .before .s .given .0 .1 .0)
     (sym (c .before .before .before .before .before .before .before .before .before .before .before .before .before .ask .ensures) ∙ c .before .before .before .before .before .before .before .before .before .before .before .s .given .1) .0)
 
 write-reply-requires : tie.Need-write-reply-requires
 write-reply-requires c κs =
-    let s = c .before .before .before .before .before .before .before .before .before .before .before .before .before .before .before .before .before .before .before .before .before .before .before .before .args in (
-      is-ready (s .question .now) (lentOf (s .coefficients .now) (s .tails .now) (s .blinds .now) (s .masks .now) (s .nonces .now)) (s .table .now) (s .tree .now) (s .reply .now)
+    let s = c .before .before .before .before .before .before .before .before .before .before .before .before .before .before .before .before .before .before .before .before .before .before .before .before .before .args in (
+      is-ready (s .question .now) (lentOf (s .coefficients .now) (s .tails .now) (s .blinds .now) (s .masks .now) (s .nonces .now) (s .salt .now)) (s .table .now) (s .tree .now) (s .reply .now)
           (c .before .before .before .before .before .before .before .before .before .before .before .before .s .given .0 .0)
           (c .before .before .before .before .before .before .before .before .before .before .before .before .s .given .0 .1 .0)
           (sym (c .before .before .before .before .before .before .before .before .before .before .before .before .before .before .ask .ensures) ∙
@@ -96,8 +96,8 @@ same-length c = search needs
 
 returns : tie.Need-returns
 returns c =
-    let s = c .before .before .before .before .before .before .before .before .before .before .before .before .before .before .before .before .before .before .before .before .before .before .before .before .before .before .before .args in
-    replied (s .question .now) (lentOf (s .coefficients .now) (s .tails .now) (s .blinds .now) (s .masks .now) (s .nonces .now)) (s .table .now) (s .tree .now) (s .reply .now)
+    let s = c .before .before .before .before .before .before .before .before .before .before .before .before .before .before .before .before .before .before .before .before .before .before .before .before .before .before .before .before .args in
+    replied (s .question .now) (lentOf (s .coefficients .now) (s .tails .now) (s .blinds .now) (s .masks .now) (s .nonces .now) (s .salt .now)) (s .table .now) (s .tree .now) (s .reply .now)
     (c .before .before .before .before .before .before .before .before .before .before .before .before .before .before .before .s .given .0 .0)
     (c .before .before .before .before .before .before .before .before .before .before .before .before .before .before .before .s .given .0 .1 .0)
     (sym (c .before .before .before .before .before .before .before .before .before .before .before .before .before .before .before .before .before .ask .ensures) ∙
@@ -113,14 +113,14 @@ same-length-2 c = search needs
 
 returns-2 : tie.Need-returns-2
 returns-2 c =
-    let s = c .before .before .before .before .before .before .before .before .before .before .before .before .before .before .before .before .before .before .before .before .before .before .args in
-    lent-refused (s .question .now) (lentOf (s .coefficients .now) (s .tails .now) (s .blinds .now) (s .masks .now) (s .nonces .now)) (s .table .now) (s .tree .now) (s .reply .now) (c .before .lent-verdict .result)
+    let s = c .before .before .before .before .before .before .before .before .before .before .before .before .before .before .before .before .before .before .before .before .before .before .before .args in
+    lent-refused (s .question .now) (lentOf (s .coefficients .now) (s .tails .now) (s .blinds .now) (s .masks .now) (s .nonces .now) (s .salt .now)) (s .table .now) (s .tree .now) (s .reply .now) (c .before .lent-verdict .result)
     (c .before .lent-verdict .ensures) (c .if1 .left)
 
 returns-3 : tie.Need-returns-3
 returns-3 c =
-    let s = c .before .before .before .before .before .before .before .before .before .before .before .before .before .args in
-    question-refused (s .question .now) (lentOf (s .coefficients .now) (s .tails .now) (s .blinds .now) (s .masks .now) (s .nonces .now)) (s .table .now) (s .tree .now) (s .reply .now) (c .before .verdict .given .0 .0)
+    let s = c .before .before .before .before .before .before .before .before .before .before .before .before .before .before .args in
+    question-refused (s .question .now) (lentOf (s .coefficients .now) (s .tails .now) (s .blinds .now) (s .masks .now) (s .nonces .now) (s .salt .now)) (s .table .now) (s .tree .now) (s .reply .now) (c .before .verdict .given .0 .0)
     (sym (c .before .before .before .ask .ensures) ∙ c .before .verdict .given .1)
 
 pub open-spec : {M : Type 1} → statement M

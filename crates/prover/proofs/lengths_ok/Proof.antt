@@ -28,7 +28,7 @@ returns : tie.Need-returns
 returns c =
     let both′ = c .before .both in
     let both2′ = c .both2 in
-    let n : ℕ = length (c .before .before .before .before .before .before .before .before .before .before .before .before .before .args .proof .now) in
+    let n : ℕ = length (c .before .before .before .before .before .before .before .before .before .before .before .before .before .before .args .proof .now) in
     every-three _ _ _ (both2′ .result) (both′ .result) (both′ .ensures ∙ ap₂ _&&_ (c .before .before .before .filled-ok .ensures) (ap (eqb n) (c .before .before .proof-bound .ensures)))
     (both2′ .ensures ∙ ap (λ (x : Bool). x && both′ .result) (c .before .before .before .before .lent-ok .ensures))
 

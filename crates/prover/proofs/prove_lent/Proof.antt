@@ -4,7 +4,8 @@ use mathlib.Core.List.{List, _++_}
 use lib.Seq.{length-take-le}
 use lib.ListN.{drop, length, take}
 use Rattle.sponge.specs.Draw.{draw}
-use Rattle.scheme.specs.Layers.{Lent, lentOf}
+use Rattle.scheme.specs.Layers.{Lent}
+use Rattle.lent.specs.Partly.{unsalted}
 use Rattle.scheme.proofs.Lent.{lent-facts}
 use Rattle.prover.proofs.Outcome.{answers-taken, draw-ask, drawn-is, search-done, search-failed, string-room, string-taken}
 use Rattle.lists.specs.Parts.{lent-fits, lent-front, lent-length}
@@ -55,7 +56,7 @@ array-share-prefix-string c =
       arith,
       size,
       putString′ .ensures .0,
-      string-room (s .question .now) (sizesIn (s .s)) (s .m) (s .kappa) (lentOf (s .coefficients .now) (s .tails .now) (s .blinds .now) (s .masks .now) (s .nonces .now)) (s .table .now) (s .tree .now)
+      string-room (s .question .now) (sizesIn (s .s)) (s .m) (s .kappa) (unsalted (s .coefficients .now) (s .tails .now) (s .blinds .now) (s .masks .now) (s .nonces .now)) (s .table .now) (s .tree .now)
           (s .proof .now) (st .pre),
     ) in
     nf
@@ -71,7 +72,7 @@ slice-aggregate-find-counter c =
       arith,
       size,
       putString′ .ensures .0,
-      string-room (s .question .now) (sizesIn (s .s)) (s .m) (s .kappa) (lentOf (s .coefficients .now) (s .tails .now) (s .blinds .now) (s .masks .now) (s .nonces .now)) (s .table .now) (s .tree .now)
+      string-room (s .question .now) (sizesIn (s .s)) (s .m) (s .kappa) (unsalted (s .coefficients .now) (s .tails .now) (s .blinds .now) (s .masks .now) (s .nonces .now)) (s .table .now) (s .tree .now)
           (s .proof .now) (st .pre),
     ) in
     sym (length-take-le (putString′ .result) (putString′ .last .1 .1 .1 .1 .1 .1 .1 .1 .0) nf)
@@ -82,7 +83,7 @@ array-borrow-prefix-drawn c =
     let blankDraw′ = c .before .blank-draw in
     let st = c .before .before .before .before .before .before .before .before .before .before .before .before .before .before .before .before in
     let s = st .args in
-    let df : 32 + 8 * s .s .l ≤ length (blankDraw′ .result) = omega (arith, dn, lent-facts (sizesIn (s .s)) (lentOf (s .coefficients .now) (s .tails .now) (s .blinds .now) (s .masks .now) (s .nonces .now)) (st .pre .lent) .sizes .ℓ-high) in
+    let df : 32 + 8 * s .s .l ≤ length (blankDraw′ .result) = omega (arith, dn, lent-facts (sizesIn (s .s)) (unsalted (s .coefficients .now) (s .tails .now) (s .blinds .now) (s .masks .now) (s .nonces .now)) (st .pre .lent) .sizes .ℓ-high) in
     df
 
 slice-aggregate-find-counter-2 : tie.Need-slice-aggregate-find-counter-2
@@ -91,7 +92,7 @@ slice-aggregate-find-counter-2 c =
     let blankDraw′ = c .before .before .blank-draw in
     let st = c .before .before .before .before .before .before .before .before .before .before .before .before .before .before .before .before .before in
     let s = st .args in
-    let df : 32 + 8 * s .s .l ≤ length (blankDraw′ .result) = omega (arith, dn, lent-facts (sizesIn (s .s)) (lentOf (s .coefficients .now) (s .tails .now) (s .blinds .now) (s .masks .now) (s .nonces .now)) (st .pre .lent) .sizes .ℓ-high) in
+    let df : 32 + 8 * s .s .l ≤ length (blankDraw′ .result) = omega (arith, dn, lent-facts (sizesIn (s .s)) (unsalted (s .coefficients .now) (s .tails .now) (s .blinds .now) (s .masks .now) (s .nonces .now)) (st .pre .lent) .sizes .ℓ-high) in
     sym (length-take-le (32 + 8 * s .s .l) (blankDraw′ .result) df)
 
 find-counter-requires : tie.Need-find-counter-requires
@@ -103,7 +104,7 @@ returns c =
     let putString′ = c .before .before .before .before .before .before .before .before .put-string in
     let st = c .before .before .before .before .before .before .before .before .before .before .before .before .before .before .before .before .before .before .before .before in
     let s = st .args in
-    let lent : Lent = lentOf (s .coefficients .now) (s .tails .now) (s .blinds .now) (s .masks .now) (s .nonces .now) in
+    let lent : Lent = unsalted (s .coefficients .now) (s .tails .now) (s .blinds .now) (s .masks .now) (s .nonces .now) in
     search-failed (s .question .now) (sizesIn (s .s)) (s .m) (s .kappa) lent (s .table .now) (s .tree .now) (s .proof .now) (st .pre) (s .limit) (findCounter′ .result)
     (findCounter′ .ensures .0 ∙ ap (λ (x : List ℕ). least (s .limit) (tried (s .kappa) x))
     (string-taken (s .question .now) (sizesIn (s .s)) (s .m) (s .kappa) lent (s .table .now) (s .tree .now) (s .proof .now) (st .pre) (putString′ .result) (putString′ .last .1 .1 .1 .1 .1 .1 .1 .1 .0)
@@ -134,7 +135,7 @@ part-put-drawn-end c =
       arith,
       size,
       putString′ .ensures .0,
-      string-room (s .question .now) (sizesIn (s .s)) (s .m) (s .kappa) (lentOf (s .coefficients .now) (s .tails .now) (s .blinds .now) (s .masks .now) (s .nonces .now)) (s .table .now) (s .tree .now)
+      string-room (s .question .now) (sizesIn (s .s)) (s .m) (s .kappa) (unsalted (s .coefficients .now) (s .tails .now) (s .blinds .now) (s .masks .now) (s .nonces .now)) (s .table .now) (s .tree .now)
           (s .proof .now) (st .pre),
     ) in
     search needs
@@ -146,7 +147,7 @@ array-share-prefix-drawn c =
     let findCounter′ = c .before .before .before .before .find-counter in
     let st = c .before .before .before .before .before .before .before .before .before .before .before .before .before .before .before .before .before .before .before .before .before .before in
     let s = st .args in
-    let df : 32 + 8 * s .s .l ≤ length (blankDraw′ .result) = omega (arith, dn, lent-facts (sizesIn (s .s)) (lentOf (s .coefficients .now) (s .tails .now) (s .blinds .now) (s .masks .now) (s .nonces .now)) (st .pre .lent) .sizes .ℓ-high) in
+    let df : 32 + 8 * s .s .l ≤ length (blankDraw′ .result) = omega (arith, dn, lent-facts (sizesIn (s .s)) (unsalted (s .coefficients .now) (s .tails .now) (s .blinds .now) (s .masks .now) (s .nonces .now)) (st .pre .lent) .sizes .ℓ-high) in
     lent-fits (32 + 8 * s .s .l) (findCounter′ .last .1 .1 .1 .0) (blankDraw′ .result) df (findCounter′ .kept .1 .1 .1 .0)
 
 slice-aggregate-put-drawn : tie.Need-slice-aggregate-put-drawn
@@ -156,7 +157,7 @@ slice-aggregate-put-drawn c =
     let findCounter′ = c .before .before .before .before .before .find-counter in
     let st = c .before .before .before .before .before .before .before .before .before .before .before .before .before .before .before .before .before .before .before .before .before .before .before in
     let s = st .args in
-    let df : 32 + 8 * s .s .l ≤ length (blankDraw′ .result) = omega (arith, dn, lent-facts (sizesIn (s .s)) (lentOf (s .coefficients .now) (s .tails .now) (s .blinds .now) (s .masks .now) (s .nonces .now)) (st .pre .lent) .sizes .ℓ-high) in
+    let df : 32 + 8 * s .s .l ≤ length (blankDraw′ .result) = omega (arith, dn, lent-facts (sizesIn (s .s)) (unsalted (s .coefficients .now) (s .tails .now) (s .blinds .now) (s .masks .now) (s .nonces .now)) (st .pre .lent) .sizes .ℓ-high) in
     lent-length (32 + 8 * s .s .l) (findCounter′ .last .1 .1 .1 .0) (blankDraw′ .result) df (findCounter′ .kept .1 .1 .1 .0)
 
 put-drawn-requires : tie.Need-put-drawn-requires
@@ -167,7 +168,7 @@ put-drawn-requires c κs =
     let putString′ = c .before .before .before .before .before .before .before .before .before .before .before .before .put-string in
     let st = c .before .before .before .before .before .before .before .before .before .before .before .before .before .before .before .before .before .before .before .before .before .before .before .before in
     let s = st .args in
-    let lent : Lent = lentOf (s .coefficients .now) (s .tails .now) (s .blinds .now) (s .masks .now) (s .nonces .now) in
+    let lent : Lent = unsalted (s .coefficients .now) (s .tails .now) (s .blinds .now) (s .masks .now) (s .nonces .now) in
     let df : 32 + 8 * s .s .l ≤ length (blankDraw′ .result) = omega (arith, dn, lent-facts (sizesIn (s .s)) lent (st .pre .lent) .sizes .ℓ-high) in
     draw-ask (s .question .now) (sizesIn (s .s)) (s .m) (s .kappa) lent (s .table .now) (s .tree .now) (s .proof .now) (st .pre) _ _
     (answers-taken (s .question .now) (sizesIn (s .s)) (s .m) (s .kappa) lent (s .table .now) (s .tree .now) (s .proof .now) (st .pre) (putString′ .result) (putString′ .last .1 .1 .1 .1 .1 .1 .1 .1 .0)
@@ -187,7 +188,7 @@ returns-2 c =
     let putString′ = c .before .before .before .before .before .before .before .before .before .before .before .before .before .before .before .put-string in
     let st = c .before .before .before .before .before .before .before .before .before .before .before .before .before .before .before .before .before .before .before .before .before .before .before .before .before .before .before in
     let s = st .args in
-    let lent : Lent = lentOf (s .coefficients .now) (s .tails .now) (s .blinds .now) (s .masks .now) (s .nonces .now) in
+    let lent : Lent = unsalted (s .coefficients .now) (s .tails .now) (s .blinds .now) (s .masks .now) (s .nonces .now) in
     let df : 32 + 8 * s .s .l ≤ length (blankDraw′ .result) = omega (arith, dn, lent-facts (sizesIn (s .s)) lent (st .pre .lent) .sizes .ℓ-high) in
     search-done (s .question .now) (sizesIn (s .s)) (s .m) (s .kappa) lent (s .table .now) (s .tree .now) (s .proof .now) (st .pre) (s .limit) (findCounter′ .result)
     (findCounter′ .ensures .0 ∙ ap (λ (x : List ℕ). least (s .limit) (tried (s .kappa) x))

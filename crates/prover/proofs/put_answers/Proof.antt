@@ -4,7 +4,8 @@ use mathlib.Core.Path.{_∙_, _≡_, sym}
 use mathlib.Core.List.{_++_}
 use lib.Seq.{length-take-le}
 use lib.ListN.{drop, length, take}
-use Rattle.scheme.specs.Layers.{Lent, lentOf}
+use Rattle.scheme.specs.Layers.{Lent}
+use Rattle.lent.specs.Partly.{unsalted}
 use Rattle.prover.proofs.Answers.{answers-put, asked-long, few-points, sized, sum-ask}
 use Rattle.lists.specs.Parts.{lent-fits, lent-front, lent-length}
 use Rattle.commitment.specs.Shape.{sizesIn}
@@ -19,7 +20,7 @@ cast-l c = search needs
 question-length-requires : tie.Need-question-length-requires
 question-length-requires c κs =
     let st = c .before .before .before .before .before .before .before .before in
-    few-points (st .args .question .now) (sizesIn (st .args .s)) (st .args .m) (lentOf (st .args .coefficients .now) (st .args .tails .now) (st .args .blinds .now) (st .args .masks .now) (st .args .nonces .now)) (st .pre .0)
+    few-points (st .args .question .now) (sizesIn (st .args .s)) (st .args .m) (unsalted (st .args .coefficients .now) (st .args .tails .now) (st .args .blinds .now) (st .args .masks .now) (st .args .nonces .now)) (st .pre .0)
 
 blank-indices-requires : tie.Need-blank-indices-requires
 blank-indices-requires c κs = search needs
@@ -31,7 +32,7 @@ array-share-prefix-indices : tie.Need-array-share-prefix-indices
 array-share-prefix-indices c =
     let st = c .before .before .before .before .before .before .before .before .before .before .before in
     let n : length (c .before .blank-indices .result) ≡ 64 = search needs in
-    let g = sized (st .args .question .now) (sizesIn (st .args .s)) (st .args .m) (lentOf (st .args .coefficients .now) (st .args .tails .now) (st .args .blinds .now) (st .args .masks .now) (st .args .nonces .now)) (st .pre .0) in
+    let g = sized (st .args .question .now) (sizesIn (st .args .s)) (st .args .m) (unsalted (st .args .coefficients .now) (st .args .tails .now) (st .args .blinds .now) (st .args .masks .now) (st .args .nonces .now)) (st .pre .0) in
     omega (arith, n, g .ℓ-high)
 
 slice-aggregate-draw-question : tie.Need-slice-aggregate-draw-question
@@ -39,14 +40,14 @@ slice-aggregate-draw-question c =
     let blankIndices′ = c .before .before .blank-indices in
     let st = c .before .before .before .before .before .before .before .before .before .before .before .before in
     let n : length (blankIndices′ .result) ≡ 64 = search needs in
-    let g = sized (st .args .question .now) (sizesIn (st .args .s)) (st .args .m) (lentOf (st .args .coefficients .now) (st .args .tails .now) (st .args .blinds .now) (st .args .masks .now) (st .args .nonces .now)) (st .pre .0) in
+    let g = sized (st .args .question .now) (sizesIn (st .args .s)) (st .args .m) (unsalted (st .args .coefficients .now) (st .args .tails .now) (st .args .blinds .now) (st .args .masks .now) (st .args .nonces .now)) (st .pre .0) in
     sym (length-take-le (st .args .s .l) (blankIndices′ .result) (omega (arith, n, g .ℓ-high)))
 
 array-borrow-prefix-drawn : tie.Need-array-borrow-prefix-drawn
 array-borrow-prefix-drawn c =
     let st = c .before .before .before .before .before .before .before .before .before .before .before .before in
     let n : length (c .before .blank-question .result) ≡ mostQuestion = search needs in
-    let h = asked-long (st .args .question .now) (sizesIn (st .args .s)) (st .args .m) (lentOf (st .args .coefficients .now) (st .args .tails .now) (st .args .blinds .now) (st .args .masks .now) (st .args .nonces .now)) (st .pre .0) in
+    let h = asked-long (st .args .question .now) (sizesIn (st .args .s)) (st .args .m) (unsalted (st .args .coefficients .now) (st .args .tails .now) (st .args .blinds .now) (st .args .masks .now) (st .args .nonces .now)) (st .pre .0) in
     omega (arith, n, h, c .before .before .before .question-length .ensures)
 
 slice-aggregate-draw-question-2 : tie.Need-slice-aggregate-draw-question-2
@@ -55,7 +56,7 @@ slice-aggregate-draw-question-2 c =
     let questionLength′ = c .before .before .before .before .question-length in
     let st = c .before .before .before .before .before .before .before .before .before .before .before .before .before in
     let n : length (blankQuestion′ .result) ≡ mostQuestion = search needs in
-    let h = asked-long (st .args .question .now) (sizesIn (st .args .s)) (st .args .m) (lentOf (st .args .coefficients .now) (st .args .tails .now) (st .args .blinds .now) (st .args .masks .now) (st .args .nonces .now)) (st .pre .0) in
+    let h = asked-long (st .args .question .now) (sizesIn (st .args .s)) (st .args .m) (unsalted (st .args .coefficients .now) (st .args .tails .now) (st .args .blinds .now) (st .args .masks .now) (st .args .nonces .now)) (st .pre .0) in
     sym (length-take-le (questionLength′ .result) (blankQuestion′ .result) (omega (arith, n, h, questionLength′ .ensures)))
 
 draw-question-requires : tie.Need-draw-question-requires
@@ -66,7 +67,7 @@ draw-question-requires c κs =
     let st = c .before .before .before .before .before .before .before .before .before .before .before .before .before in
     let k : length (blankIndices′ .result) ≡ 64 = search needs in
     let n : length (blankQuestion′ .result) ≡ mostQuestion = search needs in
-    let l : Lent = lentOf (st .args .coefficients .now) (st .args .tails .now) (st .args .blinds .now) (st .args .masks .now) (st .args .nonces .now) in
+    let l : Lent = unsalted (st .args .coefficients .now) (st .args .tails .now) (st .args .blinds .now) (st .args .masks .now) (st .args .nonces .now) in
     let g = sized (st .args .question .now) (sizesIn (st .args .s)) (st .args .m) l (st .pre .0) in
     let h = asked-long (st .args .question .now) (sizesIn (st .args .s)) (st .args .m) l (st .pre .0) in (
       st .pre .0 .offline,
@@ -81,7 +82,7 @@ array-share-prefix-drawn c =
     let questionLength′ = c .before .before .before .before .before .before .question-length in
     let st = c .before .before .before .before .before .before .before .before .before .before .before .before .before .before .before in
     let n : length (blankQuestion′ .result) ≡ mostQuestion = search needs in
-    let h = asked-long (st .args .question .now) (sizesIn (st .args .s)) (st .args .m) (lentOf (st .args .coefficients .now) (st .args .tails .now) (st .args .blinds .now) (st .args .masks .now) (st .args .nonces .now)) (st .pre .0) in
+    let h = asked-long (st .args .question .now) (sizesIn (st .args .s)) (st .args .m) (unsalted (st .args .coefficients .now) (st .args .tails .now) (st .args .blinds .now) (st .args .masks .now) (st .args .nonces .now)) (st .pre .0) in
     lent-fits (questionLength′ .result) (drawQuestion′ .last .1 .1 .1 .1 .0) (blankQuestion′ .result) (omega (arith, n, h, questionLength′ .ensures)) (drawQuestion′ .kept .1 .1 .1 .1 .0)
 
 slice-aggregate-put-sums : tie.Need-slice-aggregate-put-sums
@@ -91,7 +92,7 @@ slice-aggregate-put-sums c =
     let questionLength′ = c .before .before .before .before .before .before .before .question-length in
     let st = c .before .before .before .before .before .before .before .before .before .before .before .before .before .before .before .before in
     let n : length (blankQuestion′ .result) ≡ mostQuestion = search needs in
-    let h = asked-long (st .args .question .now) (sizesIn (st .args .s)) (st .args .m) (lentOf (st .args .coefficients .now) (st .args .tails .now) (st .args .blinds .now) (st .args .masks .now) (st .args .nonces .now)) (st .pre .0) in
+    let h = asked-long (st .args .question .now) (sizesIn (st .args .s)) (st .args .m) (unsalted (st .args .coefficients .now) (st .args .tails .now) (st .args .blinds .now) (st .args .masks .now) (st .args .nonces .now)) (st .pre .0) in
     lent-length (questionLength′ .result) (drawQuestion′ .last .1 .1 .1 .1 .0) (blankQuestion′ .result) (omega (arith, n, h, questionLength′ .ensures)) (drawQuestion′ .kept .1 .1 .1 .1 .0)
 
 put-sums-requires : tie.Need-put-sums-requires
@@ -101,7 +102,7 @@ put-sums-requires c κs =
     let questionLength′ = c .before .before .before .before .before .before .before .before .question-length in
     let st = c .before .before .before .before .before .before .before .before .before .before .before .before .before .before .before .before .before in
     let n : length (blankQuestion′ .result) ≡ mostQuestion = search needs in
-    let l : Lent = lentOf (st .args .coefficients .now) (st .args .tails .now) (st .args .blinds .now) (st .args .masks .now) (st .args .nonces .now) in
+    let l : Lent = unsalted (st .args .coefficients .now) (st .args .tails .now) (st .args .blinds .now) (st .args .masks .now) (st .args .nonces .now) in
     let h = asked-long (st .args .question .now) (sizesIn (st .args .s)) (st .args .m) l (st .pre .0) in
     sum-ask (st .args .question .now) (sizesIn (st .args .s)) (st .args .m) l (st .pre .0) (take (questionLength′ .result) (drawQuestion′ .last .1 .1 .1 .1 .0 ++ drop (questionLength′ .result) (blankQuestion′ .result))) (st .args .out .now)
     (sym (lent-length (questionLength′ .result) (drawQuestion′ .last .1 .1 .1 .1 .0) (blankQuestion′ .result) (omega (arith, n, h, questionLength′ .ensures)) (drawQuestion′ .kept .1 .1 .1 .1 .0)) ∙ questionLength′ .ensures) (st .pre .1)
@@ -117,7 +118,7 @@ returns c =
     let questionLength′ = c .before .before .before .before .before .before .before .before .before .before .before .question-length in
     let st = c .before .before .before .before .before .before .before .before .before .before .before .before .before .before .before .before .before .before .before .before in
     let s = st .args in
-    let l : Lent = lentOf (s .coefficients .now) (s .tails .now) (s .blinds .now) (s .masks .now) (s .nonces .now) in
+    let l : Lent = unsalted (s .coefficients .now) (s .tails .now) (s .blinds .now) (s .masks .now) (s .nonces .now) in
     let n : length (blankQuestion′ .result) ≡ mostQuestion = search needs in
     let h = asked-long (s .question .now) (sizesIn (s .s)) (s .m) l (st .pre .0) in
     answers-put (s .question .now) (sizesIn (s .s)) (s .m) l (st .pre .0) (take (s .s .l) (c .before .before .before .before .before .before .before .before .before .before .blank-indices .result)) _ (s .out .now)

@@ -3,7 +3,8 @@ use mathlib.Core.Path.{_∙_, _≡_, ap, sym}
 use mathlib.Core.List.{_++_, _∷_}
 use lib.ListN.{drop, length, length-drop, take}
 use Rattle.scheme.specs.Reply.{recordsAt}
-use Rattle.scheme.specs.Layers.{Lent, lentOf}
+use Rattle.scheme.specs.Layers.{Lent}
+use Rattle.lent.specs.Partly.{unsalted}
 use Rattle.prover.proofs.Answers.{few-points, sized, string-fits, string-put}
 use Rattle.lists.specs.Parts.{mid-tail}
 use Rattle.fiat_shamir.specs.Prove.{provedAnswers}
@@ -18,7 +19,7 @@ put-question-requires : tie.Need-put-question-requires
 put-question-requires c κs =
     let st = c .before .before .before .before .before .before .before .before in
     let s = st .args in
-    omega (arith, string-fits (s .question .now) (sizesIn (s .s)) (s .m) (lentOf (s .coefficients .now) (s .tails .now) (s .blinds .now) (s .masks .now) (s .nonces .now)) (st .pre .0), st .pre .1)
+    omega (arith, string-fits (s .question .now) (sizesIn (s .s)) (s .m) (unsalted (s .coefficients .now) (s .tails .now) (s .blinds .now) (s .masks .now) (s .nonces .now)) (st .pre .0), st .pre .1)
 
 add-at : tie.Need-add-at
 add-at c = search needs
@@ -29,7 +30,7 @@ sub-put-answers c =
     let s = st .args in
     omega (
       arith,
-      string-fits (s .question .now) (sizesIn (s .s)) (s .m) (lentOf (s .coefficients .now) (s .tails .now) (s .blinds .now) (s .masks .now) (s .nonces .now)) (st .pre .0),
+      string-fits (s .question .now) (sizesIn (s .s)) (s .m) (unsalted (s .coefficients .now) (s .tails .now) (s .blinds .now) (s .masks .now) (s .nonces .now)) (st .pre .0),
       st .pre .1,
       c .before .before .put-question .kept .1 .0,
     )
@@ -40,7 +41,7 @@ part-put-answers-start c =
     let st = c .before .before .before .before .before .before .before .before .before .before .before in
     let s = st .args in
     let fit : length (s .question .now) + 1 ≤ length (putQuestion′ .last .1 .0) = omega
-    (arith, string-fits (s .question .now) (sizesIn (s .s)) (s .m) (lentOf (s .coefficients .now) (s .tails .now) (s .blinds .now) (s .masks .now) (s .nonces .now)) (st .pre .0), st .pre .1, putQuestion′ .kept .1 .0) in
+    (arith, string-fits (s .question .now) (sizesIn (s .s)) (s .m) (unsalted (s .coefficients .now) (s .tails .now) (s .blinds .now) (s .masks .now) (s .nonces .now)) (st .pre .0), st .pre .1, putQuestion′ .kept .1 .0) in
     search needs
 
 part-put-answers-end : tie.Need-part-put-answers-end
@@ -58,7 +59,7 @@ put-answers-requires c κs =
       omega (
         arith,
         size,
-        string-fits (s .question .now) (sizesIn (s .s)) (s .m) (lentOf (s .coefficients .now) (s .tails .now) (s .blinds .now) (s .masks .now) (s .nonces .now)) (st .pre .0),
+        string-fits (s .question .now) (sizesIn (s .s)) (s .m) (unsalted (s .coefficients .now) (s .tails .now) (s .blinds .now) (s .masks .now) (s .nonces .now)) (st .pre .0),
         st .pre .1,
         putQuestion′ .kept .1 .0,
       ),
@@ -68,14 +69,14 @@ records-at-requires : tie.Need-records-at-requires
 records-at-requires c κs =
     let st = c .before .before .before .before .before .before .before .before .before .before .before .before .before .before .before in
     let s = st .args in
-    let l : Lent = lentOf (s .coefficients .now) (s .tails .now) (s .blinds .now) (s .masks .now) (s .nonces .now) in
+    let l : Lent = unsalted (s .coefficients .now) (s .tails .now) (s .blinds .now) (s .masks .now) (s .nonces .now) in
     (sized (s .question .now) (sizesIn (s .s)) (s .m) l (st .pre .0), few-points (s .question .now) (sizesIn (s .s)) (s .m) l (st .pre .0))
 
 add-result : tie.Need-add-result
 add-result c =
     let st = c .before .before .before .before .before .before .before .before .before .before .before .before .before .before .before .before in
     let s = st .args in
-    omega (arith, c .records-at .ensures, string-fits (s .question .now) (sizesIn (s .s)) (s .m) (lentOf (s .coefficients .now) (s .tails .now) (s .blinds .now) (s .masks .now) (s .nonces .now)) (st .pre .0))
+    omega (arith, c .records-at .ensures, string-fits (s .question .now) (sizesIn (s .s)) (s .m) (unsalted (s .coefficients .now) (s .tails .now) (s .blinds .now) (s .masks .now) (s .nonces .now)) (st .pre .0))
 
 same-length : tie.Need-same-length
 same-length c = search needs
@@ -88,7 +89,7 @@ returns c =
     let st = c .before .before .before .before .before .before .before .before .before .before .before .before .before .before .before .before in
     let s = st .args in
     let b = s .question .now in
-    let l : Lent = lentOf (s .coefficients .now) (s .tails .now) (s .blinds .now) (s .masks .now) (s .nonces .now) in
+    let l : Lent = unsalted (s .coefficients .now) (s .tails .now) (s .blinds .now) (s .masks .now) (s .nonces .now) in
     let fits = string-fits b (sizesIn (s .s)) (s .m) l (st .pre .0) in
     let n : length b + 1 + recordsAt′ .result ≡ suc (length b) + recordsAt (sizesIn (s .s)) (s .m) = omega (arith, recordsAt′ .ensures) in (
       n,

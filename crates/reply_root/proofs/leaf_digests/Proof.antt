@@ -15,27 +15,27 @@ use Rattle.reply_root.proofs.leaf_digests.Statement.{statement}
 use Rattle.reply_root.proofs.leaf_digests.Tie as tie
 
 abbrev Inv-loop : tie.InvT-loop
-Inv-loop at size indices reply out₀ a₀ a-end out a = (a-end ≡ length indices) × (a ≤ length indices) × (length out ≡ length out₀) × (out ≡ rowsOf (leafDigestAt at size indices reply) a ++ drop (32 * a) out₀)
+Inv-loop salt at size indices reply out₀ a₀ a-end out a = (a-end ≡ length indices) × (a ≤ length indices) × (length out ≡ length out₀) × (out ≡ rowsOf (leafDigestAt salt at size indices reply) a ++ drop (32 * a) out₀)
 
 abbrev μ-loop : tie.MeasureT-loop
-μ-loop at size indices reply out₀ a₀ a-end out a = a-end - a
+μ-loop salt at size indices reply out₀ a₀ a-end out a = a-end - a
 
 loop-holds : tie.Need-loop-holds Inv-loop μ-loop
 loop-holds c =
-    let s = c .before .before .before .args in
-    (refl, omega arith, refl, rows-start 32 (leafDigestAt (s .at) (s .size) (s .indices .now) (s .reply .now)) (s .out .now))
+    let s = c .before .before .before .before .args in
+    (refl, omega arith, refl, rows-start 32 (leafDigestAt (s .salt .now) (s .at) (s .size) (s .indices .now) (s .reply .now)) (s .out .now))
 
 mul-from : tie.Need-mul-from Inv-loop μ-loop
 mul-from c =
-    let h = row-fits (c .before .before .before .before .before .args .size) (c .before .loop .a) (length (c .before .before .before .before .before .args .indices .now)) (omega arith) in search needs
+    let h = row-fits (c .before .before .before .before .before .before .args .size) (c .before .loop .a) (length (c .before .before .before .before .before .before .args .indices .now)) (omega arith) in search needs
 
 add-from : tie.Need-add-from Inv-loop μ-loop
 add-from c =
-    let h = row-fits (c .before .before .before .before .before .args .size) (c .before .loop .a) (length (c .before .before .before .before .before .args .indices .now)) (omega arith) in search needs
+    let h = row-fits (c .before .before .before .before .before .before .args .size) (c .before .loop .a) (length (c .before .before .before .before .before .before .args .indices .now)) (omega arith) in search needs
 
 add-to : tie.Need-add-to Inv-loop μ-loop
 add-to c =
-    let h = row-fits (c .before .before .before .before .before .args .size) (c .before .loop .a) (length (c .before .before .before .before .before .args .indices .now)) (omega arith) in search needs
+    let h = row-fits (c .before .before .before .before .before .before .args .size) (c .before .loop .a) (length (c .before .before .before .before .before .before .args .indices .now)) (omega arith) in search needs
 
 mul-first : tie.Need-mul-first Inv-loop μ-loop
 mul-first c = search needs
@@ -54,7 +54,7 @@ part-leaf-digest-start c = search needs
 
 part-leaf-digest-end : tie.Need-part-leaf-digest-end Inv-loop μ-loop
 part-leaf-digest-end c =
-    let h = row-fits (c .before .before .before .before .before .before .args .size) (c .before .before .loop .a) (length (c .before .before .before .before .before .before .args .indices .now)) (omega arith) in search needs
+    let h = row-fits (c .before .before .before .before .before .before .before .args .size) (c .before .before .loop .a) (length (c .before .before .before .before .before .before .before .args .indices .now)) (omega arith) in search needs
 
 sub-leaf-digest-2 : tie.Need-sub-leaf-digest-2 Inv-loop μ-loop
 sub-leaf-digest-2 c = search needs
@@ -67,11 +67,13 @@ part-leaf-digest-end-2 c = search needs
 
 leaf-digest-requires : tie.Need-leaf-digest-requires Inv-loop μ-loop
 leaf-digest-requires c κs =
-    let s = c .before .before .before .before .before .before .before .before .args in
+    let s = c .before .before .before .before .before .before .before .before .before .args in
+    let p = c .before .before .before .before .before .before .before .before .before .pre in
     let a : ℕ = c .before .before .before .before .loop .a in
     let h = row-fits (s .size) a (length (s .indices .now)) (omega arith) in
     let e = span-length (s .at + s .size * a) (s .size) (s .reply .now) (omega arith) in (
-      subst (λ (k : ℕ). k < 65536) (sym (c .before .before .opened-index .ensures)) (all-at (λ (x : ℕ). x < 65536) 0 (s .indices .now) (c .before .before .before .before .before .before .before .before .pre .0) a (omega arith)),
+      p .0,
+      subst (λ (k : ℕ). k < 65536) (sym (c .before .before .opened-index .ensures)) (all-at (λ (x : ℕ). x < 65536) 0 (s .indices .now) (p .1) a (omega arith)),
       omega arith,
       part-length 32 a (c .before .before .before .before .loop .out) (omega arith),
     )
@@ -84,16 +86,16 @@ loop-less c = search needs
 
 loop-again : tie.Need-loop-again Inv-loop μ-loop
 loop-again c =
-    let s = c .before .before .before .before .before .before .before .before .before .before .before .args in
+    let s = c .before .before .before .before .before .before .before .before .before .before .before .before .args in
     let a : ℕ = c .before .before .before .before .before .before .before .loop .a in
     let t : List ℕ = c .before .before .before .before .before .before .before .loop .out in
-    let r : List ℕ = c .before .before .leaf-digest .last .1 .1 .0 in (
+    let r : List ℕ = c .before .before .leaf-digest .last .1 .1 .1 .0 in (
       refl,
       omega arith,
-      same-len-mid (32 * a) (32 * a + 32 - 32 * a) t r (c .before .before .leaf-digest .kept .1 .1 .0) ∙ c .before .before .before .before .before .before .before .loop .inv .2,
-      row-turn 32 (leafDigestAt (s .at) (s .size) (s .indices .now) (s .reply .now)) (length-leafDigestAt (s .at) (s .size) (s .indices .now) (s .reply .now)) (s .out .now) t r a
+      same-len-mid (32 * a) (32 * a + 32 - 32 * a) t r (c .before .before .leaf-digest .kept .1 .1 .1 .0) ∙ c .before .before .before .before .before .before .before .loop .inv .2,
+      row-turn 32 (leafDigestAt (s .salt .now) (s .at) (s .size) (s .indices .now) (s .reply .now)) (length-leafDigestAt (s .salt .now) (s .at) (s .size) (s .indices .now) (s .reply .now)) (s .out .now) t r a
           (c .before .before .before .before .before .before .before .loop .inv .3)
-          (digest-row (s .at) (s .size) (s .indices .now) (s .reply .now) a (c .before .before .before .before .before .opened-index .result .0) r (c .before .before .before .before .before .opened-index .ensures)
+          (digest-row (s .salt .now) (s .at) (s .size) (s .indices .now) (s .reply .now) a (c .before .before .before .before .before .opened-index .result .0) r (c .before .before .before .before .before .opened-index .ensures)
           (c .before .before .leaf-digest .ensures)),
     )
 
@@ -102,7 +104,7 @@ same-length c = search needs
 
 returns : tie.Need-returns Inv-loop μ-loop
 returns c =
-    let e : c .before .loop .a ≡ length (c .before .before .before .before .before .args .indices .now) = omega arith in
+    let e : c .before .loop .a ≡ length (c .before .before .before .before .before .before .args .indices .now) = omega arith in
     rw (← e) (c .before .loop .inv .3)
 
 pub leaf-digests-spec : {M : Type 1} → statement M

@@ -17,9 +17,9 @@ slice-aggregate-leaf-digests c = search needs
 
 leaf-digests-requires : tie.Need-leaf-digests-requires
 leaf-digests-requires c κs =
-    let s = c .before .before .before .before .args in
+    let p = c .before .before .before .before .before .pre in
     let b : length (c .before .blank-digests .result) ≡ 2048 = search needs in
-    (indices-small (c .before .before .before .before .pre .0), c .before .before .before .before .pre .1, omega arith, omega (arith, c .before .before .before .before .pre .0 .few))
+    (p .0, indices-small (p .1), p .2, omega arith, omega (arith, p .1 .few))
 
 mul-nodes : tie.Need-mul-nodes
 mul-nodes c = search needs
@@ -44,8 +44,8 @@ root-of-requires c κs = search needs
 
 returns : tie.Need-returns
 returns c =
-    let s = c .before .before .before .before .before .before .before .before .before .args in
-    root-read (s .h) (s .at) (s .size) (s .indices .now) (s .reply .now) (c .before .before .before .before .leaf-digests .last .1 .1 .1 .1 .0)
+    let s = c .before .before .before .before .before .before .before .before .before .before .args in
+    root-read (s .salt .now) (s .h) (s .at) (s .size) (s .indices .now) (s .reply .now) (c .before .before .before .before .leaf-digests .last .1 .1 .1 .1 .1 .0)
     (drop (32 * length (s .indices .now)) (c .before .before .before .before .before .before .blank-digests .result)) (c .root-of .result)
     (c .before .before .before .before .leaf-digests .ensures) (c .root-of .ensures)
 

@@ -14,27 +14,29 @@ row-width-requires c κs = search needs
 
 mul-b : tie.Need-mul-b
 mul-b c =
-    let s = c .before .before .before .before .before .before .before .before .args in
-    let h : c .row-width .result * length (s .challenges .now) ≤ 1280 = subst (λ (k : ℕ). k ≤ 1280) (sym (ap₂ _*_ (c .row-width .ensures) (c .before .before .before .before .before .before .before .before .pre .0 .repetitions)))
-    (batching-high (sizesIn (s .s)) (c .before .before .before .before .before .before .before .before .pre .0 .in-order)) in
+    let start = c .before .before .before .before .before .before .before .before .before in
+    let s = start .args in
+    let h : c .row-width .result * length (s .challenges .now) ≤ 1280 = subst (λ (k : ℕ). k ≤ 1280) (sym (ap₂ _*_ (c .row-width .ensures) (start .pre .0 .repetitions)))
+    (batching-high (sizesIn (s .s)) (start .pre .0 .in-order)) in
     search needs
 
 read-words-requires : tie.Need-read-words-requires
 read-words-requires c κs =
-    let s = c .before .before .before .before .before .before .before .before .before .args in
+    let start = c .before .before .before .before .before .before .before .before .before .before in
+    let s = start .args in
     let r : c .before .row-width .result * length (s .challenges .now) ≤ length (s .batching .now) = subst (λ (k : ℕ). k * length (s .challenges .now) ≤ length (s .batching .now)) (sym (c .before .row-width .ensures))
-    (c .before .before .before .before .before .before .before .before .before .pre .2) in (
-      batching-fits (sizesIn (s .s)) (s .root .now) (s .challenges .now) (s .points .now) (s .indices .now) (s .reply .now) (c .before .before .before .before .before .before .before .before .before .pre .0)
-          (c .before .before .before .before .before .before .before .before .before .pre .1) (c .before .row-width .result) (c .before .row-width .ensures),
+    (start .pre .2) in (
+      batching-fits (sizesIn (s .s)) (s .root .now) (s .salt .now) (s .challenges .now) (s .points .now) (s .indices .now) (s .reply .now) (start .pre .0)
+          (start .pre .1) (c .before .row-width .result) (c .before .row-width .ensures),
       r,
     )
 
 mul-a : tie.Need-mul-a
 mul-a c =
-    let s = c .before .before .before .before .before .before .before .before .before .before .before .before .args in
+    let start = c .before .before .before .before .before .before .before .before .before .before .before .before .before in
+    let s = start .args in
     let h : c .before .before .before .before .row-width .result * length (s .points .now) ≤ 2560 = subst (λ (k : ℕ). k * length (s .points .now) ≤ 2560) (sym (c .before .before .before .before .row-width .ensures))
-    (evaluation-high (sizesIn (s .s)) (c .before .before .before .before .before .before .before .before .before .before .before .before .pre .0 .in-order) (length (s .points .now))
-    (c .before .before .before .before .before .before .before .before .before .before .before .before .pre .0 .few-points)) in
+    (evaluation-high (sizesIn (s .s)) (start .pre .0 .in-order) (length (s .points .now)) (start .pre .0 .few-points)) in
     search needs
 
 answers-at-requires : tie.Need-answers-at-requires
@@ -42,12 +44,12 @@ answers-at-requires c κs = search needs
 
 read-words-requires-2 : tie.Need-read-words-requires-2
 read-words-requires-2 c κs =
-    let s = c .before .before .before .before .before .before .before .before .before .before .before .before .before .before .args in
+    let start = c .before .before .before .before .before .before .before .before .before .before .before .before .before .before .before in
+    let s = start .args in
     let r : c .before .before .before .before .before .before .row-width .result * length (s .points .now) ≤ length (s .answers .now) = subst (λ (k : ℕ). k * length (s .points .now) ≤ length (s .answers .now))
-    (sym (c .before .before .before .before .before .before .row-width .ensures)) (c .before .before .before .before .before .before .before .before .before .before .before .before .before .before .pre .3) in (
-      evaluation-fits (sizesIn (s .s)) (s .root .now) (s .challenges .now) (s .points .now) (s .indices .now) (s .reply .now)
-          (c .before .before .before .before .before .before .before .before .before .before .before .before .before .before .pre .0)
-          (c .before .before .before .before .before .before .before .before .before .before .before .before .before .before .pre .1) (c .before .before .before .before .before .before .row-width .result)
+    (sym (c .before .before .before .before .before .before .row-width .ensures)) (start .pre .3) in (
+      evaluation-fits (sizesIn (s .s)) (s .root .now) (s .salt .now) (s .challenges .now) (s .points .now) (s .indices .now) (s .reply .now) (start .pre .0)
+          (start .pre .1) (c .before .before .before .before .before .before .row-width .result)
           (c .before .answers-at .result) (c .before .before .before .before .before .before .row-width .ensures) (c .before .answers-at .ensures),
       r,
     )
@@ -60,10 +62,10 @@ part-words-verdict-start c = search needs
 
 part-words-verdict-end : tie.Need-part-words-verdict-end
 part-words-verdict-end c =
-    let s = c .before .before .before .before .before .before .before .before .before .before .before .before .before .before .before .before .before .before .args in
+    let start = c .before .before .before .before .before .before .before .before .before .before .before .before .before .before .before .before .before .before .before in
+    let s = start .args in
     let r : c .before .before .before .before .before .before .before .before .before .before .row-width .result * length (s .challenges .now) ≤ length (s .batching .now) = subst
-    (λ (k : ℕ). k * length (s .challenges .now) ≤ length (s .batching .now)) (sym (c .before .before .before .before .before .before .before .before .before .before .row-width .ensures))
-    (c .before .before .before .before .before .before .before .before .before .before .before .before .before .before .before .before .before .before .pre .2) in
+    (λ (k : ℕ). k * length (s .challenges .now) ≤ length (s .batching .now)) (sym (c .before .before .before .before .before .before .before .before .before .before .row-width .ensures)) (start .pre .2) in
     let l : length (c .before .before .before .before .before .before .before .before .read-words .last .1 .1 .1 .0) ≡ length (s .batching .now) =
     c .before .before .before .before .before .before .before .before .read-words .kept .1 .1 .1 .0 in
     search needs
@@ -76,22 +78,23 @@ part-words-verdict-start-2 c = search needs
 
 part-words-verdict-end-2 : tie.Need-part-words-verdict-end-2
 part-words-verdict-end-2 c =
-    let s = c .before .before .before .before .before .before .before .before .before .before .before .before .before .before .before .before .before .before .before .args in
+    let start = c .before .before .before .before .before .before .before .before .before .before .before .before .before .before .before .before .before .before .before .before in
+    let s = start .args in
     let r : c .before .before .before .before .before .before .before .before .before .before .before .row-width .result * length (s .points .now) ≤ length (s .answers .now) = subst
-    (λ (k : ℕ). k * length (s .points .now) ≤ length (s .answers .now)) (sym (c .before .before .before .before .before .before .before .before .before .before .before .row-width .ensures))
-    (c .before .before .before .before .before .before .before .before .before .before .before .before .before .before .before .before .before .before .before .pre .3) in
+    (λ (k : ℕ). k * length (s .points .now) ≤ length (s .answers .now)) (sym (c .before .before .before .before .before .before .before .before .before .before .before .row-width .ensures)) (start .pre .3) in
     let l : length (c .before .before .before .before .read-words2 .last .1 .1 .1 .0) ≡ length (s .answers .now) = c .before .before .before .before .read-words2 .kept .1 .1 .1 .0 in
     search needs
 
 words-verdict-requires : tie.Need-words-verdict-requires
 words-verdict-requires c κs =
-    let s = c .before .before .before .before .before .before .before .before .before .before .before .before .before .before .before .before .before .before .before .before .args in (
-      c .before .before .before .before .before .before .before .before .before .before .before .before .before .before .before .before .before .before .before .before .pre .0,
-      was-read (sizesIn (s .s)) (s .root .now)
-          (s .challenges .now) (s .points .now) (s .indices .now) (s .reply .now) (c .before .before .before .before .before .before .before .before .before .before .before .before .before .before .before .before .before .before .before .before .pre .0)
+    let start = c .before .before .before .before .before .before .before .before .before .before .before .before .before .before .before .before .before .before .before .before .before in
+    let s = start .args in (
+      start .pre .0,
+      was-read (sizesIn (s .s)) (s .root .now) (s .salt .now)
+          (s .challenges .now) (s .points .now) (s .indices .now) (s .reply .now) (start .pre .0)
           (c .before .before .before .before .before .before .before .before .before .before .before .before .row-width .result) (c .before .before .before .before .before .before .before .answers-at .result) (s .batching .now)
           (s .answers .now) (c .before .before .before .before .before .before .before .before .before .before .read-words .last .1 .1 .1 .0) (c .before .before .before .before .before .read-words2 .last .1 .1 .1 .0)
-          (c .before .before .before .before .before .before .before .before .before .before .before .before .before .before .before .before .before .before .before .before .pre .1)
+          (start .pre .1)
           (c .before .before .before .before .before .before .before .before .before .before .before .before .row-width .ensures) (c .before .before .before .before .before .before .before .answers-at .ensures)
           (c .before .before .before .before .before .before .before .before .before .before .read-words .ensures) (c .before .before .before .before .before .read-words2 .ensures),
     )

@@ -16,17 +16,19 @@ use Rattle.reply_tests.proofs.reply_verdict.Tie as tie
 
 length-for-requires : tie.Need-length-for-requires
 length-for-requires c κs =
-    let s = c .before .before .before .before .before .args in (
-      c .before .before .before .before .before .pre .in-order,
-      c .before .before .before .before .before .pre .few-points,
-      index-set (sizesIn (s .s)) (s .root .now) (s .challenges .now) (s .points .now) (s .indices .now)
-          (s .reply .now) (c .before .before .before .before .before .pre),
+    let start = c .before .before .before .before .before .before in
+    let s = start .args in (
+      start .pre .in-order,
+      start .pre .few-points,
+      index-set (sizesIn (s .s)) (s .root .now) (s .salt .now) (s .challenges .now) (s .points .now) (s .indices .now)
+          (s .reply .now) (start .pre),
     )
 
 returns : tie.Need-returns
 returns c =
-    let s = c .before .before .before .before .before .before .before .args in
-    say-7 (sizesIn (s .s)) (s .root .now) (s .challenges .now) (s .points .now) (s .indices .now) (s .reply .now) (c .before .before .before .before .before .before .before .pre) (c .before .length-for .result)
+    let start = c .before .before .before .before .before .before .before .before in
+    let s = start .args in
+    say-7 (sizesIn (s .s)) (s .root .now) (s .salt .now) (s .challenges .now) (s .points .now) (s .indices .now) (s .reply .now) (start .pre) (c .before .length-for .result)
     (c .before .length-for .ensures) (c .if1 .taken)
 
 row-width-requires : tie.Need-row-width-requires
@@ -46,20 +48,21 @@ slice-aggregate-read-verdict-2 c = search needs
 
 read-verdict-requires : tie.Need-read-verdict-requires
 read-verdict-requires c κs =
-    let s = c .before .before .before .before .before .before .before .before .before .before .before .before .before .args in
-    let whole : length (s .reply .now) ≡ replyLength (posed (sizesIn (s .s)) (s .root .now) (s .challenges .now) (s .points .now) (s .indices .now)) = c .before .before .before .before .before .before .if1 .left ∙
+    let start = c .before .before .before .before .before .before .before .before .before .before .before .before .before .before in
+    let s = start .args in
+    let whole : length (s .reply .now) ≡ replyLength (posed (sizesIn (s .s)) (s .root .now) (s .salt .now) (s .challenges .now) (s .points .now) (s .indices .now)) = c .before .before .before .before .before .before .if1 .left ∙
     c .before .before .before .before .before .before .before .length-for .ensures in
     let w : width (sizesIn (s .s)) ≤ 32 = omega (arith, c .before .before .before .before .before .row-width .ensures, c .before .before .before .before .if2 .taken) in
     let k : length (s .challenges .now) ≤ 4 = omega (
       arith,
-      c .before .before .before .before .before .before .before .before .before .before .before .before .before .pre .repetitions,
-      c .before .before .before .before .before .before .before .before .before .before .before .before .before .pre .in-order .η-high,
+      start .pre .repetitions,
+      start .pre .in-order .η-high,
     ) in
     let g : width (sizesIn (s .s)) * length (s .challenges .now) ≤ 32 * 4 = mul-le-mul {n₂ = 32} {m₂ = 4} w k in
-    let h : width (sizesIn (s .s)) * length (s .points .now) ≤ 32 * 8 = mul-le-mul {n₂ = 32} {m₂ = 8} w (c .before .before .before .before .before .before .before .before .before .before .before .before .before .pre .few-points) in
+    let h : width (sizesIn (s .s)) * length (s .points .now) ≤ 32 * 8 = mul-le-mul {n₂ = 32} {m₂ = 8} w (start .pre .few-points) in
     let i : length (c .before .before .before .blank-short-batching .result) ≡ 128 = search needs in
     let j : length (c .before .before .blank-short-answers .result) ≡ 256 = search needs in
-    (c .before .before .before .before .before .before .before .before .before .before .before .before .before .pre, whole, omega (arith, g, i), omega (arith, h, j))
+    (start .pre, whole, omega (arith, g, i), omega (arith, h, j))
 
 blank-batching-requires : tie.Need-blank-batching-requires
 blank-batching-requires c κs = search needs
@@ -75,36 +78,37 @@ slice-aggregate-read-verdict-4 c = search needs
 
 read-verdict-requires-2 : tie.Need-read-verdict-requires-2
 read-verdict-requires-2 c κs =
-    let s = c .before .before .before .before .before .before .before .before .before .before .before .before .before .args in
-    let whole : length (s .reply .now) ≡ replyLength (posed (sizesIn (s .s)) (s .root .now) (s .challenges .now) (s .points .now) (s .indices .now)) = c .before .before .before .before .before .before .if1 .left ∙
+    let start = c .before .before .before .before .before .before .before .before .before .before .before .before .before .before in
+    let s = start .args in
+    let whole : length (s .reply .now) ≡ replyLength (posed (sizesIn (s .s)) (s .root .now) (s .salt .now) (s .challenges .now) (s .points .now) (s .indices .now)) = c .before .before .before .before .before .before .if1 .left ∙
     c .before .before .before .before .before .before .before .length-for .ensures in
-    let w : width (sizesIn (s .s)) ≤ 320 = width-high (sizesIn (s .s)) (c .before .before .before .before .before .before .before .before .before .before .before .before .before .pre .in-order) in
+    let w : width (sizesIn (s .s)) ≤ 320 = width-high (sizesIn (s .s)) (start .pre .in-order) in
     let k : length (s .challenges .now) ≤ 4 = omega (
       arith,
-      c .before .before .before .before .before .before .before .before .before .before .before .before .before .pre .repetitions,
-      c .before .before .before .before .before .before .before .before .before .before .before .before .before .pre .in-order .η-high,
+      start .pre .repetitions,
+      start .pre .in-order .η-high,
     ) in
     let g : width (sizesIn (s .s)) * length (s .challenges .now) ≤ 320 * 4 = mul-le-mul {n₂ = 320} {m₂ = 4} w k in
-    let h : width (sizesIn (s .s)) * length (s .points .now) ≤ 320 * 8 = mul-le-mul {n₂ = 320} {m₂ = 8} w (c .before .before .before .before .before .before .before .before .before .before .before .before .before .pre .few-points) in
+    let h : width (sizesIn (s .s)) * length (s .points .now) ≤ 320 * 8 = mul-le-mul {n₂ = 320} {m₂ = 8} w (start .pre .few-points) in
     let i : length (c .before .before .before .blank-batching .result) ≡ 1280 = search needs in
     let j : length (c .before .before .blank-answers .result) ≡ 2560 = search needs in
-    (c .before .before .before .before .before .before .before .before .before .before .before .before .before .pre, whole, omega (arith, g, i), omega (arith, h, j))
+    (start .pre, whole, omega (arith, g, i), omega (arith, h, j))
 
 returns-2 : tie.Need-returns-2
 returns-2 c =
-    let s = c .before .before .before .before .before .before .before .before .before .before .before .before .before .before .before .before .args in
-    let whole : length (s .reply .now) ≡ replyLength (posed (sizesIn (s .s)) (s .root .now) (s .challenges .now) (s .points .now) (s .indices .now)) =
+    let start = c .before .before .before .before .before .before .before .before .before .before .before .before .before .before .before .before .before in
+    let s = start .args in
+    let whole : length (s .reply .now) ≡ replyLength (posed (sizesIn (s .s)) (s .root .now) (s .salt .now) (s .challenges .now) (s .points .now) (s .indices .now)) =
     c .before .before .before .before .before .before .before .before .before .if1 .left ∙ c .before .before .before .before .before .before .before .before .before .before .length-for .ensures in
-    c .before .before .read-verdict .ensures ∙ say-later (sizesIn (s .s)) (s .root .now) (s .challenges .now) (s .points .now) (s .indices .now) (s .reply .now)
-    (c .before .before .before .before .before .before .before .before .before .before .before .before .before .before .before .before .pre) whole
+    c .before .before .read-verdict .ensures ∙ say-later (sizesIn (s .s)) (s .root .now) (s .salt .now) (s .challenges .now) (s .points .now) (s .indices .now) (s .reply .now) (start .pre) whole
 
 returns-3 : tie.Need-returns-3
 returns-3 c =
-    let s = c .before .before .before .before .before .before .before .before .before .before .before .before .before .before .before .before .args in
-    let whole : length (s .reply .now) ≡ replyLength (posed (sizesIn (s .s)) (s .root .now) (s .challenges .now) (s .points .now) (s .indices .now)) =
+    let start = c .before .before .before .before .before .before .before .before .before .before .before .before .before .before .before .before .before in
+    let s = start .args in
+    let whole : length (s .reply .now) ≡ replyLength (posed (sizesIn (s .s)) (s .root .now) (s .salt .now) (s .challenges .now) (s .points .now) (s .indices .now)) =
     c .before .before .before .before .before .before .before .before .before .if1 .left ∙ c .before .before .before .before .before .before .before .before .before .before .length-for .ensures in
-    c .before .before .read-verdict2 .ensures ∙ say-later (sizesIn (s .s)) (s .root .now) (s .challenges .now) (s .points .now) (s .indices .now) (s .reply .now)
-    (c .before .before .before .before .before .before .before .before .before .before .before .before .before .before .before .before .pre) whole
+    c .before .before .read-verdict2 .ensures ∙ say-later (sizesIn (s .s)) (s .root .now) (s .salt .now) (s .challenges .now) (s .points .now) (s .indices .now) (s .reply .now) (start .pre) whole
 
 pub reply-verdict-spec : {M : Type 1} → statement M
 reply-verdict-spec =

@@ -16,24 +16,25 @@ record-length-requires : tie.Need-record-length-requires
 record-length-requires c κs = search needs
 
 record-values-requires : tie.Need-record-values-requires
-record-values-requires c κs = c .before .before .before .before .before .before .before .before .before .pre .0 .in-order
+record-values-requires c κs = c .before .before .before .before .before .before .before .before .before .before .pre .0 .in-order
 
 elements-read-requires : tie.Need-elements-read-requires
 elements-read-requires c κs =
-    let s = c .before .before .before .before .before .before .before .before .before .before .before .args in
-    elements-asks (sizesIn (s .s)) (s .root .now) (s .challenges .now) (s .points .now) (s .indices .now) (s .reply .now) (c .before .before .before .before .before .before .before .before .before .before .before .pre .0)
-    (c .before .before .before .before .before .before .before .before .before .before .before .pre .1) (c .before .before .before .records-at .ensures) (c .before .before .record-length .ensures) (c .before .record-values .ensures)
+    let start = c .before .before .before .before .before .before .before .before .before .before .before .before in
+    let s = start .args in
+    elements-asks (sizesIn (s .s)) (s .root .now) (s .salt .now) (s .challenges .now) (s .points .now) (s .indices .now) (s .reply .now) (start .pre .0)
+    (start .pre .1) (c .before .before .before .records-at .ensures) (c .before .before .record-length .ensures) (c .before .record-values .ensures)
 
 same-length : tie.Need-same-length
 same-length c = search needs
 
 returns : tie.Need-returns
 returns c =
-    let s = c .before .before .before .before .before .before .before .before .before .before .before .before .before .args in
-    say-3 (sizesIn (s .s)) (s .root .now) (s .challenges .now) (s .points .now) (s .indices .now) (s .reply .now) (c .before .before .before .before .before .before .before .before .before .before .before .before .before .pre .0)
-    (sym (elements-tested (sizesIn (s .s)) (s .root .now) (s .challenges .now) (s .points .now) (s .indices .now) (s .reply .now)
-    (c .before .before .before .before .before .before .before .before .before .before .before .before .before .pre .0)
-    (c .before .before .before .before .before .before .before .before .before .before .before .before .before .pre .1) (c .before .before .before .before .before .records-at .ensures)
+    let start = c .before .before .before .before .before .before .before .before .before .before .before .before .before .before in
+    let s = start .args in
+    say-3 (sizesIn (s .s)) (s .root .now) (s .salt .now) (s .challenges .now) (s .points .now) (s .indices .now) (s .reply .now) (start .pre .0)
+    (sym (elements-tested (sizesIn (s .s)) (s .root .now) (s .salt .now) (s .challenges .now) (s .points .now) (s .indices .now) (s .reply .now) (start .pre .0)
+    (start .pre .1) (c .before .before .before .before .before .records-at .ensures)
     (c .before .before .before .before .record-length .ensures) (c .before .before .before .record-values .ensures) (c .before .elements-read .ensures)) ∙ not-true (c .before .elements-read .result) (c .if1 .taken))
 
 cast-reply-root : tie.Need-cast-reply-root
@@ -41,18 +42,17 @@ cast-reply-root c = search needs
 
 reply-root-requires : tie.Need-reply-root-requires
 reply-root-requires c κs =
-    let s = c .before .before .before .before .before .before .before .before .before .before .before .before .before .before .args in (
-      index-set (sizesIn (s .s)) (s .root .now) (s .challenges .now) (s .points .now) (s .indices .now) (s .reply .now)
-          (c .before .before .before .before .before .before .before .before .before .before .before .before .before .before .pre .0),
+    let start = c .before .before .before .before .before .before .before .before .before .before .before .before .before .before .before in
+    let s = start .args in (
+      start .pre .0 .salted,
+      index-set (sizesIn (s .s)) (s .root .now) (s .salt .now) (s .challenges .now) (s .points .now) (s .indices .now) (s .reply .now) (start .pre .0),
       omega (
         arith,
         c .before .before .before .before .before .record-length .ensures,
-        record-high (sizesIn (s .s))
-            (c .before .before .before .before .before .before .before .before .before .before .before .before .before .before .pre .0 .in-order),
+        record-high (sizesIn (s .s)) (start .pre .0 .in-order),
       ),
-      root-fits (sizesIn (s .s)) (s .root .now) (s .challenges .now) (s .points .now) (s .indices .now) (s .reply .now)
-          (c .before .before .before .before .before .before .before .before .before .before .before .before .before .before .pre .0)
-          (c .before .before .before .before .before .before .before .before .before .before .before .before .before .before .pre .1 .whole) (c .before .before .before .before .before .before .records-at .ensures)
+      root-fits (sizesIn (s .s)) (s .root .now) (s .salt .now) (s .challenges .now) (s .points .now) (s .indices .now) (s .reply .now) (start .pre .0)
+          (start .pre .1 .whole) (c .before .before .before .before .before .before .records-at .ensures)
           (c .before .before .before .before .before .record-length .ensures),
     )
 
@@ -67,18 +67,14 @@ same-length-2 c = search needs
 
 returns-2 : tie.Need-returns-2
 returns-2 c =
-    let s = c .before .before .before .before .before .before .before .before .before .before .before .before .before .before .before .before .before .before .args in
-    say-8 (sizesIn (s .s)) (s .root .now) (s .challenges .now) (s .points .now) (s .indices .now) (s .reply .now)
-    (c .before .before .before .before .before .before .before .before .before .before .before .before .before .before .before .before .before .before .pre .0)
-    (sym (elements-tested (sizesIn (s .s)) (s .root .now) (s .challenges .now) (s .points .now) (s .indices .now) (s .reply .now)
-    (c .before .before .before .before .before .before .before .before .before .before .before .before .before .before .before .before .before .before .pre .0)
-    (c .before .before .before .before .before .before .before .before .before .before .before .before .before .before .before .before .before .before .pre .1)
+    let start = c .before .before .before .before .before .before .before .before .before .before .before .before .before .before .before .before .before .before .before in
+    let s = start .args in
+    say-8 (sizesIn (s .s)) (s .root .now) (s .salt .now) (s .challenges .now) (s .points .now) (s .indices .now) (s .reply .now) (start .pre .0)
+    (sym (elements-tested (sizesIn (s .s)) (s .root .now) (s .salt .now) (s .challenges .now) (s .points .now) (s .indices .now) (s .reply .now) (start .pre .0) (start .pre .1)
     (c .before .before .before .before .before .before .before .before .before .before .records-at .ensures) (c .before .before .before .before .before .before .before .before .before .record-length .ensures)
     (c .before .before .before .before .before .before .before .before .record-values .ensures) (c .before .before .before .before .before .before .elements-read .ensures)) ∙ not-false
     (c .before .before .before .before .before .before .elements-read .result) (c .before .before .before .before .before .if1 .left))
-    (sym (root-tested (sizesIn (s .s)) (s .root .now) (s .challenges .now) (s .points .now) (s .indices .now) (s .reply .now)
-    (c .before .before .before .before .before .before .before .before .before .before .before .before .before .before .before .before .before .before .pre .0)
-    (c .before .before .before .before .before .before .before .before .before .before .before .before .before .before .before .before .before .before .pre .1)
+    (sym (root-tested (sizesIn (s .s)) (s .root .now) (s .salt .now) (s .challenges .now) (s .points .now) (s .indices .now) (s .reply .now) (start .pre .0) (start .pre .1)
     (c .before .before .before .before .before .before .before .before .before .before .records-at .ensures) (c .before .before .before .before .before .before .before .before .before .record-length .ensures)
     (c .before .before .before .reply-root .ensures) (c .before .same-bytes .ensures)) ∙ not-true (c .before .same-bytes .result) (c .if2 .taken))
 
@@ -90,10 +86,9 @@ row-count-requires c κs = search needs
 
 batching-ok-requires : tie.Need-batching-ok-requires
 batching-ok-requires c κs =
-    let s = c .before .before .before .before .before .before .before .before .before .before .before .before .before .before .before .before .before .before .before .before .args in
-    batching-asks (sizesIn (s .s)) (s .root .now) (s .challenges .now) (s .points .now) (s .indices .now) (s .reply .now)
-    (c .before .before .before .before .before .before .before .before .before .before .before .before .before .before .before .before .before .before .before .before .pre .0)
-    (c .before .before .before .before .before .before .before .before .before .before .before .before .before .before .before .before .before .before .before .before .pre .1)
+    let start = c .before .before .before .before .before .before .before .before .before .before .before .before .before .before .before .before .before .before .before .before .before in
+    let s = start .args in
+    batching-asks (sizesIn (s .s)) (s .root .now) (s .salt .now) (s .challenges .now) (s .points .now) (s .indices .now) (s .reply .now) (start .pre .0) (start .pre .1)
     (c .before .before .before .before .before .before .before .before .before .before .before .before .records-at .ensures)
     (c .before .before .before .before .before .before .before .before .before .before .before .record-length .ensures) (c .before .row-width .ensures) (c .row-count .ensures)
 
@@ -102,40 +97,33 @@ same-length-3 c = search needs
 
 returns-3 : tie.Need-returns-3
 returns-3 c =
-    let s = c .before .before .before .before .before .before .before .before .before .before .before .before .before .before .before .before .before .before .before .before .before .before .args in
-    say-9 (sizesIn (s .s)) (s .root .now) (s .challenges .now) (s .points .now) (s .indices .now) (s .reply .now)
-    (c .before .before .before .before .before .before .before .before .before .before .before .before .before .before .before .before .before .before .before .before .before .before .pre .0)
-    (sym (elements-tested (sizesIn (s .s)) (s .root .now) (s .challenges .now) (s .points .now) (s .indices .now) (s .reply .now)
-    (c .before .before .before .before .before .before .before .before .before .before .before .before .before .before .before .before .before .before .before .before .before .before .pre .0)
-    (c .before .before .before .before .before .before .before .before .before .before .before .before .before .before .before .before .before .before .before .before .before .before .pre .1)
+    let start = c .before .before .before .before .before .before .before .before .before .before .before .before .before .before .before .before .before .before .before .before .before .before .before in
+    let s = start .args in
+    say-9 (sizesIn (s .s)) (s .root .now) (s .salt .now) (s .challenges .now) (s .points .now) (s .indices .now) (s .reply .now) (start .pre .0)
+    (sym (elements-tested (sizesIn (s .s)) (s .root .now) (s .salt .now) (s .challenges .now) (s .points .now) (s .indices .now) (s .reply .now) (start .pre .0) (start .pre .1)
     (c .before .before .before .before .before .before .before .before .before .before .before .before .before .before .records-at .ensures)
     (c .before .before .before .before .before .before .before .before .before .before .before .before .before .record-length .ensures)
     (c .before .before .before .before .before .before .before .before .before .before .before .before .record-values .ensures)
     (c .before .before .before .before .before .before .before .before .before .before .elements-read .ensures)) ∙ not-false
     (c .before .before .before .before .before .before .before .before .before .before .elements-read .result) (c .before .before .before .before .before .before .before .before .before .if1 .left))
-    (sym (root-tested (sizesIn (s .s)) (s .root .now) (s .challenges .now) (s .points .now) (s .indices .now) (s .reply .now)
-    (c .before .before .before .before .before .before .before .before .before .before .before .before .before .before .before .before .before .before .before .before .before .before .pre .0)
-    (c .before .before .before .before .before .before .before .before .before .before .before .before .before .before .before .before .before .before .before .before .before .before .pre .1)
+    (sym (root-tested (sizesIn (s .s)) (s .root .now) (s .salt .now) (s .challenges .now) (s .points .now) (s .indices .now) (s .reply .now) (start .pre .0) (start .pre .1)
     (c .before .before .before .before .before .before .before .before .before .before .before .before .before .before .records-at .ensures)
     (c .before .before .before .before .before .before .before .before .before .before .before .before .before .record-length .ensures) (c .before .before .before .before .before .before .before .reply-root .ensures)
     (c .before .before .before .before .before .same-bytes .ensures)) ∙ not-false (c .before .before .before .before .before .same-bytes .result) (c .before .before .before .before .if2 .left))
-    (sym (batching-tested (sizesIn (s .s)) (s .root .now) (s .challenges .now) (s .points .now) (s .indices .now) (s .reply .now)
-    (c .before .before .before .before .before .before .before .before .before .before .before .before .before .before .before .before .before .before .before .before .before .before .pre .0)
-    (c .before .before .before .before .before .before .before .before .before .before .before .before .before .before .before .before .before .before .before .before .before .before .pre .1)
+    (sym (batching-tested (sizesIn (s .s)) (s .root .now) (s .salt .now) (s .challenges .now) (s .points .now) (s .indices .now) (s .reply .now) (start .pre .0) (start .pre .1)
     (c .before .before .before .before .before .before .before .before .before .before .before .before .before .before .records-at .ensures)
     (c .before .before .before .before .before .before .before .before .before .before .before .before .before .record-length .ensures) (c .before .before .before .row-width .ensures) (c .before .before .row-count .ensures)
     (c .before .batching-ok .ensures)) ∙ not-true (c .before .batching-ok .result) (c .if3 .taken))
 
 leaf-count-requires : tie.Need-leaf-count-requires
 leaf-count-requires c κs =
-    c .before .before .before .before .before .before .before .before .before .before .before .before .before .before .before .before .before .before .before .before .before .before .pre .0 .in-order .h-high
+    c .before .before .before .before .before .before .before .before .before .before .before .before .before .before .before .before .before .before .before .before .before .before .before .pre .0 .in-order .h-high
 
 evaluation-ok-requires : tie.Need-evaluation-ok-requires
 evaluation-ok-requires c κs =
-    let s = c .before .before .before .before .before .before .before .before .before .before .before .before .before .before .before .before .before .before .before .before .before .before .before .before .args in
-    evaluation-asks (sizesIn (s .s)) (s .root .now) (s .challenges .now) (s .points .now) (s .indices .now) (s .reply .now)
-    (c .before .before .before .before .before .before .before .before .before .before .before .before .before .before .before .before .before .before .before .before .before .before .before .before .pre .0)
-    (c .before .before .before .before .before .before .before .before .before .before .before .before .before .before .before .before .before .before .before .before .before .before .before .before .pre .1)
+    let start = c .before .before .before .before .before .before .before .before .before .before .before .before .before .before .before .before .before .before .before .before .before .before .before .before .before in
+    let s = start .args in
+    evaluation-asks (sizesIn (s .s)) (s .root .now) (s .salt .now) (s .challenges .now) (s .points .now) (s .indices .now) (s .reply .now) (start .pre .0) (start .pre .1)
     (c .before .before .before .before .before .before .before .before .before .before .before .before .before .before .before .before .records-at .ensures)
     (c .before .before .before .before .before .before .before .before .before .before .before .before .before .before .before .record-length .ensures) (c .before .leaf-count .ensures)
     (c .before .before .before .before .before .row-width .ensures) (c .before .before .before .before .row-count .ensures)
@@ -145,38 +133,29 @@ same-length-4 c = search needs
 
 returns-4 : tie.Need-returns-4
 returns-4 c =
-    let s = c .before .before .before .before .before .before .before .before .before .before .before .before .before .before .before .before .before .before .before .before .before .before .before .before .before .before .before .before .args
-    in
-    say-10 (sizesIn (s .s)) (s .root .now) (s .challenges .now) (s .points .now) (s .indices .now) (s .reply .now)
-    (c .before .before .before .before .before .before .before .before .before .before .before .before .before .before .before .before .before .before .before .before .before .before .before .before .before .before .before .before .pre .0)
-    (sym (elements-tested (sizesIn (s .s)) (s .root .now) (s .challenges .now) (s .points .now) (s .indices .now) (s .reply .now)
-    (c .before .before .before .before .before .before .before .before .before .before .before .before .before .before .before .before .before .before .before .before .before .before .before .before .before .before .before .before .pre .0)
-    (c .before .before .before .before .before .before .before .before .before .before .before .before .before .before .before .before .before .before .before .before .before .before .before .before .before .before .before .before .pre .1)
+    let start = c .before .before .before .before .before .before .before .before .before .before .before .before .before .before .before .before .before .before .before .before .before .before .before .before .before .before .before .before .before in
+    let s = start .args in
+    say-10 (sizesIn (s .s)) (s .root .now) (s .salt .now) (s .challenges .now) (s .points .now) (s .indices .now) (s .reply .now) (start .pre .0)
+    (sym (elements-tested (sizesIn (s .s)) (s .root .now) (s .salt .now) (s .challenges .now) (s .points .now) (s .indices .now) (s .reply .now) (start .pre .0) (start .pre .1)
     (c .before .before .before .before .before .before .before .before .before .before .before .before .before .before .before .before .before .before .before .before .records-at .ensures)
     (c .before .before .before .before .before .before .before .before .before .before .before .before .before .before .before .before .before .before .before .record-length .ensures)
     (c .before .before .before .before .before .before .before .before .before .before .before .before .before .before .before .before .before .before .record-values .ensures)
     (c .before .before .before .before .before .before .before .before .before .before .before .before .before .before .before .before .elements-read .ensures)) ∙ not-false
     (c .before .before .before .before .before .before .before .before .before .before .before .before .before .before .before .before .elements-read .result)
     (c .before .before .before .before .before .before .before .before .before .before .before .before .before .before .before .if1 .left))
-    (sym (root-tested (sizesIn (s .s)) (s .root .now) (s .challenges .now) (s .points .now) (s .indices .now) (s .reply .now)
-    (c .before .before .before .before .before .before .before .before .before .before .before .before .before .before .before .before .before .before .before .before .before .before .before .before .before .before .before .before .pre .0)
-    (c .before .before .before .before .before .before .before .before .before .before .before .before .before .before .before .before .before .before .before .before .before .before .before .before .before .before .before .before .pre .1)
+    (sym (root-tested (sizesIn (s .s)) (s .root .now) (s .salt .now) (s .challenges .now) (s .points .now) (s .indices .now) (s .reply .now) (start .pre .0) (start .pre .1)
     (c .before .before .before .before .before .before .before .before .before .before .before .before .before .before .before .before .before .before .before .before .records-at .ensures)
     (c .before .before .before .before .before .before .before .before .before .before .before .before .before .before .before .before .before .before .before .record-length .ensures)
     (c .before .before .before .before .before .before .before .before .before .before .before .before .before .reply-root .ensures)
     (c .before .before .before .before .before .before .before .before .before .before .before .same-bytes .ensures)) ∙ not-false
     (c .before .before .before .before .before .before .before .before .before .before .before .same-bytes .result) (c .before .before .before .before .before .before .before .before .before .before .if2 .left))
-    (sym (batching-tested (sizesIn (s .s)) (s .root .now) (s .challenges .now) (s .points .now) (s .indices .now) (s .reply .now)
-    (c .before .before .before .before .before .before .before .before .before .before .before .before .before .before .before .before .before .before .before .before .before .before .before .before .before .before .before .before .pre .0)
-    (c .before .before .before .before .before .before .before .before .before .before .before .before .before .before .before .before .before .before .before .before .before .before .before .before .before .before .before .before .pre .1)
+    (sym (batching-tested (sizesIn (s .s)) (s .root .now) (s .salt .now) (s .challenges .now) (s .points .now) (s .indices .now) (s .reply .now) (start .pre .0) (start .pre .1)
     (c .before .before .before .before .before .before .before .before .before .before .before .before .before .before .before .before .before .before .before .before .records-at .ensures)
     (c .before .before .before .before .before .before .before .before .before .before .before .before .before .before .before .before .before .before .before .record-length .ensures)
     (c .before .before .before .before .before .before .before .before .before .row-width .ensures) (c .before .before .before .before .before .before .before .before .row-count .ensures)
     (c .before .before .before .before .before .before .before .batching-ok .ensures)) ∙ not-false (c .before .before .before .before .before .before .before .batching-ok .result)
     (c .before .before .before .before .before .before .if3 .left))
-    (sym (evaluation-tested (sizesIn (s .s)) (s .root .now) (s .challenges .now) (s .points .now) (s .indices .now) (s .reply .now)
-    (c .before .before .before .before .before .before .before .before .before .before .before .before .before .before .before .before .before .before .before .before .before .before .before .before .before .before .before .before .pre .0)
-    (c .before .before .before .before .before .before .before .before .before .before .before .before .before .before .before .before .before .before .before .before .before .before .before .before .before .before .before .before .pre .1)
+    (sym (evaluation-tested (sizesIn (s .s)) (s .root .now) (s .salt .now) (s .challenges .now) (s .points .now) (s .indices .now) (s .reply .now) (start .pre .0) (start .pre .1)
     (c .before .before .before .before .before .before .before .before .before .before .before .before .before .before .before .before .before .before .before .before .records-at .ensures)
     (c .before .before .before .before .before .before .before .before .before .before .before .before .before .before .before .before .before .before .before .record-length .ensures)
     (c .before .before .before .before .before .leaf-count .ensures) (c .before .before .before .before .before .before .before .before .before .row-width .ensures)
@@ -187,38 +166,29 @@ same-length-5 c = search needs
 
 returns-5 : tie.Need-returns-5
 returns-5 c =
-    let s = c .before .before .before .before .before .before .before .before .before .before .before .before .before .before .before .before .before .before .before .before .before .before .before .before .before .before .before .before .args
-    in
-    say-0 (sizesIn (s .s)) (s .root .now) (s .challenges .now) (s .points .now) (s .indices .now) (s .reply .now)
-    (c .before .before .before .before .before .before .before .before .before .before .before .before .before .before .before .before .before .before .before .before .before .before .before .before .before .before .before .before .pre .0)
-    (sym (elements-tested (sizesIn (s .s)) (s .root .now) (s .challenges .now) (s .points .now) (s .indices .now) (s .reply .now)
-    (c .before .before .before .before .before .before .before .before .before .before .before .before .before .before .before .before .before .before .before .before .before .before .before .before .before .before .before .before .pre .0)
-    (c .before .before .before .before .before .before .before .before .before .before .before .before .before .before .before .before .before .before .before .before .before .before .before .before .before .before .before .before .pre .1)
+    let start = c .before .before .before .before .before .before .before .before .before .before .before .before .before .before .before .before .before .before .before .before .before .before .before .before .before .before .before .before .before in
+    let s = start .args in
+    say-0 (sizesIn (s .s)) (s .root .now) (s .salt .now) (s .challenges .now) (s .points .now) (s .indices .now) (s .reply .now) (start .pre .0)
+    (sym (elements-tested (sizesIn (s .s)) (s .root .now) (s .salt .now) (s .challenges .now) (s .points .now) (s .indices .now) (s .reply .now) (start .pre .0) (start .pre .1)
     (c .before .before .before .before .before .before .before .before .before .before .before .before .before .before .before .before .before .before .before .before .records-at .ensures)
     (c .before .before .before .before .before .before .before .before .before .before .before .before .before .before .before .before .before .before .before .record-length .ensures)
     (c .before .before .before .before .before .before .before .before .before .before .before .before .before .before .before .before .before .before .record-values .ensures)
     (c .before .before .before .before .before .before .before .before .before .before .before .before .before .before .before .before .elements-read .ensures)) ∙ not-false
     (c .before .before .before .before .before .before .before .before .before .before .before .before .before .before .before .before .elements-read .result)
     (c .before .before .before .before .before .before .before .before .before .before .before .before .before .before .before .if1 .left))
-    (sym (root-tested (sizesIn (s .s)) (s .root .now) (s .challenges .now) (s .points .now) (s .indices .now) (s .reply .now)
-    (c .before .before .before .before .before .before .before .before .before .before .before .before .before .before .before .before .before .before .before .before .before .before .before .before .before .before .before .before .pre .0)
-    (c .before .before .before .before .before .before .before .before .before .before .before .before .before .before .before .before .before .before .before .before .before .before .before .before .before .before .before .before .pre .1)
+    (sym (root-tested (sizesIn (s .s)) (s .root .now) (s .salt .now) (s .challenges .now) (s .points .now) (s .indices .now) (s .reply .now) (start .pre .0) (start .pre .1)
     (c .before .before .before .before .before .before .before .before .before .before .before .before .before .before .before .before .before .before .before .before .records-at .ensures)
     (c .before .before .before .before .before .before .before .before .before .before .before .before .before .before .before .before .before .before .before .record-length .ensures)
     (c .before .before .before .before .before .before .before .before .before .before .before .before .before .reply-root .ensures)
     (c .before .before .before .before .before .before .before .before .before .before .before .same-bytes .ensures)) ∙ not-false
     (c .before .before .before .before .before .before .before .before .before .before .before .same-bytes .result) (c .before .before .before .before .before .before .before .before .before .before .if2 .left))
-    (sym (batching-tested (sizesIn (s .s)) (s .root .now) (s .challenges .now) (s .points .now) (s .indices .now) (s .reply .now)
-    (c .before .before .before .before .before .before .before .before .before .before .before .before .before .before .before .before .before .before .before .before .before .before .before .before .before .before .before .before .pre .0)
-    (c .before .before .before .before .before .before .before .before .before .before .before .before .before .before .before .before .before .before .before .before .before .before .before .before .before .before .before .before .pre .1)
+    (sym (batching-tested (sizesIn (s .s)) (s .root .now) (s .salt .now) (s .challenges .now) (s .points .now) (s .indices .now) (s .reply .now) (start .pre .0) (start .pre .1)
     (c .before .before .before .before .before .before .before .before .before .before .before .before .before .before .before .before .before .before .before .before .records-at .ensures)
     (c .before .before .before .before .before .before .before .before .before .before .before .before .before .before .before .before .before .before .before .record-length .ensures)
     (c .before .before .before .before .before .before .before .before .before .row-width .ensures) (c .before .before .before .before .before .before .before .before .row-count .ensures)
     (c .before .before .before .before .before .before .before .batching-ok .ensures)) ∙ not-false (c .before .before .before .before .before .before .before .batching-ok .result)
     (c .before .before .before .before .before .before .if3 .left))
-    (sym (evaluation-tested (sizesIn (s .s)) (s .root .now) (s .challenges .now) (s .points .now) (s .indices .now) (s .reply .now)
-    (c .before .before .before .before .before .before .before .before .before .before .before .before .before .before .before .before .before .before .before .before .before .before .before .before .before .before .before .before .pre .0)
-    (c .before .before .before .before .before .before .before .before .before .before .before .before .before .before .before .before .before .before .before .before .before .before .before .before .before .before .before .before .pre .1)
+    (sym (evaluation-tested (sizesIn (s .s)) (s .root .now) (s .salt .now) (s .challenges .now) (s .points .now) (s .indices .now) (s .reply .now) (start .pre .0) (start .pre .1)
     (c .before .before .before .before .before .before .before .before .before .before .before .before .before .before .before .before .before .before .before .before .records-at .ensures)
     (c .before .before .before .before .before .before .before .before .before .before .before .before .before .before .before .before .before .before .before .record-length .ensures)
     (c .before .before .before .before .before .leaf-count .ensures) (c .before .before .before .before .before .before .before .before .before .row-width .ensures)

@@ -19,10 +19,10 @@ same-length c = search needs
 
 returns : tie.Need-returns
 returns c =
-    let s = c .before .before .before .before .before .before .before .before .before .before .before .before .before .before .before .before .args in
+    let s = c .before .before .before .before .before .before .before .before .before .before .before .before .before .before .before .before .before .args in
     let o = c .before .before .before .before .before .«open» in
-    length-written (s .question .now) (lentOf (s .coefficients .now) (s .tails .now) (s .blinds .now) (s .masks .now) (s .nonces .now)) (s .table .now) (s .tree .now) (s .reply .now) (s .length .now) (o .result)
-    (o .last .1 .1 .1 .1 .1 .1 .1 .1 .0)
+    length-written (s .question .now) (lentOf (s .coefficients .now) (s .tails .now) (s .blinds .now) (s .masks .now) (s .nonces .now) (s .salt .now)) (s .table .now) (s .tree .now) (s .reply .now) (s .length .now) (o .result)
+    (o .last .1 .1 .1 .1 .1 .1 .1 .1 .1 .0)
     (o .ensures) (c .before .answer .given .0 .0) (c .before .answer .given .1)
 
 same-length-2 : tie.Need-same-length-2
@@ -30,10 +30,10 @@ same-length-2 c = search needs
 
 returns-2 : tie.Need-returns-2
 returns-2 c =
-    let s = c .before .before .before .before .before .before .before .before .before .before .before .before .before .before .before .before .args in
+    let s = c .before .before .before .before .before .before .before .before .before .before .before .before .before .before .before .before .before .args in
     let o = c .before .before .before .before .before .«open» in
-    length-left (s .question .now) (lentOf (s .coefficients .now) (s .tails .now) (s .blinds .now) (s .masks .now) (s .nonces .now)) (s .table .now) (s .tree .now) (s .reply .now) (s .length .now) (o .result)
-    (o .last .1 .1 .1 .1 .1 .1 .1 .1 .0)
+    length-left (s .question .now) (lentOf (s .coefficients .now) (s .tails .now) (s .blinds .now) (s .masks .now) (s .nonces .now) (s .salt .now)) (s .table .now) (s .tree .now) (s .reply .now) (s .length .now) (o .result)
+    (o .last .1 .1 .1 .1 .1 .1 .1 .1 .1 .0)
     (o .ensures) (c .before .answer2 .given .0 .0) (c .before .answer2 .given .1)
 
 pub smallwood-open-spec : {M : Type 1} → statement M

@@ -21,9 +21,9 @@ returns : tie.Need-returns
 returns c =
     let answer′ = c .before .answer in
     let prove′ = c .before .before .before .before .before .prove in
-    let s = c .before .before .before .before .before .before .before .before .before .before .before .before .before .before .before .before .args in
-    proof-written (s .question .now) (s .kappa) (s .limit) (lentOf (s .coefficients .now) (s .tails .now) (s .blinds .now) (s .masks .now) (s .nonces .now)) (s .table .now) (s .tree .now) (s .proof .now) (s .length .now) (prove′ .result)
-    (prove′ .last .1 .1 .1 .1 .1 .1 .1 .1 .1 .1 .0)
+    let s = c .before .before .before .before .before .before .before .before .before .before .before .before .before .before .before .before .before .args in
+    proof-written (s .question .now) (s .kappa) (s .limit) (lentOf (s .coefficients .now) (s .tails .now) (s .blinds .now) (s .masks .now) (s .nonces .now) (s .salt .now)) (s .table .now) (s .tree .now) (s .proof .now) (s .length .now) (prove′ .result)
+    (prove′ .last .1 .1 .1 .1 .1 .1 .1 .1 .1 .1 .1 .0)
     (prove′ .ensures) (answer′ .given .0 .0) (answer′ .given .1)
 
 same-length-2 : tie.Need-same-length-2
@@ -33,9 +33,9 @@ returns-2 : tie.Need-returns-2
 returns-2 c =
     let answer2′ = c .before .answer2 in
     let prove′ = c .before .before .before .before .before .prove in
-    let s = c .before .before .before .before .before .before .before .before .before .before .before .before .before .before .before .before .args in
-    proof-left (s .question .now) (s .kappa) (s .limit) (lentOf (s .coefficients .now) (s .tails .now) (s .blinds .now) (s .masks .now) (s .nonces .now)) (s .table .now) (s .tree .now) (s .proof .now) (s .length .now) (prove′ .result)
-    (prove′ .last .1 .1 .1 .1 .1 .1 .1 .1 .1 .1 .0)
+    let s = c .before .before .before .before .before .before .before .before .before .before .before .before .before .before .before .before .before .args in
+    proof-left (s .question .now) (s .kappa) (s .limit) (lentOf (s .coefficients .now) (s .tails .now) (s .blinds .now) (s .masks .now) (s .nonces .now) (s .salt .now)) (s .table .now) (s .tree .now) (s .proof .now) (s .length .now) (prove′ .result)
+    (prove′ .last .1 .1 .1 .1 .1 .1 .1 .1 .1 .1 .1 .0)
     (prove′ .ensures) (answer2′ .given .0 .0) (answer2′ .given .1)
 
 pub smallwood-prove-spec : {M : Type 1} → statement M

@@ -17,15 +17,15 @@ slice-aggregate-fill-levels c = search needs
 
 fill-levels-requires : tie.Need-fill-levels-requires
 fill-levels-requires c κs =
-    let s = c .before .before .before .before in
-    record { arity = omega arith; leaves = s .pre .0; whole = s .pre .1; room = omega (arith, c .before .before .node-buffer .ensures .0) }
+    let s = c .before .before .before .before .before in
+    record { arity = omega arith; leaves = s .pre .1; whole = s .pre .2; room = omega (arith, c .before .before .node-buffer .ensures .0) }
 
 same-length : tie.Need-same-length
 same-length c = search needs
 
 returns : tie.Need-returns
 returns c =
-    let s = c .before .before .before .before .before .before .before .before in
+    let s = c .before .before .before .before .before .before .before .before .before in
     let a = s .args in
     c .before .before .before .fill-levels .ensures ∙ ap (λ (pre : Bytes). flatten (tree digest 2 pre (a .h) (parts (a .n) (a .tree .now)))) (c .before .before .before .before .before .before .node-buffer .ensures .1)
 

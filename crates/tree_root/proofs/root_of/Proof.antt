@@ -39,11 +39,11 @@ slice-aggregate-root-from-3 c = search needs
 
 root-from-requires : tie.Need-root-from-requires
 root-from-requires c κs =
-    let s = c .before .before .before .before .before .before .before .before .before .before .before .before .before in
+    let s = c .before .before .before .before .before .before .before .before .before .before .before .before .before .before in
     let p = s .pre in
     let i = c .before .before .before .before .before .before .before .before .copy-indices in
     let f = c .before .before .before .before .before .copy-front in
-    index-root (p .0) (i .kept .0) (i .ensures) (f .kept .0) (c .before .before .before .node-buffer .ensures .0) (p .2)
+    index-root (p .1) (i .kept .0) (i .ensures) (f .kept .0) (c .before .before .before .node-buffer .ensures .0) (p .3)
 
 slice-aggregate-first-digest : tie.Need-slice-aggregate-first-digest
 slice-aggregate-first-digest c = search needs
@@ -53,16 +53,16 @@ first-digest-requires c κs = search needs
 
 returns : tie.Need-returns
 returns c =
-    let s = c .before .before .before .before .before .before .before .before .before .before .before .before .before .before .before .before .before .before .before in
+    let s = c .before .before .before .before .before .before .before .before .before .before .before .before .before .before .before .before .before .before .before .before in
     let a = s .args in
     let p = s .pre in
     let i = c .before .before .before .before .before .before .before .before .before .before .before .before .before .before .copy-indices in
     let f = c .before .before .before .before .before .before .before .before .before .before .before .copy-front in
     let b = c .before .before .before .before .before .before .before .before .before .node-buffer in
     let n : ℕ = length (a .indices .now) in
-    let fits : 32 * n ≤ length (f .last .0) = omega (arith, p .0 .few, f .kept .0) in
+    let fits : 32 * n ≤ length (f .last .0) = omega (arith, p .1 .few, f .kept .0) in
     c .first-digest .ensures ∙ c .before .before .before .before .before .root-from .ensures .0
-    ∙ root-agrees (a .h) (allParts (a .nodes .now)) (b .ensures .1) (i .ensures) (parts-same n (f .last .0) (a .digests .now) fits (p .1) (f .ensures))
+    ∙ root-agrees (a .h) (allParts (a .nodes .now)) (b .ensures .1) (i .ensures) (parts-same n (f .last .0) (a .digests .now) fits (p .2) (f .ensures))
 
 pub root-of-spec : {M : Type 1} → statement M
 root-of-spec =
