@@ -18,13 +18,13 @@ from smallwood import Q, Question, Reply, Sizes
 # 255 for one that a question holds in one byte, the label begins with "wide".
 CommitCall = namedtuple(
     "CommitCall",
-    "label h mu nu w l eta beta coefficients tails blinds masks nonces table tree number table_after tree_after",
+    "label h mu nu w l eta beta coefficients tails blinds masks nonces salt table tree number table_after tree_after",
 )
 
 # Opening: what is lent, and the reply buffer before and after; length is None after a refusal.
 OpenCall = namedtuple(
     "OpenCall",
-    "label question coefficients tails blinds masks nonces table tree buffer number length buffer_after",
+    "label question coefficients tails blinds masks nonces salt table tree buffer number length buffer_after",
 )
 
 # The reply's length of a question; length is None after a refusal.
@@ -79,9 +79,51 @@ def mistaken_lengths(s):
             yield "%d words of %s, not %d" % (count, part, right[part]), part, count
 
 
+def with_version(question, version):
+    """A question whose version alone is another."""
+    return question[:3] + version.to_bytes(2, "little") + question[5:]
+
+
+def without_salt(question):
+    return question[: S.SALT_AT] + question[S.AFTER_SALT :]
+
+
+def exchanged_salt(question):
+    """A question with its salt before its root."""
+    root, salt = S.root_and_salt(question)
+    return question[: S.HEADER_BYTES] + salt + root + question[S.AFTER_SALT :]
+
+
+def version_2(question):
+    """A question as version 2 had it: without its salt."""
+    return with_version(without_salt(question), 2)
+
+
 def version_1(question):
-    """A question as version 1 had it: without its byte 14."""
-    return question[:3] + b"\1\0" + question[5:14] + question[15:]
+    """A question as version 1 had it: without its byte 14, too."""
+    return with_version(without_salt(question)[:14] + without_salt(question)[15:], 1)
+
+
+SALT_LENGTHS = (0, 1, 31, 33, 64)  # none of which is a salt's
+
+
+def salt_of(salt, count):
+    """So many bytes, which begin as the salt does."""
+    return (salt + bytes(count))[:count]
+
+
+def other_salts(salt):
+    """(label, another salt): one bit of each byte another, then others that a salt may be mistaken for."""
+    for at in range(len(salt)):
+        yield "byte %d of the salt" % at, spoil(salt, at)
+    for label, other in (
+        ("salt of zeros", bytes(32)),
+        ("salt of bytes 255", b"\xff" * 32),
+        ("salt backwards", salt[::-1]),
+        ("salt turned by a byte", salt[1:] + salt[:1]),
+    ):
+        if other != salt:
+            yield label, other
 
 
 # ---- Committing -------------------------------------------------------------------------------------
@@ -153,9 +195,30 @@ def blinded_commits():
                 yield commit_call("commit: lent for beta %d" % s.beta, t, lent, table, tree, number)
 
 
+def digests_of(tree):
+    return {tree[at : at + 32] for at in range(0, len(tree), 32)}
+
+
+def salted_commits():
+    """The same words and nonces under other salts: the same table, and no digest alike."""
+    for s in (Sizes(1, 1, 1, 1, 1, 1, 1), Sizes(3, 2, 2, 1, 2, 2, 1, 1)):
+        c = random_commitment(s)
+        for label, salt in other_salts(c.lent.salt):
+            call = commit_call("commit: " + label, s, c.lent._replace(salt=salt), *outputs(s), 0)
+            assert call.table_after == c.table and not digests_of(call.tree_after) & digests_of(c.tree), label
+            yield call
+        for count in SALT_LENGTHS:
+            changed = c.lent._replace(salt=salt_of(c.lent.salt, count))
+            yield commit_call("commit: salt of %d bytes" % count, s, changed, *outputs(s), 2)
+            wrong = changed._replace(coefficients=with_word(c.lent.coefficients, 0, Q))
+            yield commit_call("commit: salt of %d bytes, element" % count, s, wrong, *outputs(s), 2)
+            yield commit_call("commit: salt of %d bytes, sizes" % count, s._replace(h=0), changed, *outputs(s), 1)
+
+
 def commit_calls():
     yield from accepted_commits()
     yield from blinded_commits()
+    yield from salted_commits()
     yield from refused_commits(Sizes(2, 2, 1, 2, 2, 2, 1))
     yield from refused_commits(Sizes(3, 2, 2, 3, 2, 2, 1, 1))
 
@@ -207,7 +270,7 @@ def refused_commits(s):
 # ---- Opening ----------------------------------------------------------------------------------------
 
 # The opener's tests in their order, each with its number.
-OPEN_STAGES = QUESTION_STAGES + (("lent length", 2), ("lent element", 3), ("lent root", 8))
+OPEN_STAGES = QUESTION_STAGES + (("lent length", 2), ("lent element", 3), ("lent root or salt", 8))
 
 
 def open_call(label, question, lent, table, tree, buffer, number):
@@ -276,17 +339,17 @@ def blinded_opens():
             number = 0 if beta == s.beta else 2 if allowed(s._replace(beta=beta)) else 1
             room = buffer if number else reply_buffer(other)
             yield open_call("open: beta %d for %d" % (beta, s.beta), other, c.lent, c.table, c.tree, room, number)
-        for other, number in ((version_1(question), 5), (question[:3] + b"\1\0" + question[5:], 5), (question[:14], 6)):
+        for other, number in ((version_1(question), 5), (with_version(question, 1), 5), (question[:14], 6)):
             yield open_call("open: question of %d bytes" % len(other), other, c.lent, c.table, c.tree, buffer, number)
     for beta in range(3):  # one column: which rows are blinding makes no difference
         c = random_commitment(Sizes(3, 4, 1, 2, 2, 1, 1, 2))
         t = c.sizes._replace(mu=6 - beta, beta=beta)
-        q = drawn_question(Source("one column"), t, c.tree[-32:], indices=[2, 5], points=[9], challenges=[4])
+        q = ask(Source("one column"), c._replace(sizes=t), indices=[2, 5], points=[9], challenges=[4])
         yield accepted_open("open: one column", c._replace(sizes=t), q)
 
 
 def believed_opens(src, c, q):
-    """What the opener does not compare with one another: everything but root and question."""
+    """What the opener does not compare with one another: everything but root, salt and question."""
     question = S.write_question(q)
     buffer = reply_buffer(question)
 
@@ -298,6 +361,9 @@ def believed_opens(src, c, q):
     other = S.write_question(q._replace(root=b"\xff" * 32))
     yield call("tree of bytes 255", tree=b"\xff" * len(c.tree), question=other)
     yield call("nonces of bytes 255", lent=c.lent._replace(nonces=b"\xff" * len(c.lent.nonces)))
+    for label, salt in other_salts(c.lent.salt):
+        other = S.write_question(q._replace(salt=salt))
+        yield call(label + ", lent and asked", lent=c.lent._replace(salt=salt), question=other)
     for part in WORDS:
         drawn = src.elements(len(getattr(c.lent, part)))
         yield call("other %s" % part, lent=c.lent._replace(**{part: drawn}))
@@ -316,19 +382,24 @@ def buffer_opens(c, q):
         yield open_call(label, question, c.lent, c.table, c.tree, prefill(size), 0 if size == exact else 2)
 
 
+# Bytes, from the end, at which the lent tree's root or the lent salt is another than the question's.
+LENT_ROOT_FAULTS = (("tree", -1), ("salt", -1), ("tree", -32), ("salt", -32), ("tree", -7), ("salt", -7))
+
+
 def faulty_open(c, q, faults, v):
     """A call with these faults; v chooses among variants."""
     number = next(number for stage, number in OPEN_STAGES if stage in faults)
     question, buffer = faulty_question(q, faults, v), reply_buffer(S.write_question(q))
     slices = dict(c.lent._asdict(), table=c.table, tree=c.tree, buffer=buffer)
-    if "lent root" in faults:
-        slices["tree"] = spoil(c.tree, turn((-1, -32, -7), v))
+    if "lent root or salt" in faults:
+        part, at = turn(LENT_ROOT_FAULTS, v)
+        slices[part] = spoil(slices[part], at)
     if "lent element" in faults:
         part = turn([part for part in WORDS + ("table",) if slices[part]], v)
         slices[part] = with_word(slices[part], turn((0, -1), v // 5), turn((Q, LAST_WORD), v))
     if "lent length" in faults:
         part = turn(list(slices), v)
-        slices[part] = off_by(slices[part], turn((-1, 1), v // 8))
+        slices[part] = off_by(slices[part], turn((-1, 1), v // len(slices)))
     *lent, table, tree, buffer = slices.values()
     label = "open faults: %s; variant %d" % (", ".join(faults), v)
     return open_call(label, question, Lent(*lent), table, tree, buffer, number)
@@ -337,8 +408,50 @@ def faulty_open(c, q, faults, v):
 def open_calls():
     yield from accepted_opens()
     yield from blinded_opens()
+    yield from salted_opens()
     yield from refused_opens(Sizes(3, 2, 2, 1, 3, 2, 2))
     yield from refused_opens(Sizes(4, 2, 2, 2, 3, 2, 2, 1))
+
+
+def salted_opens():
+    """Questions with another salt, another lent salt, salts of other lengths, questions without one."""
+    for s in (Sizes(3, 2, 2, 1, 2, 2, 1), Sizes(4, 3, 2, 2, 3, 1, 2, 1)):
+        c = random_commitment(s)
+        q = ask(Source("open salts"), c)
+        question = S.write_question(q)
+        buffer = reply_buffer(question)
+
+        def call(label, number, lent=c.lent, question=question, tree=c.tree):
+            return open_call("open: %s [%s]" % (label, name(s)), question, lent, c.table, tree, buffer, number)
+
+        for label, salt in other_salts(c.lent.salt):
+            asked, lent = S.write_question(q._replace(salt=salt)), c.lent._replace(salt=salt)
+            yield call(label + ", asked", 8, question=asked)
+            yield call(label + ", lent", 8, lent=lent)
+            yield call(label + ", asked; root", 8, question=asked, tree=spoil(c.tree, -1))
+            yield call(label + ", lent; root", 8, lent=lent, tree=spoil(c.tree, -32))
+            other = committed(s, lent)  # alike but for the salt
+            renewed = q._replace(root=other.tree[-32:], salt=salt)
+            yield accepted_open("open: %s, committed" % label, other, renewed)
+            yield call(label + ", asked of the other commitment", 8, question=S.write_question(renewed))
+        yield call("root for salt", 8, question=S.write_question(q._replace(salt=q.root)))
+        yield call("root for salt, lent", 8, lent=c.lent._replace(salt=q.root))
+        yield call("salt for root", 8, question=S.write_question(q._replace(root=q.salt)))
+        yield call("salt before root", 8, question=exchanged_salt(question))
+        lent = c.lent._replace(salt=q.root)
+        yield call("salt before root, and so lent", 8, question=exchanged_salt(question), lent=lent)
+        for count in SALT_LENGTHS:
+            lent = c.lent._replace(salt=salt_of(c.lent.salt, count))
+            yield call("salt of %d bytes" % count, 2, lent=lent)
+            yield call("salt of %d bytes, element" % count, 2, lent=lent._replace(tails=with_word(lent.tails, -1, Q)))
+            yield call("salt of %d bytes, root" % count, 2, lent=lent, tree=spoil(c.tree, -1))
+            cut = question[: S.SALT_AT] + lent.salt + question[S.AFTER_SALT :]
+            yield call("question with a salt of %d bytes" % count, 6, question=cut)
+            yield call("salt of %d bytes, in the question too" % count, 6, question=cut, lent=lent)
+        for version in (0, 1, 2, 4, 256 + 3, 3 << 8):
+            yield call("version %d" % version, 5, question=with_version(question, version))
+        for older in (version_1, version_2):
+            yield call(older.__name__ + " as it was", 5, question=older(question))
 
 
 def refused_opens(s):
@@ -368,7 +481,7 @@ def refused_opens(s):
         yield from buffer_opens(random_commitment(t), ask(src, random_commitment(t)))
     for field in COMMIT_SIZES:  # other sizes than the committed ones
         t = s._replace(**{field: getattr(s, field) + 1})
-        other = S.write_question(Question(t, q.root, [1] * t.eta, [1] * t.m, list(range(t.l))))
+        other = S.write_question(Question(t, q.root, q.salt, [1] * t.eta, [1] * t.m, list(range(t.l))))
         label = "open: %s more by 1" % field
         yield open_call(label, other, c.lent, c.table, c.tree, reply_buffer(other), 2)
     for cut in range(len(question)):
@@ -407,12 +520,12 @@ def good_lengths():
     for n in range(200):
         src = Source("length %d" % n)
         s = src.sizes(12, 64, 320)
-        q = drawn_question(src, s, src.bytes(32), challenges=src.edgy(s.eta), points=src.edgy(s.m))
+        q = drawn_question(src, s, src.bytes(32), src.bytes(32), challenges=src.edgy(s.eta), points=src.edgy(s.m))
         yield good_length("drawn %d" % n, q)
     src = Source("lengths")
     for l in range(1, 8):  # every set that can be opened of 8 leaves
         for indices in combinations(range(8), l):
-            q = drawn_question(src, Sizes(3, 1, 1, 1, l, 1, 1, l % 2), bytes(32), indices=list(indices))
+            q = drawn_question(src, Sizes(3, 1, 1, 1, l, 1, 1, l % 2), bytes(32), bytes(32), indices=list(indices))
             yield good_length("leaves %s" % (indices,), q)
     for h in range(1, 13):
         for l in sorted({min(l, 2**h - 1) for l in (1, 2, 3, 64)}):
@@ -420,7 +533,7 @@ def good_lengths():
             spread = [s.leaves // l * b for b in range(l)]
             last = list(range(s.leaves - l, s.leaves))
             for label, indices in (("first", list(range(l))), ("last", last), ("spread", spread)):
-                q = drawn_question(src, s, b"\xff" * 32, indices=indices)
+                q = drawn_question(src, s, b"\xff" * 32, b"\xff" * 32, indices=indices)
                 yield good_length("%s leaves" % label, q)
 
 
@@ -429,7 +542,7 @@ def refused_lengths():
     for s in dict.fromkeys(border_sizes()):
         label = "sizes [%s]" % name(s)
         if allowed(s):
-            yield good_length("sizes", drawn_question(src, s, src.bytes(32)))
+            yield good_length("sizes", drawn_question(src, s, src.bytes(32), src.bytes(32)))
             yield length_call(label + ", header alone", S.write_header(s), 6)
         else:
             yield length_call(label, S.write_header(s) + bytes(S.question_bytes(s) - S.HEADER_BYTES), 1)
@@ -442,7 +555,12 @@ def refused_lengths():
             yield length_call("%d bytes more [%s]" % (more, shown), question + question[:more], 6)
         for at in range(len(question)):
             yield length_call("byte %d changed [%s]" % (at, shown), spoil(question, at))
-        yield length_call("version 1 [%s]" % shown, version_1(question), 5)
+        for older in (version_1, version_2):
+            yield length_call("%s as it was [%s]" % (older.__name__, shown), older(question), 5)
+        for version in (1, 2, 4):
+            yield length_call("version %d [%s]" % (version, shown), with_version(question, version), 5)
+        yield length_call("without its salt [%s]" % shown, without_salt(question), 6)
+        yield length_call("salt before root [%s]" % shown, exchanged_salt(question), 0)
         yield length_call("without byte 14 [%s]" % shown, question[:14] + question[15:])
     for d in (case_p(), small_drafts()[4]):
         for count in range(1, len(QUESTION_STAGES) + 1):

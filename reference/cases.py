@@ -15,14 +15,17 @@ from hashlib import shake_256
 from itertools import combinations
 
 import smallwood as S
-from calls import blinded_sizes, commit_calls, length_calls, open_calls, version_1
+from calls import (
+    SALT_LENGTHS, blinded_sizes, commit_calls, exchanged_salt, length_calls, open_calls, other_salts, salt_of,
+    version_1, version_2, with_version, without_salt,
+)  # fmt: skip
 from drafts import (
     LAST_WORD, Lent, Source, allowed, ask, border_sizes, case_p, committed, ends, honest, large_drafts,
     leaf_sizes, lend, name, prefill, product, random_commitment, simulated, small_drafts, small_proofs, true_values,
     vanishing,
 )  # fmt: skip
 from faults import (
-    BAD_SIZES, STAGES, faulty, levels_with, place_faults, spoil, wrong_batchings, wrong_lines, wrong_strings,
+    BAD_MARKS, BAD_SIZES, STAGES, faulty, levels_with, place_faults, spoil, wrong_batchings, wrong_lines, wrong_strings,
 )  # fmt: skip
 from interpolations import interpolate_calls
 from proofs import PROOF_GROUPS, prove_calls
@@ -177,7 +180,7 @@ def second_encodings():
     src = Source("second encoding")
     for word in (0, 1):
         label = "second encoding: word %d, " % word
-        lent = Lent([word] * 2, [word] * 2, [], [2, 0, 0, 0, 1, 0, 0, 0], src.bytes(256))
+        lent = Lent([word] * 2, [word] * 2, [], [2, 0, 0, 0, 1, 0, 0, 0], src.bytes(256), src.bytes(32))
         c = committed(s, lent)
         d = honest(c, ask(src, c, challenges=[1, 0], points=[0, 1], indices=[2, 7]))
         yield draft_case(label + "none", d, 0)
@@ -326,7 +329,7 @@ def blinded_cases():
         yield honest_case("blinds", c, ask(src, c, points=[0, 10], challenges=[0, Q - 1]))
     s = Sizes(3, 2, 2, 1, 2, 1, 2, 1)
     src = Source("small instance")
-    c = committed(s, Lent([1, 2, 3, 4, 5], src.elements(6), [7], src.elements(4), src.bytes(256)))
+    c = committed(s, Lent([1, 2, 3, 4, 5], src.elements(6), [7], src.elements(4), src.bytes(256), src.bytes(32)))
     d = honest(c, ask(src, c, points=[10, 0]))
     assert [answer[:2] for answer in d.answers] == [[721, 536], [1, Q - 4]] and d.values() == [54321, 1]
     yield draft_case("blinds: 1 to 5 with blind 7", d, 0)
@@ -360,17 +363,59 @@ def blinded_cases():
 
 
 def version_cases():
-    """Questions of version 1, and headers without their last byte."""
+    """Questions of versions 1 and 2, and headers without their last byte."""
     for d in small_drafts():
         question, reply, shown = d.question(), d.reply(), name(d.sizes)
         older = version_1(question)
         yield check_case("version 1 [%s]" % shown, older, reply, 5)
-        yield check_case("version 1, 15 bytes of header [%s]" % shown, question[:3] + b"\1\0" + question[5:], reply, 5)
         yield check_case("version 1, header alone [%s]" % shown, older[:14], reply, 6)
         yield check_case("version 1, header of 15 bytes alone [%s]" % shown, older[:14] + b"\0", reply, 5)
-        yield check_case("version 2, without byte 14 [%s]" % shown, question[:14] + question[15:], reply)
-        yield check_case("version 2, 14 bytes [%s]" % shown, question[:14], reply, 6)
-        yield check_case("version 2, 15 bytes [%s]" % shown, question[:15], reply, 6)
+        yield check_case("version 2 [%s]" % shown, version_2(question), reply, 5)
+        yield check_case("version 2, header alone [%s]" % shown, version_2(question)[:15], reply, 5)
+        for version in (0, 1, 2, 4, 3 << 8, 256 + 3):
+            label = "version %d, else of version 3 [%s]" % (version, shown)
+            yield check_case(label, with_version(question, version), reply, 5)
+        yield check_case("version 3, without byte 14 [%s]" % shown, question[:14] + question[15:], reply)
+        yield check_case("version 3, 14 bytes [%s]" % shown, question[:14], reply, 6)
+        yield check_case("version 3, 15 bytes [%s]" % shown, question[:15], reply, 6)
+
+
+def salt_cases():
+    """Another salt gives other digests, so another root; the check compares no salts."""
+    for n, d in enumerate(small_drafts() + large_drafts()):
+        question, reply, shown = d.question(), d.reply(), name(d.sizes)
+        for label, salt in list(other_salts(d.salt))[:: 1 if n in (0, 4) else 9]:
+            e = d.copy()
+            e.salt = salt
+            yield draft_case("salt: " + label, e, 8)
+            yield draft_case("salt: %s, rehashed" % label, e.rehash(), 0)
+            e.salt = d.salt
+            yield draft_case("salt: %s hashed, not asked" % label, e, 8)
+        for part in ("root", "salt"):
+            e = d.copy()
+            e.root = e.salt = getattr(d, part)
+            yield draft_case("salt: %s in both places" % part, e, 8)
+        yield check_case("salt: before root [%s]" % shown, exchanged_salt(question), reply, 8)
+        yield check_case("salt: none [%s]" % shown, without_salt(question), reply, 6)
+        yield check_case("salt: none, 32 zeros at the end [%s]" % shown, without_salt(question) + bytes(32), reply)
+        for count in SALT_LENGTHS:
+            cut = question[: S.SALT_AT] + salt_of(d.salt, count) + question[S.AFTER_SALT :]
+            yield check_case("salt: of %d bytes [%s]" % (count, shown), cut, reply, 6)
+    for s in (Sizes(3, 2, 2, 1, 2, 2, 3), Sizes(4, 5, 1, 3, 4, 3, 2, 2)):
+        c = random_commitment(s)
+        q = ask(Source("renewed"), c)
+        d = honest(c, q)
+        for label, salt in list(other_salts(q.salt))[::5]:  # the same badge in another year
+            renewed = committed(s, c.lent._replace(salt=salt))
+            e = honest(renewed, q._replace(root=renewed.tree[-32:], salt=salt))
+            assert e.answers == d.answers and e.batchings == d.batchings and e.leaves == d.leaves
+            yield draft_case("salt: %s, renewed" % label, e, 0)
+            yield check_case("salt: %s, reply of the other year" % label, e.question(), d.reply(), 8)
+            yield check_case("salt: %s, reply of this year" % label, d.question(), e.reply(), 8)
+            e.salt = q.salt
+            yield draft_case("salt: %s, renewed, the older salt" % label, e, 8)
+            e.salt, e.root = salt, q.root
+            yield draft_case("salt: %s, renewed, the older root" % label, e, 8)
 
 
 def forged_cases():
@@ -405,7 +450,7 @@ def length_cases():
     for n, d in enumerate(small_drafts()):
         question, reply, s = d.question(), d.reply(), d.sizes
         full, whole = len(question), len(reply)
-        for length in range(2 * full) if n == 0 else around([0, 15, 47, full]):
+        for length in range(2 * full) if n == 0 else around([0, 15, 47, 79, full]):
             label = "length: question of %d bytes [%s]" % (length, name(s))
             yield check_case(label, (question * 2)[:length], reply, 6 if length != full else 0)
         records = [0, 4 * s.width * s.eta, 4 * s.width * (s.eta + s.m), whole - 32 * len(d.nodes), whole]
@@ -439,7 +484,7 @@ def element_cases():
         def with_word(data, at, word):
             return data[:at] + S.to_bytes([word]) + data[at + 4 :]
 
-        for at in range(47, 47 + 4 * (s.eta + s.m), 4):
+        for at in range(S.AFTER_SALT, S.AFTER_SALT + 4 * (s.eta + s.m), 4):
             for word in (Q - 1, Q, LAST_WORD):
                 label = "element: %d at byte %d of question [%s]" % (word, at, name(s))
                 yield check_case(label, with_word(question, at, word), reply, None if word < Q else 3)
@@ -452,11 +497,12 @@ def element_cases():
             for word in (Q - 1, Q, LAST_WORD) if n < 2 else (Q,):
                 label = "element: %d at byte %d of reply [%s]" % (word, at, name(s))
                 yield check_case(label, question, with_word(reply, at, word), None if word < Q else 3)
-        e = d.copy()  # nonces, nodes and root are no elements
+        e = d.copy()  # nonces, nodes, salt and root are no elements
+        e.salt = b"\xff" * 32
         e.leaves = [(values, b"\xff" * 32) for values, _ in e.leaves]
         e.nodes = [b"\xff" * 32 for _ in e.nodes]
-        yield draft_case("element: nonces and nodes of bytes 255", e, 8)
-        yield draft_case("element: nonces and nodes of bytes 255, rehashed", e.rehash(), 0)
+        yield draft_case("element: salt, nonces and nodes of bytes 255", e, 8)
+        yield draft_case("element: salt, nonces and nodes of bytes 255, rehashed", e.rehash(), 0)
         e.root = b"\xff" * 32
         yield draft_case("element: root of bytes 255", e, 8)
 
@@ -504,12 +550,13 @@ def mark_cases():
     for d in small_drafts()[:3]:
         question, reply = d.question(), d.reply()
         for at in range(5):
-            for byte in sorted({0, 1, 2, 3, 70, 81, 83, 87, 115, 128, 255}):
+            for byte in sorted({0, 1, 2, 3, 4, 70, 81, 83, 87, 115, 128, 255}):
                 changed = question[:at] + bytes([byte]) + question[at + 1 :]
                 label = "mark: byte %d is %d [%s]" % (at, byte, name(d.sizes))
                 yield check_case(label, changed, reply, 5 if changed != question else 0)
-        for start in (b"QWS\2\0", b"SWQ\0\2", b"SWF\2\0", b"SWQ\0\0", b"WQS\2\0", b"SWQ\1\0", b"SWQ\3\0"):
-            ends_with = question[5:], b"", bytes(9), bytes(10), b"\xff" * 10, question[5:14], version_1(question)[5:]
+        for start in BAD_MARKS + (b"QWS\3\0", b"SWQ\0\0", b"WQS\3\0"):
+            older = version_1(question)[5:], version_2(question)[5:]
+            ends_with = question[5:], b"", bytes(9), bytes(10), b"\xff" * 10, question[5:14], *older
             for end in ends_with:
                 shown = start.hex(), len(end), end[:2].hex(), name(d.sizes)
                 label = "mark: %s before %d bytes %s [%s]" % shown
@@ -570,6 +617,7 @@ CHECK_GROUPS = (
     forged_cases,
     blinded_cases,
     version_cases,
+    salt_cases,
     length_cases,
     size_cases,
     element_cases,
@@ -601,7 +649,7 @@ def program_borders():
     data = case_p().question() + case_p().reply()
     yield program_case("program: empty", b"", b"verdict 6\n")
     for length in range(len(data) + 3):
-        output = b"verdict 6\n" if length < 57 else b"verdict 7\n" if length != 145 else b"verdict 0\n1 1 5\n"
+        output = b"verdict 6\n" if length < 89 else b"verdict 7\n" if length != 177 else b"verdict 0\n1 1 5\n"
         yield program_case("program: case P, %d bytes" % length, (data + bytes(3))[:length], output)
     for d in [case_p()] + large_drafts():
         data = d.question() + d.reply()

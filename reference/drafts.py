@@ -84,7 +84,7 @@ def name(s):
 
 
 def leaf_sizes():
-    """A leaf of every number of values, and so a leaf's string of every length: 43 to 307 bytes.
+    """A leaf of every number of values, and so a leaf's string of every length: 75 to 339 bytes.
 
     Each once without blinding rows, and once with as many of the rows blinding as can be.
     """
@@ -99,13 +99,14 @@ def leaf_sizes():
 
 # ---- Commitments, drafts of a question with its reply -----------------------------------------------
 
-Lent = namedtuple("Lent", "coefficients tails blinds masks nonces")
+Lent = namedtuple("Lent", "coefficients tails blinds masks nonces salt")
 Commitment = namedtuple("Commitment", "sizes lent table tree")
 
 
-def lend(src, s, fill):
+def lend(src, s, fill, salt=None):
+    """What is lent at these sizes; a salt that is not given is drawn."""
     counts = s.w * s.each, s.rows * s.l, s.w * s.blinds_each, s.eta * s.width
-    return Lent(*map(fill, counts), src.bytes(32 * s.leaves))
+    return Lent(*map(fill, counts), src.bytes(32 * s.leaves), salt or src.bytes(32))
 
 
 def outputs(s):
@@ -155,13 +156,13 @@ class Draft:
     """A question and a reply in parts that can be altered, then written."""
 
     def __init__(self, q, r):
-        self.sizes, self.root = q.sizes, q.root
+        self.sizes, self.root, self.salt = q.sizes, q.root, q.salt
         self.challenges, self.points, self.indices = list(q.challenges), list(q.points), list(q.indices)
         self.batchings, self.answers = [list(x) for x in r.batchings], [list(x) for x in r.answers]
         self.leaves, self.nodes = [(list(v), n) for v, n in r.leaves], list(r.nodes)
 
     def parts(self):
-        q = Question(self.sizes, self.root, self.challenges, self.points, self.indices)
+        q = Question(self.sizes, self.root, self.salt, self.challenges, self.points, self.indices)
         return q, Reply(self.batchings, self.answers, self.leaves, self.nodes)
 
     def copy(self):
@@ -184,8 +185,8 @@ class Draft:
 
     def rehash(self):
         """Take for root what leaves and nodes hash to."""
-        digests = [S.digest(S.leaf_string(i, *leaf)) for i, leaf in zip(self.indices, self.leaves)]
-        self.root = S.root_of(self.sizes.h, self.indices, digests, self.nodes)
+        digests = [S.digest(S.leaf_string(self.salt, i, *leaf)) for i, leaf in zip(self.indices, self.leaves)]
+        self.root = S.root_of(self.sizes.h, self.salt, self.indices, digests, self.nodes)
         return self
 
     def shift_batching(self, k, polynomial):
@@ -217,11 +218,12 @@ class Draft:
         return vanishing(self.indices[:b] + self.indices[b + 1 :])
 
 
-def drawn_question(src, s, root, challenges=None, points=None, indices=None):
+def drawn_question(src, s, root, salt, challenges=None, points=None, indices=None):
     """A question with these sizes; what is not given is drawn."""
     return Question(
         s,
         root,
+        salt,
         challenges or src.elements(s.eta),
         points or src.elements(s.m),
         indices or src.rising(s.leaves, s.l),
@@ -230,7 +232,7 @@ def drawn_question(src, s, root, challenges=None, points=None, indices=None):
 
 def ask(src, c, m=None, **given):
     """A question to a commitment, with another m if that is given."""
-    return drawn_question(src, c.sizes._replace(m=m or c.sizes.m), c.tree[-32:], **given)
+    return drawn_question(src, c.sizes._replace(m=m or c.sizes.m), c.tree[-32:], c.lent.salt, **given)
 
 
 def reply_buffer(question):
@@ -252,12 +254,12 @@ def honest(c, q):
 def proof_question(src, c, m=None, points=None):
     """A proof's question to a commitment, with another m if that is given; points that are not given are drawn."""
     s = c.sizes._replace(m=m or c.sizes.m)
-    return ProofQuestion(s, c.tree[-32:], points or src.elements(s.m))
+    return ProofQuestion(s, c.tree[-32:], c.lent.salt, points or src.elements(s.m))
 
 
 def answers_of(c, s, challenges, points):
     """Batching and evaluation answers of a commitment; s may have another m."""
-    return S.answers_to(s, challenges, points, *c.lent[:-1])
+    return S.answers_to(s, challenges, points, *c.lent[:4])
 
 
 def proof_buffer(s):
@@ -344,12 +346,12 @@ def true_values(c, q):
     ]
 
 
-def simulated(src, s, **given):
+def simulated(src, s, salt=None, **given):
     """An accepted draft without any commitment: l leaves never fix a polynomial of degree d, as l <= d.
 
-    Leaf values, nonces, nodes are drawn, the root is what they hash to, R and T go through the leaves.
+    Salt, leaf values, nonces, nodes are drawn, the root is what they hash to, R and T go through the leaves.
     """
-    q = drawn_question(src, s, bytes(32), **given)
+    q = drawn_question(src, s, bytes(32), salt or src.bytes(32), **given)
     leaves = [(src.elements(s.record), src.bytes(32)) for _ in q.indices]
     zero = vanishing(q.indices)
 
@@ -368,13 +370,14 @@ def simulated(src, s, **given):
 
 @lru_cache(maxsize=None)
 def case_p_commitment():
-    return committed(Sizes(1, 1, 1, 1, 1, 1, 1), Lent([5], [9], [], [7, 2], bytes(64)))
+    """The paper names neither nonces nor salt: they are zeros."""
+    return committed(Sizes(1, 1, 1, 1, 1, 1, 1), Lent([5], [9], [], [7, 2], bytes(64), bytes(32)))
 
 
 @lru_cache(maxsize=None)
 def case_p():
     c = case_p_commitment()
-    return honest(c, Question(c.sizes, c.tree[-32:], [10], [6], [1]))
+    return honest(c, Question(c.sizes, c.tree[-32:], c.lent.salt, [10], [6], [1]))
 
 
 @lru_cache(maxsize=None)

@@ -132,7 +132,12 @@ BAD_SIZES = (
     (14, b"\x11"), (14, b"\xff"),
 )  # fmt: skip
 
-BAD_MARKS = (b"SWF\2\0", b"swq\2\0", b"SWQ\0\2", b"SWQ\1\0", b"SWQ\3\0", b"\0\0\0\2\0", b"SWQ\2\1")
+BAD_MARKS = (
+    b"SWF\3\0", b"swq\3\0", b"SWQ\0\3", b"SWQ\1\0", b"SWQ\2\0", b"SWQ\4\0", b"\0\0\0\3\0", b"SWQ\3\1",
+)  # fmt: skip
+
+# (part of a question, byte of it): with that byte changed, leaves and nodes hash to another root than the question's.
+ROOT_FAULTS = (("root", 0), ("salt", 31), ("root", 31), ("salt", 0), ("root", 7), ("salt", 7))
 
 
 def turn(choices, v):
@@ -149,7 +154,8 @@ def faulty(d, faults, v):
     if "batching" in faults:
         d.shift_batching(turn((0, s.eta - 1), v), [1])
     if "root" in faults:
-        d.root = spoil(d.root, turn((0, 31, 7), v))
+        part, at = turn(ROOT_FAULTS, v)
+        setattr(d, part, spoil(getattr(d, part), at))
     if "reply element" in faults:
         records = [d.batchings[0], d.batchings[-1], d.answers[0], d.answers[-1]]
         record = turn(records + [d.leaves[0][0], d.leaves[-1][0]], v)
@@ -218,7 +224,7 @@ BAD_KAPPAS = (17, 18, 24, 32, 255, 256, 65536, 2**31, LAST_WORD)
 def faulty_proof_question(question, kappa, faults, v):
     """Bytes of a proof's question, and kappa, with these faults."""
     if "question element" in faults:
-        at = turn((47, len(question) - 4), v)
+        at = turn((S.AFTER_SALT, len(question) - 4), v)
         question = question[:at] + S.to_bytes([turn((Q, LAST_WORD), v // 2)]) + question[at + 4 :]
     return faulty_bytes(question, faults, v), turn(BAD_KAPPAS, v) if "kappa" in faults else kappa
 
@@ -227,8 +233,9 @@ def faulty_answers(d, faults, v):
     """Puts the faults that the draw sees into a proof to be."""
     s = d.sizes
     if "root" in faults and v % 3 == 0:
-        root = spoil(d.question_parts.root, turn((0, 31, 7), v // 3))
-        d = ProofDraft(d.commitment, d.question_parts._replace(root=root))
+        part, at = turn(ROOT_FAULTS, v // 3)
+        changed = {part: spoil(getattr(d.question_parts, part), at)}
+        d = ProofDraft(d.commitment, d.question_parts._replace(**changed))
     if "batching" in faults:
         k = turn((0, s.eta - 1), v)
         d.batchings[k] = add(d.batchings[k], [1])
@@ -270,34 +277,66 @@ def faulty_proof(d, kappa, faults, v):
 def wrong_strings():
     """(label, leaf string, node string) of which one or both are wrong."""
     leaf, node = S.leaf_string, S.node_string
+    after = 1 + S.SALT_BYTES  # first byte and salt
 
-    def big_endian(i, values, nonce):
-        return leaf(i, [], b"") + b"".join(value.to_bytes(4, "big") for value in values) + nonce
+    def big_endian(s, i, values, nonce):
+        return leaf(s, i, [], b"") + b"".join(value.to_bytes(4, "big") for value in values) + nonce
 
-    yield "leaf without first byte", lambda i, v, n: leaf(i, v, n)[1:], node
-    yield "node without first byte", leaf, lambda a, b: a + b
-    yield "leaf and node without first byte", lambda i, v, n: leaf(i, v, n)[1:], lambda a, b: a + b
-    yield "first bytes exchanged", lambda i, v, n: b"\1" + leaf(i, v, n)[1:], lambda a, b: b"\0" + a + b
-    yield "leaf without index", lambda i, v, n: b"\0" + leaf(i, v, n)[3:], node
-    yield "leaf with index from 1", lambda i, v, n: leaf(i + 1, v, n), node
-    yield "leaf with 4-byte index", lambda i, v, n: leaf(i, [], b"\0\0") + leaf(i, v, n)[3:], node
-    yield "leaf with big-endian index", lambda i, v, n: b"\0" + i.to_bytes(2, "big") + leaf(i, v, n)[3:], node
+    def big_endian_index(s, i, values, nonce):
+        return b"\0" + s + i.to_bytes(2, "big") + leaf(s, i, values, nonce)[after + 2 :]
+
+    def no_first(string):
+        return lambda *parts: string(*parts)[1:]
+
+    def salted_by(other, string):
+        return lambda s, *parts: string(other(s), *parts)
+
+    yield "leaf without first byte", no_first(leaf), node
+    yield "node without first byte", leaf, no_first(node)
+    yield "leaf and node without first byte", no_first(leaf), no_first(node)
+    yield "first bytes exchanged", lambda *p: b"\1" + leaf(*p)[1:], lambda *p: b"\0" + node(*p)[1:]
+    yield "leaf without index", lambda *p: leaf(*p)[:after] + leaf(*p)[after + 2 :], node
+    yield "leaf with index from 1", lambda s, i, v, n: leaf(s, i + 1, v, n), node
+    yield "leaf with 4-byte index", lambda *p: leaf(*p)[: after + 2] + b"\0\0" + leaf(*p)[after + 2 :], node
+    yield "leaf with big-endian index", big_endian_index, node
     yield "leaf with big-endian values", big_endian, node
-    yield "leaf with values reversed", lambda i, v, n: leaf(i, v[::-1], n), node
-    yield "leaf without its last value", lambda i, v, n: leaf(i, v[:-1], n), node
-    yield "leaf with nonce first", lambda i, v, n: leaf(i, [], n) + S.to_bytes(v), node
-    yield "leaf without nonce", lambda i, v, n: leaf(i, v, b""), node
-    yield "node with children exchanged", leaf, lambda a, b: node(b, a)
+    yield "leaf with values reversed", lambda s, i, v, n: leaf(s, i, v[::-1], n), node
+    yield "leaf without its last value", lambda s, i, v, n: leaf(s, i, v[:-1], n), node
+    yield "leaf with nonce first", lambda s, i, v, n: leaf(s, i, [], n) + S.to_bytes(v), node
+    yield "leaf without nonce", lambda s, i, v, n: leaf(s, i, v, b""), node
+    yield "node with children exchanged", leaf, lambda s, a, b: node(s, b, a)
+    for label, other in (
+        ("no salt", lambda s: b""),
+        ("half of the salt", lambda s: s[:16]),
+        ("31 bytes of the salt", lambda s: s[:31]),
+        ("the salt and a zero", lambda s: s + b"\0"),
+        ("the salt backwards", lambda s: s[::-1]),
+        ("the salt twice", lambda s: s + s),
+        ("a salt of zeros", lambda s: bytes(32)),
+    ):
+        yield "leaf with " + label, salted_by(other, leaf), node
+        yield "node with " + label, leaf, salted_by(other, node)
+        yield "leaf and node with " + label, salted_by(other, leaf), salted_by(other, node)
+    first_leaf, first_node = (lambda *p: p[0] + leaf(b"", *p[1:])), (lambda *p: p[0] + node(b"", *p[1:]))
+    last_leaf, last_node = (lambda *p: leaf(b"", *p[1:]) + p[0]), (lambda *p: node(b"", *p[1:]) + p[0])
+    yield "leaf with salt before the first byte", first_leaf, node
+    yield "node with salt before the first byte", leaf, first_node
+    yield "leaf with salt at the end", last_leaf, node
+    yield "node with salt at the end", leaf, last_node
+    yield "leaf with salt after the index", lambda s, i, v, n: leaf(b"", i, [], s) + S.to_bytes(v) + n, node
+    yield "leaf with salt before the nonce", lambda s, i, v, n: leaf(b"", i, v, s + n), node
+    yield "node with salt between the children", leaf, lambda s, a, b: node(b"", a, s + b)
+    yield "leaf with nonce for salt", lambda s, i, v, n: leaf(n, i, v, s), node
 
 
 def levels_with(c, leaf, node):
     """A commitment's tree over these strings, level by level from the leaves up."""
-    s = c.sizes
+    s, salt = c.sizes, c.lent.salt
     values = [c.table[i * s.record : (i + 1) * s.record] for i in range(s.leaves)]
-    levels = [[S.digest(leaf(i, v, S.nonce_of(c.lent.nonces, i))) for i, v in enumerate(values)]]
+    levels = [[S.digest(leaf(salt, i, v, S.nonce_of(c.lent.nonces, i))) for i, v in enumerate(values)]]
     while len(levels[-1]) > 1:
         below = levels[-1]
-        levels.append([S.digest(node(*below[i : i + 2])) for i in range(0, len(below), 2)])
+        levels.append([S.digest(node(salt, *below[i : i + 2])) for i in range(0, len(below), 2)])
     return levels
 
 

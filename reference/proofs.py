@@ -8,7 +8,10 @@ from hashlib import shake_256
 from itertools import combinations, permutations, product
 
 import smallwood as S
-from calls import COMMIT_SIZES, WORDS, blinded_sizes, mistaken_lengths, off_by, version_1, with_word
+from calls import (
+    COMMIT_SIZES, LENT_ROOT_FAULTS, SALT_LENGTHS, WORDS, blinded_sizes, exchanged_salt, mistaken_lengths, off_by,
+    other_salts, salt_of, version_1, version_2, with_version, with_word, without_salt,
+)  # fmt: skip
 from drafts import (
     LAST_WORD, Lent, ProofDraft, Source, add, allowed, answers_of, border_sizes, case_p_commitment, committed, ends,
     leading_zeros, lend, name, prefill, proof_buffer, proof_question, random_commitment, small_proofs, true_values,
@@ -22,7 +25,8 @@ from smallwood import Q, Question, Sizes
 # Proving: what is lent, and the proof's buffer before and after; length is None after a refusal.
 ProveCall = namedtuple(
     "ProveCall",
-    "label question kappa limit coefficients tails blinds masks nonces table tree buffer number length buffer_after",
+    "label question kappa limit coefficients tails blinds masks nonces salt table tree buffer number length"
+    " buffer_after",
 )
 
 # Checking a proof. The value buffer is given in bytes; the entry on words is meant too whenever 4 divides its length.
@@ -94,7 +98,7 @@ def proven_case(label, d, kappa):
     c, p = d.commitment, d.question_parts
     number, length, after = S.prove(d.question(), kappa, LAST_WORD, *c.lent, c.table, c.tree, proof_buffer(d.sizes))
     assert number == 0, label
-    q = Question(p.sizes, p.root, [], p.points, [])
+    q = Question(p.sizes, p.root, p.salt, [], p.points, [])
     return proof_case("proven, " + label, d.question(), kappa, after[:length], 0, true_values(c, q))
 
 
@@ -274,9 +278,17 @@ def wrong_draws(d):
     yield "no batching answers", string(answered=answers[len(batchings) :]), right
     yield "no evaluation answers", string(answered=batchings), right
     yield "evaluation answers first", string(answered=answers[len(batchings) :] + batchings), right
-    yield "no points", string(asked=question[:47]), right
-    yield "no header", string(asked=question[15:]), right
-    yield "no root", string(asked=question[:15] + question[47:]), right
+    header, points = question[: S.HEADER_BYTES], question[S.AFTER_SALT :]
+    yield "no points", string(asked=question[: S.AFTER_SALT]), right
+    yield "no header", string(asked=question[S.HEADER_BYTES :]), right
+    yield "no root", string(asked=header + p.salt + points), right
+    yield "no salt", string(asked=header + p.root + points), right
+    yield "salt before the root", string(asked=header + p.salt + p.root + points), right
+    yield "salt after the first byte", string(asked=p.salt + header + p.root + points), right
+    yield "salt after the points", string(asked=header + p.root + points + p.salt), right
+    yield "salt before the counter", string(asked=header + p.root + points, answered=answers + p.salt), right
+    yield "31 bytes of the salt", string(asked=header + p.root + p.salt[:31] + points), right
+    yield "salt twice", string(asked=header + p.root + p.salt + p.salt + points), right
     yield "the conversation's question", string(asked=S.write_question(d.opened(0).parts()[0])), right
     yield "words from byte 0", string(), lambda draw: S.choose(s.leaves, S.to_long_words(draw[: 8 * s.l]))
     yield "words from byte 8", string(), lambda draw: S.choose(s.leaves, S.to_long_words(draw[8 : 8 + 8 * s.l]))
@@ -319,7 +331,8 @@ def mistaken_proofs():
 
 def wrong_challenges(p):
     """(label, challenges) that are not those of the papers' draw."""
-    eta, head = p.sizes.eta, S.write_header(p.sizes) + p.root
+    eta, header = p.sizes.eta, S.write_header(p.sizes)
+    head = header + p.root + p.salt
 
     def words(string, first, count, size):
         data = shake_256(string).digest(64)
@@ -327,8 +340,13 @@ def wrong_challenges(p):
 
     yield "challenges after first byte 3", words(b"\x03" + head, 0, eta, 8)
     yield "challenges with points", words(b"\x02" + head + S.to_bytes(p.points), 0, eta, 8)
-    yield "challenges without header", words(b"\x02" + p.root, 0, eta, 8)
-    yield "challenges without root", words(b"\x02" + head[:15], 0, eta, 8)
+    yield "challenges without header", words(b"\x02" + p.root + p.salt, 0, eta, 8)
+    yield "challenges without root", words(b"\x02" + header + p.salt, 0, eta, 8)
+    yield "challenges without salt", words(b"\x02" + header + p.root, 0, eta, 8)
+    yield "challenges without root and salt", words(b"\x02" + header, 0, eta, 8)
+    yield "challenges with salt before the root", words(b"\x02" + header + p.salt + p.root, 0, eta, 8)
+    yield "challenges with salt after the first byte", words(b"\x02" + p.salt + header + p.root, 0, eta, 8)
+    yield "challenges with 31 bytes of the salt", words(b"\x02" + head[:-1], 0, eta, 8)
     yield "challenges of 4 bytes", words(b"\x02" + head, 0, eta, 4)
     yield "challenges from the second word on", words(b"\x02" + head, 8, eta, 8)
     yield "one challenge plus 1", [(x + (k == eta - 1)) % Q for k, x in enumerate(S.draw_challenges(p))]
@@ -419,7 +437,7 @@ def element_proofs():
                         proof = S.write_counter(counter) + e.reply()
                         label = "leaf %d value %d is %d" % (b, at, word)
                         yield proof_case(label, d.question(), kappa, proof, None if word < Q else 3)
-        for at in range(47, 47 + 4 * s.m, 4):
+        for at in range(S.AFTER_SALT, S.AFTER_SALT + 4 * s.m, 4):
             for word in (Q, LAST_WORD):
                 question = d.question()[:at] + S.to_bytes([word]) + d.question()[at + 4 :]
                 yield proof_case("point at %d is %d" % (at, word), question, 0, d.proof(0), 3)
@@ -453,12 +471,40 @@ def length_proofs():
         yield proof_case("the reply without a counter", question, 0, d.opened(0).reply())
         yield proof_case("exchanged", proof, 0, question, 5)
         full = 4 * s.w * s.m
-        yield proof_case("version 1", version_1(question), 1, proof, 5)
+        for older in (version_1, version_2):
+            yield proof_case(older.__name__ + " as it was", older(question), 1, proof, 5)
+        for version in (1, 2, 4):
+            yield proof_case("version %d" % version, with_version(question, version), 1, proof, 5)
         yield proof_case("without byte 14", question[:14] + question[15:], 1, proof)
         for size in sorted({0, 1, full - 4, full - 1, full, full + 1, full + 4, 2 * full, 4 * s.w, 4 * s.m}):
             label, number = "%d of %d value bytes" % (size, full), 2 if size != full else 0
             yield proof_case(label, question, 1, proof, number, None, size)
     yield proof_case("both empty", b"", 0, b"", 6)
+
+
+def salt_proofs():
+    """Another salt in the question: it is drawn and hashed with, and gives another root."""
+    for n, d in enumerate(small_proofs()):
+        p, proof = d.question_parts, d.proof(d.least(1))
+        for label, salt in list(other_salts(p.salt))[:: 1 if n == 4 else 9]:
+            asked = p._replace(salt=salt)
+            yield proof_case(label, S.write_proof_question(asked), 1, proof)
+            e = ProofDraft(d.commitment, asked)  # answers and leaves as drawn with the other salt
+            yield made_case(label + ", drawn with it", e, 1, e.least(1), 8)
+            c = committed(d.commitment.sizes, d.commitment.lent._replace(salt=salt))
+            e = ProofDraft(c, p._replace(root=c.tree[-32:], salt=salt))
+            yield made_case(label + ", committed with it", e, 1, e.least(1), 0)
+            e = ProofDraft(c, p._replace(root=c.tree[-32:]))
+            yield made_case(label + ", committed with it, not asked for", e, 1, e.least(1), 8)
+        question = d.question()
+        yield proof_case("salt before root", exchanged_salt(question), 1, proof)
+        yield proof_case("without its salt", without_salt(question), 1, proof, 6)
+        root, salt = S.root_and_salt(question)
+        for count in SALT_LENGTHS:
+            cut = question[: S.SALT_AT] + salt_of(salt, count) + question[S.AFTER_SALT :]
+            yield proof_case("a salt of %d bytes" % count, cut, 1, proof, 6)
+        e = ProofDraft(d.commitment, p._replace(root=salt, salt=root))
+        yield made_case("salt before root, drawn so", e, 1, e.least(1), 8)
 
 
 def size_proofs():
@@ -511,6 +557,7 @@ PROOF_GROUPS = (
     byte_proofs,
     element_proofs,
     length_proofs,
+    salt_proofs,
     size_proofs,
     fault_proofs,
 )
@@ -585,7 +632,7 @@ def limit_proves():
 
 
 def believed_proves(d):
-    """What the prover does not compare with one another: everything but root and question."""
+    """What the prover does not compare with one another: everything but root, salt and question."""
     src, c = Source("believed proofs"), d.commitment
     question, buffer = d.question(), proof_buffer(d.sizes)
 
@@ -597,6 +644,9 @@ def believed_proves(d):
     other = S.write_proof_question(d.question_parts._replace(root=b"\xff" * 32))
     yield call("tree of bytes 255", tree=b"\xff" * len(c.tree), question=other)
     yield call("nonces of bytes 255", lent=c.lent._replace(nonces=b"\xff" * len(c.lent.nonces)))
+    for label, salt in other_salts(c.lent.salt):
+        other = S.write_proof_question(d.question_parts._replace(salt=salt))
+        yield call(label + ", lent and asked", lent=c.lent._replace(salt=salt), question=other)
     for part in WORDS:
         drawn = src.elements(len(getattr(c.lent, part)))
         yield call("other %s" % part, lent=c.lent._replace(**{part: drawn}))
@@ -630,7 +680,40 @@ def blinded_proves():
             room = buffer if number == 1 else proof_buffer(t)
             label = "beta %d for %d" % (beta, s.beta)
             yield prove_call(label, other, 2, LAST_WORD, c.lent, c.table, c.tree, room, number)
-        yield prove_call("version 1", version_1(question), 2, LAST_WORD, c.lent, c.table, c.tree, buffer, 5)
+        for other in (version_1(question), version_2(question), *(with_version(question, v) for v in (0, 1, 2, 4))):
+            label = "version %d, %d bytes" % (other[3], len(other))
+            yield prove_call(label, other, 2, LAST_WORD, c.lent, c.table, c.tree, buffer, 5)
+
+
+def salted_proves(d):
+    """Questions with another salt, another lent salt, salts of other lengths, questions without one."""
+    c, p, question, buffer = d.commitment, d.question_parts, d.question(), proof_buffer(d.sizes)
+
+    def call(label, number, lent=c.lent, question=question, tree=c.tree, limit=LAST_WORD):
+        return prove_call(label, question, 2, limit, lent, c.table, tree, buffer, number)
+
+    for label, salt in other_salts(c.lent.salt):
+        asked, lent = S.write_proof_question(p._replace(salt=salt)), c.lent._replace(salt=salt)
+        yield call(label + ", asked", 8, question=asked)
+        yield call(label + ", lent", 8, lent=lent, limit=0)
+        yield call(label + ", asked; root", 8, question=asked, tree=spoil(c.tree, -1))
+        yield call(label + ", lent; root", 8, lent=lent, tree=spoil(c.tree, -32))
+        other = committed(d.sizes, lent)  # alike but for the salt
+        e = ProofDraft(other, p._replace(root=other.tree[-32:], salt=salt))
+        yield accepted_prove(label + ", committed", e, 2)
+        yield call(label + ", asked of the other commitment", 8, question=e.question())
+    yield call("root for salt", 8, question=S.write_proof_question(p._replace(salt=p.root)))
+    yield call("salt for root", 8, question=S.write_proof_question(p._replace(root=p.salt)))
+    yield call("salt before root", 8, question=exchanged_salt(question))
+    yield call("salt before root, and so lent", 8, question=exchanged_salt(question), lent=c.lent._replace(salt=p.root))
+    for count in SALT_LENGTHS:
+        lent = c.lent._replace(salt=salt_of(c.lent.salt, count))
+        yield call("salt of %d bytes" % count, 2, lent=lent)
+        yield call("salt of %d bytes, element" % count, 2, lent=lent._replace(tails=with_word(lent.tails, -1, Q)))
+        yield call("salt of %d bytes, root" % count, 2, lent=lent, tree=spoil(c.tree, -1))
+        cut = question[: S.SALT_AT] + lent.salt + question[S.AFTER_SALT :]
+        yield call("question with a salt of %d bytes" % count, 6, question=cut)
+        yield call("salt of %d bytes, in the question too" % count, 6, question=cut, lent=lent)
 
 
 def buffer_proves(d):
@@ -644,7 +727,7 @@ def buffer_proves(d):
 
 
 PROVE_STAGES = PROOF_QUESTION_STAGES + (
-    ("lent length", 2), ("lent element", 3), ("lent root", 8), ("no counter", 11)
+    ("lent length", 2), ("lent element", 3), ("lent root or salt", 8), ("no counter", 11)
 )  # fmt: skip
 
 
@@ -654,14 +737,15 @@ def faulty_prove(d, kappa, faults, v):
     c, least = d.commitment, d.least(kappa)
     question, asked = faulty_proof_question(d.question(), kappa, faults, v)
     slices = dict(c.lent._asdict(), table=c.table, tree=c.tree, buffer=proof_buffer(d.sizes))
-    if "lent root" in faults:
-        slices["tree"] = spoil(c.tree, turn((-1, -32, -7), v))
+    if "lent root or salt" in faults:
+        part, at = turn(LENT_ROOT_FAULTS, v)
+        slices[part] = spoil(slices[part], at)
     if "lent element" in faults:
         part = turn([part for part in WORDS + ("table",) if slices[part]], v)
         slices[part] = with_word(slices[part], turn((0, -1), v // 5), turn((Q, LAST_WORD), v))
     if "lent length" in faults:
         part = turn(list(slices), v)
-        slices[part] = off_by(slices[part], turn((-1, 1), v // 8))
+        slices[part] = off_by(slices[part], turn((-1, 1), v // len(slices)))
     *lent, table, tree, buffer = slices.values()
     limit = turn((0, least), v) if "no counter" in faults else least + 1 + v
     label = "faults: %s; variant %d" % (", ".join(faults), v)
@@ -704,6 +788,7 @@ def prove_calls():
         c = random_commitment(s)
         d = ProofDraft(c, proof_question(Source("prove faults"), c))
         yield from believed_proves(d)
+        yield from salted_proves(d)
         yield from lent_proves(d)
         yield from buffer_proves(d)
         for stage in stages:

@@ -1,7 +1,8 @@
 """Tests of smallwood.py against the papers' small instances and against naive definitions.
 
     python3 selftest.py
-    python3 selftest.py --before FILE     compares with smallwood.py as it was before the blinding rows, too
+    python3 selftest.py --before FILE     compares with smallwood.py as it was before the salt, too, or before the
+                                          blinding rows
 
 Prints a summary; the exit status is 1 when a test fails.
 """
@@ -89,11 +90,25 @@ def naive_length(s, nodes):
     return s.eta * answer + s.m * answer + s.l * (4 * (s.mu + s.beta) + 4 * s.eta + 32) + 32 * nodes
 
 
-def naive_node(digests, level, index):
+def naive_leaf(salt, index, values, nonce):
+    """A leaf's digest, byte by byte."""
+    words = b"".join(value.to_bytes(4, "little") for value in values)
+    return hashlib.shake_256(b"\x00" + salt + bytes([index % 256, index // 256]) + words + nonce).digest(32)
+
+
+def naive_node(salt, digests, level, index):
     if level == 0:
         return digests[index]
-    children = [naive_node(digests, level - 1, 2 * index + side) for side in (0, 1)]
-    return S.shake_256(b"\x01" + children[0] + children[1]).digest(32)
+    children = [naive_node(salt, digests, level - 1, 2 * index + side) for side in (0, 1)]
+    return hashlib.shake_256(b"\x01" + salt + children[0] + children[1]).digest(32)
+
+
+def naive_tree(s, salt, table, nonces):
+    record = s.mu + s.beta + s.eta
+    values = [table[i * record : (i + 1) * record] for i in range(2**s.h)]
+    leaves = [naive_leaf(salt, i, v, nonces[32 * i : 32 * i + 32]) for i, v in enumerate(values)]
+    levels = [[naive_node(salt, leaves, k, i) for i in range(2 ** (s.h - k))] for k in range(s.h + 1)]
+    return b"".join(node for level in levels for node in level)
 
 
 def naive_entry(s, coefficients, blinds, i, t, j):
@@ -169,7 +184,7 @@ def naive_draw(s, question, proof):
 
     answers = proof[4 : 4 + 4 * (s.eta + s.m) * (s.w * s.nu + s.l)]
     draw = hashlib.shake_256(b"\x03" + question + answers + proof[:4]).digest(32 + 8 * s.l)
-    gammas = words(hashlib.shake_256(b"\x02" + question[:47]).digest(8 * s.eta))
+    gammas = words(hashlib.shake_256(b"\x02" + question[:79]).digest(8 * s.eta))
     return draw[:32], [word % 4294967291 for word in gammas], naive_choose(2**s.h, words(draw[32:]))
 
 
@@ -177,7 +192,7 @@ def naive_question(s, question, proof):
     """The conversation's question that a proof stands for, as bytes."""
     _, gammas, indices = naive_draw(s, question, proof)
     challenges = b"".join(gamma.to_bytes(4, "little") for gamma in gammas)
-    return question[:47] + challenges + question[47:] + b"".join(i.to_bytes(2, "little") for i in indices)
+    return question[:79] + challenges + question[79:] + b"".join(i.to_bytes(2, "little") for i in indices)
 
 
 def naive_qualifies(s, question, proof, kappa):
@@ -209,24 +224,24 @@ def true_values(s, coefficients, points):
 
 
 def commit_number(s, fill=lambda count: [0] * count):
-    return S.commit(*committing(s), *lend(s, fill), bytes(32 * 2**s.h), *empty_outputs(s))[0]
+    return S.commit(*committing(s), *lend(s, fill), bytes(32 * 2**s.h), bytes(32), *empty_outputs(s))[0]
 
 
 P_SIZES = Sizes(1, 1, 1, 1, 1, 1, 1)
 P_LENT = [5], [9], [], [7, 2]
 
 
-def case_p(nonces):
+def case_p(nonces, salt):
     """Question and reply of case P, with its table and tree."""
-    number, table, tree = S.commit(*committing(P_SIZES), *P_LENT, nonces, *empty_outputs(P_SIZES))
+    number, table, tree = S.commit(*committing(P_SIZES), *P_LENT, nonces, salt, *empty_outputs(P_SIZES))
     expect("case P is committed", number, 0)
-    question = S.write_question(Question(P_SIZES, tree[-32:], [10], [6], [1]))
+    question = S.write_question(Question(P_SIZES, tree[-32:], salt, [10], [6], [1]))
     expect("reply length of case P", S.reply_length(question), (0, 88))
-    number, length, buffer = S.open_reply(question, *P_LENT, nonces, table, tree, b"\xee" * 88)
+    number, length, buffer = S.open_reply(question, *P_LENT, nonces, salt, table, tree, b"\xee" * 88)
     expect("case P is opened", (number, length), (0, 88))
     for size in (0, 57, 87, 89, 120):
         before = b"\xee" * size
-        refused = S.open_reply(question, *P_LENT, nonces, table, tree, before)
+        refused = S.open_reply(question, *P_LENT, nonces, salt, table, tree, before)
         expect("buffer of %d bytes" % size, refused, (2, None, before))
     return question, buffer, table, tree
 
@@ -278,21 +293,22 @@ def test_small_instances():
 
     eight = Sizes(3, 1, 1, 1, 2, 1, 1)
     for indices, wanted in (([3, 3], 4), ([3, 7], 0), ([3, 8], 4), ([4, 3], 4)):
-        question = S.write_question(Question(eight, bytes(32), [1], [1], indices))
+        question = S.write_question(Question(eight, bytes(32), bytes(32), [1], [1], indices))
         expect("indices %s" % indices, S.read_question(question)[0], wanted)
 
 
 def test_case_p():
-    for nonces in (bytes(64), bytes(range(64))):
-        question, reply, table, tree = case_p(nonces)
+    for nonces, salt in product((bytes(range(64)), bytes(64)), (bytes(range(100, 132)), bytes(32))):
+        question, reply, table, tree = case_p(nonces, salt)
         expect("table of case P", table, [4294967288, 7, 1, 9])
-        expect("lengths of case P", (len(question), len(reply)), (57, 88))
-        leaves = [b"\x00\x00\x00" + S.to_bytes(table[:2]), b"\x00\x01\x00" + S.to_bytes(table[2:])]
-        strings = [leaf + nonces[32 * i : 32 * i + 32] for i, leaf in enumerate(leaves)]
-        digests = [S.shake_256(string).digest(32) for string in strings]
-        root = S.shake_256(b"\x01" + digests[0] + digests[1]).digest(32)
+        expect("lengths of case P", (len(question), len(reply)), (89, 88))
+        leaves = [salt + b"\x00\x00" + S.to_bytes(table[:2]), salt + b"\x01\x00" + S.to_bytes(table[2:])]
+        strings = [b"\x00" + leaf + nonces[32 * i : 32 * i + 32] for i, leaf in enumerate(leaves)]
+        expect("leaf strings of case P", [len(string) for string in strings], [75, 75])
+        digests = [hashlib.shake_256(string).digest(32) for string in strings]
+        root = hashlib.shake_256(b"\x01" + salt + digests[0] + digests[1]).digest(32)
         expect("tree of case P", tree, digests[0] + digests[1] + root)
-        parts = bytes.fromhex("535751 0200 01 01 0100 0100 01 01 01 00"), root, S.to_bytes([10, 6]), b"\x01\x00"
+        parts = bytes.fromhex("535751 0300 01 01 0100 0100 01 01 01 00"), root, salt, S.to_bytes([10, 6]), b"\x01\x00"
         expect("question of case P", question, b"".join(parts))
         words = [4294967268, 42, 5, 9, 1, 9]
         expect("reply of case P", reply, S.to_bytes(words) + nonces[32:] + digests[0])
@@ -310,11 +326,15 @@ def test_case_p():
     expect("empty input", S.program(b""), b"verdict 6\n")
     expect("14 bytes", S.program(question[:14]), b"verdict 6\n")
     expect("a header alone", S.program(question[:15]), b"verdict 6\n")
-    for start in (question[:3] + b"\1\0" + question[5:14], question[:3] + b"\1\0" + question[5:15]):
-        wanted = b"verdict %d\n" % (6 if len(start) < 15 else 5)
-        expect("version 1, %d bytes" % len(start), S.program(start), wanted)
-    expect("version 1", S.program(question[:3] + b"\1\0" + question[5:] + reply), b"verdict 5\n")
-    expect("a question of version 1", S.program(before_question(question) + reply), b"verdict 5\n")
+    for version in (1, 2):
+        other = with_version(question, version)
+        for count in (14, 15):
+            wanted = b"verdict %d\n" % (6 if count < 15 else 5)
+            expect("version %d, %d bytes" % (version, count), S.program(other[:count]), wanted)
+        expect("version %d" % version, S.program(other + reply), b"verdict 5\n")
+        older = before_question(question, version)
+        expect("length of a question of version %d" % version, len(older), 55 + version)
+        expect("a question of version %d" % version, S.program(older + reply), b"verdict 5\n")
     expect("question alone", S.program(question), b"verdict 7\n")
     expect("input beyond the limit", S.program(question + bytes(70000)), b"verdict 7\n")
 
@@ -401,7 +421,7 @@ def test_blinding_sizes():
         s = Sizes(2, mu, 2, 1, 1, 1, 1, beta)
         expect("commit mu %d beta %d" % (mu, beta), commit_number(s), 0 if naive_allowed(mu, beta) else 1)
     for wide in (256, 257, 2**16, 2**31, 2**32 - 1):
-        lent = *lend(Sizes(2, 3, 2, 1, 1, 1, 1), lambda count: [0] * count), bytes(128)
+        lent = *lend(Sizes(2, 3, 2, 1, 1, 1, 1), lambda count: [0] * count), bytes(128), bytes(32)
         number = S.commit(2, 3, 2, 1, 1, 1, wide, *lent, *empty_outputs(Sizes(2, 3, 2, 1, 1, 1, 1)))[0]
         expect("commit beta %d" % wide, number, 1)
 
@@ -410,11 +430,11 @@ def test_lent_blinds(rng):
     """Lengths and elements of the blinds, in all entries that are lent them."""
     for s in (Sizes(3, 2, 2, 2, 2, 1, 1, 1), Sizes(3, 2, 1, 3, 2, 1, 1, 2), Sizes(3, 2, 2, 2, 2, 1, 1)):
         coefficients, tails, blinds, masks = lend(s, lambda count: [rng.randrange(Q) for _ in range(count)])
-        nonces, empty = rng.randbytes(32 * 2**s.h), empty_outputs(s)
+        nonces, salt, empty = rng.randbytes(32 * 2**s.h), rng.randbytes(32), empty_outputs(s)
         expect("blinds", len(blinds), s.w * (s.nu - 1) * s.beta)
-        _, table, tree = S.commit(*committing(s), coefficients, tails, blinds, masks, nonces, *empty)
-        q = Question(s, tree[-32:], [3], [5], [1, 6])
-        question, asked = S.write_question(q), S.write_proof_question(ProofQuestion(s, q.root, q.points))
+        _, table, tree = S.commit(*committing(s), coefficients, tails, blinds, masks, nonces, salt, *empty)
+        q = Question(s, tree[-32:], salt, [3], [5], [1, 6])
+        question, asked = S.write_question(q), S.write_proof_question(ProofQuestion(s, q.root, salt, q.points))
         buffer, room = bytes(S.reply_length(question)[1]), bytes(S.proof_bound(s))
         others = [(blinds + [0], 2), (blinds + [Q], 2), (blinds, 0)]
         if blinds:
@@ -423,28 +443,218 @@ def test_lent_blinds(rng):
                 others += [(blinds[:at] + [word] + blinds[at + 1 :], 3) for word in (Q, 2**32 - 1)]
         for other, number in others:
             label = "blinds of %d words" % len(other)
-            lent = coefficients, tails, other, masks, nonces
+            lent = coefficients, tails, other, masks, nonces, salt
             found = S.commit(*committing(s), *lent, *empty)
             expect("commit, " + label, found, (number, *(empty if number else (table, tree))))
             expect("open, " + label, S.open_reply(question, *lent, table, tree, buffer)[0], number)
             expect("prove, " + label, S.prove(asked, 0, 1, *lent, table, tree, room)[0], number)
         for at in range(len(blinds)):
             other = blinds[:at] + [(blinds[at] + 1) % Q] + blinds[at + 1 :]
-            lent = coefficients, tails, other, masks, nonces
+            lent = coefficients, tails, other, masks, nonces, salt
             _, other_table, other_tree = S.commit(*committing(s), *lent, *empty)
             expect("another table and root", (other_table != table, other_tree[-32:] != tree[-32:]), (True, True))
             reply = S.open_reply(question, *lent, table, tree, buffer)[2]
             expect("other blinds than committed", S.check(question, reply, [0] * s.w)[0], 9)
 
 
-# ---- As before the blinding rows --------------------------------------------------------------------
+# ---- Salts ------------------------------------------------------------------------------------------
+
+
+class Recorded:
+    """SHAKE256 that keeps each string of which bytes are taken."""
+
+    strings = []
+
+    def __init__(self, string):
+        self.string = string
+
+    def update(self, more):
+        self.string += more
+
+    def copy(self):
+        return Recorded(self.string)
+
+    def digest(self, count):
+        Recorded.strings.append(self.string)
+        return hashlib.shake_256(self.string).digest(count)
+
+
+def hashed(call, *arguments):
+    """(outcome, strings that were hashed) of a call."""
+    Recorded.strings, S.shake_256 = [], Recorded
+    try:
+        return call(*arguments), Recorded.strings
+    finally:
+        S.shake_256 = hashlib.shake_256
+
+
+def hashed_in_all(s, lent, q, kappa):
+    """Commits, opens, checks, proves and checks the proof: (root, {call: strings hashed}).
+
+    Root and salt of the question are those of the commitment.
+    """
+    strings = {}
+    (number, table, tree), strings["commit"] = hashed(S.commit, *committing(s), *lent, *empty_outputs(s))
+    expect("committed", number, 0)
+    q = q._replace(root=tree[-32:], salt=lent[-1])
+    question, asked = S.write_question(q), S.write_proof_question(ProofQuestion(s, q.root, q.salt, q.points))
+    room = bytes(S.reply_length(question)[1])
+    (number, _, reply), strings["open"] = hashed(S.open_reply, question, *lent, table, tree, room)
+    expect("opened", number, 0)
+    (number, _), strings["check"] = hashed(S.check, question, reply, [0] * (s.w * s.m))
+    expect("checked", number, 0)
+    arguments = asked, kappa, 2**32 - 1, *lent, table, tree, bytes(S.proof_bound(s))
+    (number, length, proof), strings["prove"] = hashed(S.prove, *arguments)
+    expect("proved", number, 0)
+    outcome, strings["check_proof"] = hashed(S.check_proof, asked, kappa, proof[:length], [0] * (s.w * s.m))
+    expect("proof checked", outcome[0], 0)
+    return q.root, strings
+
+
+def expect_strings(s, root, salt, strings):
+    """Which strings each call hashes, and how they begin."""
+    header, kinds = S.write_header(s), {}
+    for call in strings:
+        kinds[call] = [sum(string[0] == first for string in strings[call]) for first in range(4)]
+        for string in strings[call]:
+            at = 1 if string[0] < 2 else 48
+            expect("salt in a string of %s" % call, string[at : at + 32], salt)
+            if string[0] == 0:
+                expect("leaf string's length", len(string), 1 + 32 + 2 + 4 * (s.mu + s.beta + s.eta) + 32)
+            elif string[0] == 1:
+                expect("node string's length", len(string), 97)
+            else:
+                expect("draw string's header and root", string[1:48], header + root)
+    leaves = 2**s.h
+    expect("strings of committing", kinds["commit"], [leaves, leaves - 1, 0, 0])
+    expect("strings of opening", kinds["open"], [0, 0, 0, 0])
+    for call in ("check", "check_proof"):
+        expect("leaf strings of %s" % call, kinds[call][0], s.l)
+        others = {string for string in strings[call] if string[0] < 2} - set(strings["commit"])
+        expect("leaf and node strings of %s that were not committed" % call, others, set())
+    expect("draw strings of a check", kinds["check"][2:], [0, 0])
+    expect("draw strings of a proof's check", kinds["check_proof"][2:], [1, 1])
+    for string in strings["prove"]:
+        expect("first byte of a draw", string[0] in (2, 3), True)
+        expect("draw of challenges", string[0] == 3 or len(string) == 80, True)
+
+
+def test_salted_strings(rng):
+    """No string is hashed alike in two commitments that differ in the salt alone; with one salt all are."""
+    for n in range(40):
+        s = random_sizes(rng)
+        words, nonces = lend(s, lambda count: [rng.randrange(Q) for _ in range(count)]), rng.randbytes(32 * 2**s.h)
+        indices = sorted(rng.sample(range(2**s.h), s.l))
+        q = Question(s, b"", b"", by_rule(5, s.eta), by_rule(6, s.m), indices)
+        salt, kappa = rng.randbytes(32), n % 4
+        root, strings = hashed_in_all(s, (*words, nonces, salt), q, kappa)
+        expect_strings(s, root, salt, strings)
+        expect("the same salt", hashed_in_all(s, (*words, nonces, salt), q, kappa), (root, strings))
+        at = n % 32
+        for other in (salt[:at] + bytes([salt[at] ^ 1 << n % 8]) + salt[at + 1 :], bytes(32), salt[::-1]):
+            other_root, others = hashed_in_all(s, (*words, nonces, other), q, kappa)
+            expect_strings(s, other_root, other, others)
+            expect("another root", other_root != root, True)
+            alike = {x for part in strings.values() for x in part} & {x for part in others.values() for x in part}
+            expect("strings hashed alike", alike, set())
+        p = ProofQuestion(s, root, salt, q.points)  # the draws under one root, with two salts
+        p_other = p._replace(salt=other)
+        drawn = [hashed(S.draw_challenges, x)[1] for x in (p, p_other)]
+        expect("challenges by the salt alone", drawn, [[b"\x02" + S.write_header(s) + root + x] for x in (salt, other)])
+        answers = rng.randbytes(S.answer_bytes(s))
+        for x in (p, p_other):
+            string = b"\x03" + S.write_header(s) + root + x.salt + S.to_bytes(q.points) + answers + b"\7\0\0\0"
+            expect("leaf draw", hashed(lambda: S.leaf_draw(x, S.leaf_draws(x, answers), 7))[1], [string])
+
+
+def test_salts(rng):
+    """Lengths of the lent salt; salts that are one byte off, lent or asked; versions; a question's length."""
+    for n in range(24):
+        s = random_sizes(rng)
+        words, nonces = lend(s, lambda count: [rng.randrange(Q) for _ in range(count)]), rng.randbytes(32 * 2**s.h)
+        salt, empty, values = rng.randbytes(32), empty_outputs(s), [7] * (s.w * s.m)
+        number, table, tree = S.commit(*committing(s), *words, nonces, salt, *empty)
+        q = Question(s, tree[-32:], salt, by_rule(5, s.eta), by_rule(6, s.m), sorted(rng.sample(range(2**s.h), s.l)))
+        p = ProofQuestion(s, q.root, salt, q.points)
+        question, asked = S.write_question(q), S.write_proof_question(p)
+        expect("question's length", len(question), 15 + 32 + 32 + 4 * s.eta + 4 * s.m + 2 * s.l)
+        expect("proof question's length", len(asked), 15 + 32 + 32 + 4 * s.m)
+        expect("root and salt in a question", question[15:79], tree[-32:] + salt)
+        expect("root and salt in a proof's question", asked[15:79], tree[-32:] + salt)
+        room, bound = rng.randbytes(S.reply_length(question)[1]), rng.randbytes(S.proof_bound(s))
+
+        def opened(question=question, salt=salt, tree=tree):
+            return S.open_reply(question, *words, nonces, salt, table, tree, room)
+
+        def proved(asked=asked, salt=salt, tree=tree):
+            return S.prove(asked, 1, 2**32 - 1, *words, nonces, salt, table, tree, bound)
+
+        number, _, reply = opened()
+        expect("opened", number, 0)
+        number, length, filled = proved()
+        expect("proved", number, 0)
+        proof = filled[:length]
+        for count in (0, 1, 16, 31, 33, 64):
+            other = (salt + salt)[:count]
+            label = ", salt of %d bytes" % count
+            expect("commit" + label, S.commit(*committing(s), *words, nonces, other, *empty), (2, *empty))
+            expect("open" + label, opened(salt=other), (2, None, room))
+            expect("prove" + label, proved(salt=other), (2, None, bound))
+        for at in {0, 31, rng.randrange(32)}:
+            other = salt[:at] + bytes([salt[at] ^ 1 << n % 8]) + salt[at + 1 :]
+            named = S.write_question(q._replace(salt=other))
+            named_proof = S.write_proof_question(p._replace(salt=other))
+            label = ", byte %d of the salt" % at
+            expect("open, asked" + label, opened(question=named), (8, None, room))
+            expect("open, lent" + label, opened(salt=other), (8, None, room))
+            expect("prove, asked" + label, proved(asked=named_proof), (8, None, bound))
+            expect("prove, lent" + label, proved(salt=other), (8, None, bound))
+            expect("length" + label, S.reply_length(named), S.reply_length(question))
+            expect("check" + label, S.check(named, reply, values), (8, values))
+            spoilt = tree[:-1] + bytes([tree[-1] ^ 1])
+            expect("open, root too" + label, opened(question=named, tree=spoilt), (8, None, room))
+            expect("prove, root too" + label, proved(asked=named_proof, tree=spoilt), (8, None, bound))
+            # Salt of question and caller agree: the tree, made with another salt, is believed; the check finds it.
+            number, _, believed = opened(question=named, salt=other)
+            expect("open, asked and lent" + label, (number, believed), (0, reply))
+            number, size, believed = proved(asked=named_proof, salt=other)
+            expect("prove, asked and lent" + label, number, 0)
+            expect("its check" + label, S.check_proof(named_proof, 1, believed[:size], values), (8, values))
+            drawn = naive_question(s, named_proof, proof)
+            fits = S.reply_length(drawn) == (0, length - 4)
+            wanted = 7 if not fits else 8 if naive_qualifies(s, named_proof, proof, 1) else 12
+            expect("check of a proof" + label, S.check_proof(named_proof, 1, proof, values), (wanted, values))
+        exchanged = question[:15] + salt + tree[-32:] + question[79:]
+        expect("salt before root", opened(question=exchanged), (8, None, room))
+        expect("salt before root, and so lent", opened(question=exchanged, salt=tree[-32:]), (8, None, room))
+        expect("check, salt before root", S.check(exchanged, reply, values), (8, values))
+        for cut in (question[:47] + question[79:], question[:78] + question[79:], question + b"\0", question[:79]):
+            expect("question of %d bytes" % len(cut), S.check(cut, reply, values), (6, values))
+            expect("open, question of %d bytes" % len(cut), opened(question=cut), (6, None, room))
+        for cut in (asked[:47] + asked[79:], asked[:78] + asked[79:], asked + b"\0", asked[:79]):
+            expect("proof's question of %d bytes" % len(cut), S.check_proof(cut, 1, proof, values), (6, values))
+            expect("prove, question of %d bytes" % len(cut), proved(asked=cut), (6, None, bound))
+        for version in (0, 1, 2, 4, 5, 255, 256, 258, 259, 512, 768, 65535):
+            other, other_proof = with_version(question, version), with_version(asked, version)
+            expect("version %d" % version, S.check(other, reply, values), (5, values))
+            expect("length, version %d" % version, S.reply_length(other), (5, None))
+            expect("open, version %d" % version, opened(question=other), (5, None, room))
+            expect("prove, version %d" % version, proved(asked=other_proof), (5, None, bound))
+            expect("proof, version %d" % version, S.check_proof(other_proof, 1, proof, values), (5, values))
+        for version in (1, 2):
+            older = before_question(question, version)
+            expect("question as of version %d" % version, S.check(older, reply, values), (5, values))
+            expect("open, question as of version %d" % version, opened(question=older), (5, None, room))
+
+
+# ---- As before the salt, and before the blinding rows -----------------------------------------------
 
 
 def by_rule(tag, count):
     return [(i * 2654435761 + tag * 97 + 12345) % Q for i in range(count)]
 
 
-# Sizes, and SHAKE256 of table, tree and reply as the module gave them when it knew no blinding rows.
+# Sizes, and SHAKE256 of table, tree and reply as the module gave them when it knew no blinding rows and no salt.
 BEFORE = (
     (Sizes(1, 1, 1, 1, 1, 1, 1), "bad987192da1592a6e9f364ceab350df",
      "a15967ca44fbe4062e13b93d8f6da0c1", "e28a48b2ee7ea707b6ad552aace9dd2f"),
@@ -461,59 +671,102 @@ BEFORE = (
 )  # fmt: skip
 
 
-def before_question(question):
-    """A question without blinding rows, as it was of version 1."""
-    assert question[14] == 0
-    return question[:3] + b"\1\0" + question[5:14] + question[15:]
+# The same of module version 2, with blinding rows and no salt.
+BEFORE_SALT = (
+    (Sizes(1, 1, 1, 1, 1, 1, 1, 1), "04822032d2932ccca139e9c8e116659f",
+     "dd0c369889a9798d0d2c7a823e157f92", "ef8a1b0d769c467a4d80943d9085597b"),
+    (Sizes(3, 2, 2, 1, 4, 1, 3, 1), "07f5e5640025f369920c5b54cb26d2ee",
+     "8fbe47fc4021ac733b9d79f19b79c489", "9b88e50828ba2716078ddb2af029e525"),
+    (Sizes(4, 5, 3, 2, 5, 2, 8, 3), "f679965ec66c347eb4ada40af6dedd01",
+     "ea7ce631b133c53f09eecea69a82beda", "5f3df3751881888a5be95e250eda98ec"),
+    (Sizes(5, 12, 4, 4, 6, 3, 1, 12), "6ba1548f530fc8a502e2a3595638edca",
+     "55a7963557eb36d6022a41002522dd98", "8739e1773f77d91f55c83d5d82e23c55"),
+    (Sizes(6, 48, 1, 7, 9, 4, 2, 16), "c8732a60135a349595b7816c9a37dd3d",
+     "8650533af954c733184ac475f170e2c7", "aac50e8abdcb73c2f7f1402f6ab8c1eb"),
+    (Sizes(9, 1, 256, 1, 5, 1, 1, 1), "17654f0535891ebeb455ebdfc5c6ff5b",
+     "d506f14d56d5a2c1ecaa1813af7c1a81", "b7fb48422c31be4bc059b0aaff67d4a9"),
+)  # fmt: skip
+
+
+def with_version(question, version):
+    """A question whose version alone is another."""
+    return question[:3] + version.to_bytes(2, "little") + question[5:]
+
+
+def before_question(question, version):
+    """A question as version 2 had it, without its salt, or as version 1 had it, without byte 14 either."""
+    question = with_version(question, version)[:47] + question[79:]
+    return question if version == 2 else question[:14] + question[15:]
+
+
+def tree_without_salt(s, table, nonces):
+    """The tree that a commitment had before the salt: the same strings, the salt left out."""
+    record = s.mu + s.beta + s.eta
+    values = [table[i * record : (i + 1) * record] for i in range(2**s.h)]
+    strings = [S.leaf_string(b"", i, v, nonces[32 * i : 32 * i + 32]) for i, v in enumerate(values)]
+    return S.tree_of(b"", [S.digest(string) for string in strings])
 
 
 def run_by_rule(s):
-    """Table, tree, question and reply at sizes without blinding rows, with words by rule."""
+    """Table, tree without a salt, and the reply to a question that names that tree's root, with words by rule.
+
+    The opener believes the tree that it is lent: what it copies from this one is what it copied before the salt.
+    """
     words = [by_rule(tag, len(part)) for tag, part in enumerate(lend(s, lambda count: [0] * count))]
-    lent = *words, bytes(x % 256 for x in by_rule(4, 32 * 2**s.h))
-    number, table, tree = S.commit(*committing(s), *lent, *empty_outputs(s))
+    nonces, salt = bytes(x % 256 for x in by_rule(4, 32 * 2**s.h)), bytes(x % 256 for x in by_rule(7, 32))
+    number, table, salted = S.commit(*committing(s), *words, nonces, salt, *empty_outputs(s))
     expect("committed", number, 0)
-    q = Question(s, tree[-32:], by_rule(5, s.eta), by_rule(6, s.m), [2**s.h // s.l * b for b in range(s.l)])
+    tree = tree_without_salt(s, table, nonces)
+    expect("no digest as before", any(salted[at : at + 32] in tree for at in range(0, len(tree), 32)), False)
+    indices = [2**s.h // s.l * b for b in range(s.l)]
+    q = Question(s, tree[-32:], salt, by_rule(5, s.eta), by_rule(6, s.m), indices)
     question = S.write_question(q)
-    number, _, reply = S.open_reply(question, *lent, table, tree, bytes(S.reply_length(question)[1]))
+    number, _, reply = S.open_reply(question, *words, nonces, salt, table, tree, bytes(S.reply_length(question)[1]))
     expect("opened", number, 0)
-    return S.to_bytes(table), tree, question, reply
+    return S.to_bytes(table), tree, reply
 
 
 def test_stored_before():
-    for s, *digests in BEFORE:
-        table, tree, _, reply = run_by_rule(s)
-        expect("as before %s" % (s,), [S.shake_256(part).hexdigest(16) for part in (table, tree, reply)], digests)
+    for s, *digests in BEFORE + BEFORE_SALT:
+        parts = run_by_rule(s)
+        expect("as before %s" % (s,), [S.shake_256(part).hexdigest(16) for part in parts], digests)
 
 
 def test_before(rng, path):
-    """Without blinding rows, tables, trees, lengths, replies and verdicts are those of the module before."""
+    """Tables, lengths and answers are those of the module before, and so are trees and replies but for the salt.
+
+    A module of version 1 knows no blinding rows: there are none, then.
+    """
     spec = importlib.util.spec_from_file_location("before", path)
     before = importlib.util.module_from_spec(spec)
     spec.loader.exec_module(before)
+    version = before.VERSION
     for _ in range(150):
-        s = random_sizes(rng)._replace(beta=0)
+        s = random_sizes(rng) if version == 2 else random_sizes(rng)._replace(beta=0)
         words = lend(s, lambda count: [rng.choice((0, Q - 1, Q, *[rng.randrange(Q)] * 60)) for _ in range(count)])
         coefficients, tails, _, masks = words
-        nonces, (table, tree) = rng.randbytes(32 * 2**s.h), empty_outputs(s)
-        after = S.commit(*committing(s), *words, nonces, table, tree)
-        expect("commit %s" % (s,), after, before.commit(*s[:6], coefficients, tails, masks, nonces, table, tree))
-        if after[0]:
+        older_words, older_sizes = (words, committing(s)) if version == 2 else ((coefficients, tails, masks), s[:6])
+        nonces, salt, (table, tree) = rng.randbytes(32 * 2**s.h), rng.randbytes(32), empty_outputs(s)
+        number, table, tree = S.commit(*committing(s), *words, nonces, salt, table, tree)
+        older_number, older_table, older_tree = before.commit(*older_sizes, *older_words, nonces, *empty_outputs(s))
+        expect("commit %s" % (s,), (number, table), (older_number, older_table))
+        if number:
             continue
-        _, table, tree = after
-        q = Question(s, tree[-32:], by_rule(5, s.eta), by_rule(6, s.m), sorted(rng.sample(range(2**s.h), s.l)))
-        question = S.write_question(q)
-        older = before_question(question)
-        expect("question", older, before.write_question(before.Question(before.Sizes(*s[:7]), *q[1:])))
+        expect("tree", tree_without_salt(s, table, nonces), older_tree)
+        q = Question(s, tree[-32:], salt, by_rule(5, s.eta), by_rule(6, s.m), sorted(rng.sample(range(2**s.h), s.l)))
+        question, believed = S.write_question(q), S.write_question(q._replace(root=older_tree[-32:]))
+        older = before_question(believed, version)
+        older_q = before.Question(before.Sizes(*s[: len(before.Sizes._fields)]), older_tree[-32:], *q[3:])
+        expect("question", older, before.write_question(older_q))
         expect("length", S.reply_length(question), before.reply_length(older))
         buffer = bytes(S.reply_length(question)[1])
-        opened = S.open_reply(question, *words, nonces, table, tree, buffer)
-        expect("open", opened, before.open_reply(older, coefficients, tails, masks, nonces, table, tree, buffer))
-        for _ in range(5):
-            reply, at = opened[2], rng.randrange(len(opened[2]))
-            reply = reply[:at] + bytes([rng.randrange(256)]) + reply[at + 1 :]
-            values = [7] * (s.w * s.m)
-            expect("check", S.check(question, reply, values), before.check(older, reply, values))
+        reply = S.open_reply(question, *words, nonces, salt, table, tree, buffer)[2]
+        opened = S.open_reply(believed, *words, nonces, salt, table, older_tree, buffer)
+        expect("open", opened, before.open_reply(older, *older_words, nonces, table, older_tree, buffer))
+        for _ in range(5):  # the same damage to a reply with a salt and to that without
+            values, at, bits = [7] * (s.w * s.m), rng.randrange(len(reply)), rng.randrange(256)
+            spoilt, older_spoilt = [r[:at] + bytes([r[at] ^ bits]) + r[at + 1 :] for r in (reply, opened[2])]
+            expect("check", S.check(question, spoilt, values), before.check(older, older_spoilt, values))
 
 
 def test_missing(rng):
@@ -529,7 +782,7 @@ def test_missing(rng):
 
 def expect_length(s, indices):
     """The reply length of a question with these sizes and indices: as counted, as the check's 7 has it."""
-    question = S.write_question(Question(s, bytes(32), [1] * s.eta, [2] * s.m, indices))
+    question = S.write_question(Question(s, bytes(32), bytes(32), [1] * s.eta, [2] * s.m, indices))
     label = "reply length %s %s" % (s, indices)
     nodes = counted_missing(s.h, indices)
     length, bound = naive_length(s, nodes), naive_length(s, s.l * s.h)
@@ -563,7 +816,7 @@ def test_reply_length(rng):
 def test_reply_length_refused():
     """Each test of the question, then two at once: the earlier one decides."""
     s = Sizes(3, 2, 1, 2, 2, 1, 1)
-    good = Question(s, bytes(32), [1], [2], [3, 5])
+    good = Question(s, bytes(32), bytes(32), [1], [2], [3, 5])
     question = S.write_question(good)
 
     def changed(**parts):
@@ -575,8 +828,10 @@ def test_reply_length_refused():
         ("14 bytes", question[:14], 6),
         ("14 bytes, mark", b"swq" + question[3:14], 6),
         ("mark", b"swq" + question[3:], 5),
-        ("version 1", question[:3] + b"\1\0" + question[5:], 5),
-        ("version 3", question[:3] + b"\3\0" + question[5:], 5),
+        ("version 1", with_version(question, 1), 5),
+        ("version 2", with_version(question, 2), 5),
+        ("version 4", with_version(question, 4), 5),
+        ("no salt", question[:47] + question[79:], 6),
         ("mark, size", b"swq" + question[3:5] + b"\0" + question[6:], 5),
         ("h is 0", question[:5] + b"\0" + question[6:], 1),
         ("w nu + l > N", changed(sizes=s._replace(w=7)), 1),
@@ -614,22 +869,18 @@ def test_completeness(rng, rounds):
     for _ in range(rounds):
         s = random_sizes(rng)
         fill = lambda count: [rng.choice((0, 1, Q - 1, rng.randrange(Q))) for _ in range(count)]
-        words, nonces = lend(s, fill), rng.randbytes(32 * 2**s.h)
-        lent = *words, nonces
+        words, nonces, salt = lend(s, fill), rng.randbytes(32 * 2**s.h), rng.randbytes(32)
+        lent = *words, nonces, salt
         number, table, tree = S.commit(*committing(s), *lent, *empty_outputs(s))
         expect("committed %s" % (s,), number, 0)
         expect("table", table, naive_table(s, *words))
         expect("polynomials that the rows hold", held(s, table), words[0])
+        expect("tree", tree, naive_tree(s, salt, table, nonces))
         digests = [tree[32 * i : 32 * i + 32] for i in range(2**s.h)]
         record = s.mu + s.beta + s.eta
-        for i in range(2**s.h):
-            string = b"\x00" + i.to_bytes(2, "little") + S.to_bytes(table[i * record : (i + 1) * record])
-            string += nonces[32 * i : 32 * i + 32]
-            expect("leaf digest", digests[i], S.shake_256(string).digest(32))
-        expect("root", tree[-32:], naive_node(digests, s.h, 0))
         points = [rng.choice((0, Q - 1, rng.randrange(Q))) for _ in range(s.m)]
         indices = sorted(rng.sample(range(2**s.h), s.l))
-        q = Question(s, tree[-32:], fill(s.eta), points, indices)
+        q = Question(s, tree[-32:], salt, fill(s.eta), points, indices)
         question = S.write_question(q)
         expect("question read back", S.read_question(question), (0, q))
         nodes = naive_missing(s.h, indices)
@@ -645,7 +896,7 @@ def test_completeness(rng, rounds):
         expect("reply read back", S.write_reply(r), reply)
         opened = [table[i * record : (i + 1) * record] for i in indices]
         expect("leaf values", [values for values, _ in r.leaves], opened)
-        expect("nodes", r.nodes, [naive_node(digests, level, i) for level, i in nodes])
+        expect("nodes", r.nodes, [naive_node(salt, digests, level, i) for level, i in nodes])
         values = true_values(s, words[0], points)
         expect("check", S.check(question, reply, [1] * (s.w * s.m)), (0, values))
         expect("check for C", S.check_c(question, reply, bytes(4 * s.w * s.m)), (0, S.to_bytes(values)))
@@ -709,7 +960,7 @@ def refit(s, question, lent, table, tree, proof, counter):
 def expect_proof(rng, s, lent, table, tree, points, kappa):
     """One honest proof: what the papers say of it, against the naive definitions."""
     label = "proof, kappa %d, %s: " % (kappa, s)
-    question = S.write_header(s) + tree[-32:] + b"".join(z.to_bytes(4, "little") for z in points)
+    question = S.write_header(s) + tree[-32:] + lent[-1] + b"".join(z.to_bytes(4, "little") for z in points)
     bound = 4 + naive_length(s, s.l * s.h)
     before = rng.randbytes(bound)
     number, length, after = S.prove(question, kappa, 2**32 - 1, *lent, table, tree, before)
@@ -761,7 +1012,7 @@ def expect_order(label, s, question, proof, kappa, drawn):
     def expect_number(what, number, question=question, kappa=kappa, proof=proof, words=blank):
         expect(label + what, S.check_proof(question, kappa, proof, words), (number, words))
 
-    bad_point = question[:47] + b"\xff" * 4 + question[51:]
+    bad_point = question[:79] + b"\xff" * 4 + question[83:]
     bad_record = proof[: 4 + S.answer_bytes(s)] + b"\xff" * 4 + proof[8 + S.answer_bytes(s) :]
     expect_number("a conversation's question", 6, question=drawn)
     expect_number("14 bytes", 6, question=question[:14], kappa=17)
@@ -778,21 +1029,23 @@ def expect_order(label, s, question, proof, kappa, drawn):
 def test_proofs(rng, rounds):
     for n in range(rounds):
         s = random_sizes(rng)
-        lent = (*lend(s, lambda count: [rng.randrange(Q) for _ in range(count)]), rng.randbytes(32 * 2**s.h))
+        words = lend(s, lambda count: [rng.randrange(Q) for _ in range(count)])
+        lent = *words, rng.randbytes(32 * 2**s.h), rng.randbytes(32)
         number, table, tree = S.commit(*committing(s), *lent, *empty_outputs(s))
         points = [rng.choice((0, Q - 1, rng.randrange(Q))) for _ in range(s.m)]
         expect_proof(rng, s, lent, table, tree, points, n % 10)
-    number, table, tree = S.commit(*committing(P_SIZES), *P_LENT, bytes(64), *empty_outputs(P_SIZES))
+    lent = *P_LENT, bytes(64), bytes(32)
+    number, table, tree = S.commit(*committing(P_SIZES), *lent, *empty_outputs(P_SIZES))
     for kappa in range(17):
-        expect_proof(rng, P_SIZES, (*P_LENT, bytes(64)), table, tree, [6], kappa)
+        expect_proof(rng, P_SIZES, lent, table, tree, [6], kappa)
 
 
 def test_question_parts():
     """The draws hash the bytes of the question and of the answers as they are lent."""
     s = Sizes(3, 2, 1, 2, 2, 2, 2, 1)
-    p = ProofQuestion(s, bytes(range(32)), [5, Q - 1])
+    p = ProofQuestion(s, bytes(range(32)), bytes(range(32, 64)), [5, Q - 1])
     question = S.write_proof_question(p)
-    expect("proof's question", len(question), 15 + 32 + 4 * 2)
+    expect("proof's question", len(question), 15 + 32 + 32 + 4 * 2)
     expect("read back", S.read_proof_question(question, 16), (0, p))
     answers = b"\xff" * S.answer_bytes(s)  # no elements
     proof = b"\1\2\3\4" + answers
@@ -801,7 +1054,7 @@ def test_question_parts():
     expect("draw of what is no element", draw[:32], start)
     drawn = S.question_by_draw(p, draw)
     expect("challenges and indices", (drawn.challenges, drawn.indices), (gammas, indices))
-    expect("root and points", (drawn.sizes, drawn.root, drawn.points), tuple(p))
+    expect("root, salt and points", (drawn.sizes, drawn.root, drawn.salt, drawn.points), tuple(p))
 
 
 # ---- Interpolation for others -----------------------------------------------------------------------
@@ -908,6 +1161,8 @@ def main():
     test_columns(rng)
     test_blinding_sizes()
     test_lent_blinds(rng)
+    test_salted_strings(rng)
+    test_salts(rng)
     test_stored_before()
     test_missing(rng)
     test_reply_length(rng)

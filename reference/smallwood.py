@@ -17,10 +17,13 @@ from operator import mul
 
 Q = 4294967291  # the field's order, 2^32 - 5
 MARK = b"SWQ"
-VERSION = 2
+VERSION = 3
 HEADER_BYTES = 15
 DIGEST_BYTES = 32
 NONCE_BYTES = 32
+SALT_BYTES = 32
+SALT_AT = HEADER_BYTES + DIGEST_BYTES  # where a question's salt begins, after header and root
+AFTER_SALT = SALT_AT + SALT_BYTES  # where its challenges begin, or a proof's points
 COUNTER_BYTES = 4
 MAX_KAPPA = 16  # bits of a leaf draw that may have to be zero
 MAX_POINTS = 320  # of an interpolation; a row polynomial has d + 1 coefficients, at most 256 + 64
@@ -253,20 +256,20 @@ def digest(string):
     return shake_256(string).digest(DIGEST_BYTES)
 
 
-def leaf_string(index, values, nonce):
-    return b"\x00" + struct.pack("<H", index) + to_bytes(values) + nonce
+def leaf_string(salt, index, values, nonce):
+    return b"\x00" + salt + struct.pack("<H", index) + to_bytes(values) + nonce
 
 
-def node_string(left, right):
-    return b"\x01" + left + right
+def node_string(salt, left, right):
+    return b"\x01" + salt + left + right
 
 
-def tree_of(leaf_digests):
+def tree_of(salt, leaf_digests):
     """All digests in one string: the leaves, then each level above, the root last."""
     level = list(leaf_digests)
     tree = list(level)
     while len(level) > 1:
-        level = [digest(node_string(*level[i : i + 2])) for i in range(0, len(level), 2)]
+        level = [digest(node_string(salt, *level[i : i + 2])) for i in range(0, len(level), 2)]
         tree += level
     return b"".join(tree)
 
@@ -287,21 +290,21 @@ def missing_nodes(h, indices):
     return missing
 
 
-def root_of(h, indices, leaf_digests, nodes):
+def root_of(h, salt, indices, leaf_digests, nodes):
     """The root, from the opened leaves' digests and the missing nodes."""
     known = {(0, i): leaf for i, leaf in zip(indices, leaf_digests)}
     known.update(zip(missing_nodes(h, indices), nodes))
     for level in range(1, h + 1):
         for i in {index >> level for index in indices}:
             pair = known[level - 1, 2 * i], known[level - 1, 2 * i + 1]
-            known[level, i] = digest(node_string(*pair))
+            known[level, i] = digest(node_string(salt, *pair))
     return known[h, 0]
 
 
 # ---- Byte forms -------------------------------------------------------------------------------------
 
-Question = namedtuple("Question", "sizes root challenges points indices")
-ProofQuestion = namedtuple("ProofQuestion", "sizes root points")  # what is left where challenges and indices are drawn
+Question = namedtuple("Question", "sizes root salt challenges points indices")
+ProofQuestion = namedtuple("ProofQuestion", "sizes root salt points")  # challenges and indices are drawn
 Reply = namedtuple("Reply", "batchings answers leaves nodes")  # leaves: (values, nonce) for each index
 
 
@@ -319,12 +322,12 @@ def elements(words):
 
 def question_bytes(s):
     """Length of a question with these sizes."""
-    return HEADER_BYTES + DIGEST_BYTES + 4 * s.eta + 4 * s.m + 2 * s.l
+    return AFTER_SALT + 4 * s.eta + 4 * s.m + 2 * s.l
 
 
 def proof_question_bytes(s):
-    """Length of a proof's question with these sizes: header, root, points."""
-    return HEADER_BYTES + DIGEST_BYTES + 4 * s.m
+    """Length of a proof's question with these sizes: header, root, salt, points."""
+    return AFTER_SALT + 4 * s.m
 
 
 def answer_bytes(s):
@@ -359,11 +362,12 @@ def write_header(s):
 
 def write_question(q):
     words = to_bytes(list(q.challenges) + list(q.points))
-    return write_header(q.sizes) + q.root + words + struct.pack("<%dH" % len(q.indices), *q.indices)
+    indices = struct.pack("<%dH" % len(q.indices), *q.indices)
+    return write_header(q.sizes) + q.root + q.salt + words + indices
 
 
 def write_proof_question(p):
-    return write_header(p.sizes) + p.root + to_bytes(p.points)
+    return write_header(p.sizes) + p.root + p.salt + to_bytes(p.points)
 
 
 def write_answers(batchings, answers):
@@ -387,6 +391,11 @@ def read_header(data):
     return (0, s) if s.in_range() else (1, None)
 
 
+def root_and_salt(question):
+    """What follows the header in every question."""
+    return question[HEADER_BYTES:SALT_AT], question[SALT_AT:AFTER_SALT]
+
+
 def read_question(question):
     """The question's tests, in their order: (number, None), or (0, the parsed question)."""
     if len(question) < HEADER_BYTES:
@@ -396,7 +405,7 @@ def read_question(question):
         return number, None
     if len(question) != question_bytes(s):
         return 6, None
-    body = question[HEADER_BYTES + DIGEST_BYTES :]
+    body = question[AFTER_SALT:]
     words = to_words(body[: 4 * (s.eta + s.m)])
     indices = list(struct.unpack("<%dH" % s.l, body[4 * (s.eta + s.m) :]))
     if not elements(words):
@@ -404,8 +413,7 @@ def read_question(question):
     rising = all(a < b for a, b in zip(indices, indices[1:]))
     if not rising or any(i >= s.leaves for i in indices):
         return 4, None
-    root = question[HEADER_BYTES : HEADER_BYTES + DIGEST_BYTES]
-    return 0, Question(s, root, words[: s.eta], words[s.eta :], indices)
+    return 0, Question(s, *root_and_salt(question), words[: s.eta], words[s.eta :], indices)
 
 
 def read_proof_question(question, kappa):
@@ -419,10 +427,10 @@ def read_proof_question(question, kappa):
         return 1, None
     if len(question) != proof_question_bytes(s):
         return 6, None
-    points = to_words(question[HEADER_BYTES + DIGEST_BYTES :])
+    points = to_words(question[AFTER_SALT:])
     if not elements(points):
         return 3, None
-    return 0, ProofQuestion(s, question[HEADER_BYTES : HEADER_BYTES + DIGEST_BYTES], points)
+    return 0, ProofQuestion(s, *root_and_salt(question), points)
 
 
 def read_reply(s, reply):
@@ -452,15 +460,15 @@ def to_long_words(data):
 
 
 def draw_challenges(p):
-    """The first eta words of SHAKE256 over 0x02, header, root, each modulo q."""
-    string = b"\x02" + write_header(p.sizes) + p.root
+    """The first eta words of SHAKE256 over 0x02, header, root, salt, each modulo q."""
+    string = b"\x02" + write_header(p.sizes) + p.root + p.salt
     return [word % Q for word in to_long_words(shake_256(string).digest(8 * p.sizes.eta))]
 
 
 def leaf_draws(p, answers):
-    """Of the leaf draws, what does not depend on the counter: SHAKE256 after 0x03, header, root, points, answers.
+    """Of the leaf draws, what does not depend on the counter: SHAKE256 after 0x03, the question, answers.
 
-    The answers are bytes, as a reply begins with them, elements or not.
+    The question is header, root, salt, points. The answers are bytes, as a reply begins with them, elements or not.
     """
     return shake_256(b"\x03" + write_proof_question(p) + answers)
 
@@ -486,7 +494,7 @@ def choose(leaves, words):
 def question_by_draw(p, draw):
     """The conversation's question that a leaf draw gives, whether its counter qualifies or not."""
     indices = choose(p.sizes.leaves, to_long_words(draw[DIGEST_BYTES:]))
-    return Question(p.sizes, p.root, draw_challenges(p), p.points, indices)
+    return Question(p.sizes, p.root, p.salt, draw_challenges(p), p.points, indices)
 
 
 def least_counter(p, draws, kappa, limit):
@@ -497,7 +505,7 @@ def least_counter(p, draws, kappa, limit):
 # ---- Entries ----------------------------------------------------------------------------------------
 
 
-def lent_lengths_hold(s, coefficients, tails, blinds, masks, nonces, table, tree):
+def lent_lengths_hold(s, coefficients, tails, blinds, masks, nonces, salt, table, tree):
     """Test 2, over what committer and opener have in common."""
     return (
         len(coefficients) == s.w * s.each
@@ -505,6 +513,7 @@ def lent_lengths_hold(s, coefficients, tails, blinds, masks, nonces, table, tree
         and len(blinds) == s.w * s.blinds_each
         and len(masks) == s.eta * s.width
         and len(nonces) == NONCE_BYTES * s.leaves
+        and len(salt) == SALT_BYTES
         and len(table) == s.leaves * s.record
         and len(tree) == DIGEST_BYTES * (2 * s.leaves - 1)
     )
@@ -518,12 +527,12 @@ def nonce_of(nonces, index):
     return nonces[NONCE_BYTES * index : NONCE_BYTES * (index + 1)]
 
 
-def commit(h, mu, nu, w, l, eta, beta, coefficients, tails, blinds, masks, nonces, table, tree):
+def commit(h, mu, nu, w, l, eta, beta, coefficients, tails, blinds, masks, nonces, salt, table, tree):
     """Commit: returns (number, table, tree). Tests 1, 2, 3; the table, being output, is not under 3."""
     s = Sizes(h, mu, nu, w, l, eta, 1, beta)
     if not s.in_range():
         return 1, table, tree
-    if not lent_lengths_hold(s, coefficients, tails, blinds, masks, nonces, table, tree):
+    if not lent_lengths_hold(s, coefficients, tails, blinds, masks, nonces, salt, table, tree):
         return 2, table, tree
     if not all(map(elements, (coefficients, tails, blinds, masks))):
         return 3, table, tree
@@ -535,8 +544,8 @@ def commit(h, mu, nu, w, l, eta, beta, coefficients, tails, blinds, masks, nonce
         values = [dot(leaf_weights, line) for line in lines]
         values += [evaluate(mask_of(s, masks, k), leaf_point(i)) for k in range(s.eta)]
         filled += values
-        leaf_digests.append(digest(leaf_string(i, values, nonce_of(nonces, i))))
-    return 0, filled, tree_of(leaf_digests)
+        leaf_digests.append(digest(leaf_string(salt, i, values, nonce_of(nonces, i))))
+    return 0, filled, tree_of(salt, leaf_digests)
 
 
 def reply_length(question):
@@ -561,45 +570,45 @@ def opened_at(s, indices, nonces, table, tree):
     return leaves, [tree_node(s, tree, level, i) for level, i in missing_nodes(s.h, indices)]
 
 
-def open_reply(question, coefficients, tails, blinds, masks, nonces, table, tree, buffer):
+def open_reply(question, coefficients, tails, blinds, masks, nonces, salt, table, tree, buffer):
     """Open: returns (number, length, buffer), where both lengths are the reply's; None after a refusal.
 
-    Tests 6 5 1 6 3 4, then 2, 3 over all lent words (the table too), 8 against the lent root.
+    Tests 6 5 1 6 3 4, then 2, 3 over all lent words (the table too), 8 against the lent root and salt.
     """
     number, q = read_question(question)
     if number:
         return number, None, buffer
     s = q.sizes
     if len(buffer) != reply_bytes_to(q) or not lent_lengths_hold(
-        s, coefficients, tails, blinds, masks, nonces, table, tree
+        s, coefficients, tails, blinds, masks, nonces, salt, table, tree
     ):
         return 2, None, buffer
     if not all(map(elements, (coefficients, tails, blinds, masks, table))):
         return 3, None, buffer
-    if q.root != tree[-DIGEST_BYTES:]:
+    if (q.root, q.salt) != (tree[-DIGEST_BYTES:], salt):
         return 8, None, buffer
     answers = answers_to(s, q.challenges, q.points, coefficients, tails, blinds, masks)
     reply = write_reply(Reply(*answers, *opened_at(s, q.indices, nonces, table, tree)))
     return 0, len(reply), reply
 
 
-def prove(question, kappa, limit, coefficients, tails, blinds, masks, nonces, table, tree, buffer):
+def prove(question, kappa, limit, coefficients, tails, blinds, masks, nonces, salt, table, tree, buffer):
     """Prove: returns (number, length, buffer); the length is the proof's, None after a refusal.
 
-    Tests 6 5 1 6 3, then 2, 3 over all lent words (the table too), 8 against the lent root, 11. The buffer begins
-    with the proof, and its bytes after that stay.
+    Tests 6 5 1 6 3, then 2, 3 over all lent words (the table too), 8 against the lent root and salt, 11. The buffer
+    begins with the proof, and its bytes after that stay.
     """
     number, p = read_proof_question(question, kappa)
     if number:
         return number, None, buffer
     s = p.sizes
     if len(buffer) != proof_bound(s) or not lent_lengths_hold(
-        s, coefficients, tails, blinds, masks, nonces, table, tree
+        s, coefficients, tails, blinds, masks, nonces, salt, table, tree
     ):
         return 2, None, buffer
     if not all(map(elements, (coefficients, tails, blinds, masks, table))):
         return 3, None, buffer
-    if p.root != tree[-DIGEST_BYTES:]:
+    if (p.root, p.salt) != (tree[-DIGEST_BYTES:], salt):
         return 8, None, buffer
     answers = answers_to(s, draw_challenges(p), p.points, coefficients, tails, blinds, masks)
     draws = leaf_draws(p, write_answers(*answers))
@@ -615,8 +624,8 @@ def prove(question, kappa, limit, coefficients, tails, blinds, masks, nonces, ta
 def verify(q, r):
     """The tests that are left for a reply of its length and of elements: (8, 9 or 10, None), or (0, the values)."""
     s = q.sizes
-    strings = [leaf_string(i, values, nonce) for i, (values, nonce) in zip(q.indices, r.leaves)]
-    if root_of(s.h, q.indices, [digest(string) for string in strings], r.nodes) != q.root:
+    strings = [leaf_string(q.salt, i, values, nonce) for i, (values, nonce) in zip(q.indices, r.leaves)]
+    if root_of(s.h, q.salt, q.indices, [digest(string) for string in strings], r.nodes) != q.root:
         return 8, None
     for k in range(s.eta):
         for i, (values, _) in zip(q.indices, r.leaves):

@@ -9,15 +9,14 @@
  *     bench names                the implementations, one to a line
  *     bench sizes                the numbers of the sizes, one to a line
  *     bench once OP SIZE NAME    one call alone, to be counted by valgrind (bench.sh)
- *     bench has OP SIZE NAME     exit status 1 where that implementation cannot do it
  *     bench row OP SIZE          how that call's row of a table begins: sizes, operation, permutations of Keccak
  *     bench once-any N NAME      one interpolation over N points alone, and
  *     bench has-any NAME         exit status 1 where that implementation has no such entry
  *
  * plain_keccak_* and plain_pairs_* are plain C with plain/keccak.c, the latter with PLAIN_PAIRS (plain/plain.h). Built
  * with -DPLAIN_OPENSSL, plain_* is plain C with OpenSSL's hash; built with -DBEFORE, before_* is the older library.
- * Times are processor time of this program. An older library may lack the entries for proofs and for interpolation, and
- * may take questions of version 1 (older.h). */
+ * Times are processor time of this program. An older library may take questions of version 2, without a salt (older.h),
+ * and may lack the entry for interpolation. Permutations are those of strings with a salt. */
 #define _GNU_SOURCE
 #include <inttypes.h>
 #include <pthread.h>
@@ -207,20 +206,14 @@ static void show_stack_row(struct sizes s, size_t base)
 
     print_sizes(&s);
     for (size_t i = 0; i < IMPLEMENTATIONS; i++)
-        for (size_t o = 0; o < STACK_OPERATIONS; o++)
-            if (has_operation(i, stack_operations[o], &s)) {
-                size_t used = stack_of(i, stack_operations[o], s, base);
-                printf("| %zu ", used);
-                bytes[i][o] = (double)used;
-            } else {
-                printf("| ");
-            }
+        for (size_t o = 0; o < STACK_OPERATIONS; o++) {
+            size_t used = stack_of(i, stack_operations[o], s, base);
+            printf("| %zu ", used);
+            bytes[i][o] = (double)used;
+        }
     for (size_t i = 1; i < LIBRARIES; i++)
         for (size_t o = 0; o < STACK_OPERATIONS; o++)
-            if (has_operation(i, stack_operations[o], &s))
-                printf("| %.2f ", bytes[0][o] / bytes[i][o]);
-            else
-                printf("| ");
+            printf("| %.2f ", bytes[0][o] / bytes[i][o]);
     puts("|");
     fflush(stdout);
 }
@@ -323,8 +316,6 @@ int main(int count, char **words)
     find_older();
     if (count == 5 && strcmp(mode, "once") == 0) {
         once(words[2], words[3], words[4]);
-    } else if (count == 5 && strcmp(mode, "has") == 0) {
-        return !has_operation(implementation_named(words[4]), operation_named(words[2]), sizes_numbered(words[3]));
     } else if (count == 4 && strcmp(mode, "row") == 0) {
         enum operation operation = operation_named(words[2]);
         struct instance *a = prepared(*sizes_numbered(words[3]), operation);
@@ -354,7 +345,7 @@ int main(int count, char **words)
             show_stack();
     } else {
         fail("usage: bench [times | proofs | interpolation | growth | stack | names | sizes | once OP SIZE NAME | "
-             "has OP SIZE NAME | row OP SIZE | once-any N NAME | has-any NAME]");
+             "row OP SIZE | once-any N NAME | has-any NAME]");
     }
     return 0;
 }

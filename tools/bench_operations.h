@@ -19,12 +19,8 @@ ENTRIES(plain);
 ENTRIES(plain_keccak);
 ENTRIES(plain_pairs);
 
-#pragma weak before_prove
-#pragma weak before_check_proof
-
 #define ROUNDS 25        /* runs of which least and median are taken */
 #define RUN_SECONDS 2e-3 /* a run repeats the call for about so long */
-#define COUNTER_BYTES 4
 
 /* DRAWN is the conversation's check of a proof's reply, under the question so drawn. */
 enum operation { COMMIT, OPEN, CHECK, LENGTH, PROVE, PROVE_8, PROVE_16, CHECK_PROOF, DRAWN, OPERATIONS };
@@ -83,6 +79,8 @@ static const struct sizes all_sizes[] = {
     {10, 16, 8, 4, 24, 2, 3, 0},   {8, 4, 4, 4, 16, 1, 1, 0},
     /* as many blinding rows as points: three of the sizes above, the second with as many rows in all */
     {8, 16, 8, 8, 16, 2, 2, 2},    {12, 56, 16, 16, 64, 4, 8, 8}, {10, 16, 8, 4, 24, 2, 3, 3},
+    /* a salt makes leaf strings of 18 to 25 and of 52 to 59 values a block longer: this one, and those of 16 rows */
+    {10, 50, 8, 8, 32, 4, 4, 0},
 };
 
 #define SIZES (sizeof all_sizes / sizeof all_sizes[0])
@@ -104,13 +102,20 @@ static uint32_t call(const struct implementation *with, enum operation operation
     case CHECK_PROOF:
         return check_proof_with(with, a, kappas[operation]);
     case DRAWN:
-        return check_bytes_with(with, a, a->proof + COUNTER_BYTES, a->proof_length - COUNTER_BYTES);
+        return check_drawn_with(with, a);
     default:
         return reply_length_with(with, a);
     }
 }
 
-/* Which implementations are older: by the answer to a question of now. */
+/* By a header alone, which is too short for a question: what is counted as instructions of a call grows by little. */
+static int takes_version(const struct implementation *with, const uint8_t *question)
+{
+    uint8_t none[1] = {0};
+
+    return with->check_proof(question, HEADER_BYTES, 0, none, 0, none, 0) == 6;
+}
+
 static void find_older(void)
 {
     struct sizes least = {1, 1, 1, 1, 1, 1, 1, 0};
@@ -118,24 +123,17 @@ static void find_older(void)
     for (size_t i = 0; i < IMPLEMENTATIONS; i++) {
         struct instance *a = make_instance(least);
         ask(a);
-        implementations[i].older = reply_length_with(&implementations[i], a) != 0;
-        if (implementations[i].older && reply_length_with(&implementations[i], a) != 0)
-            fail("a library takes neither questions of version 2 nor of version 1");
+        implementations[i].older = !takes_version(&implementations[i], a->proof_question);
+        if (implementations[i].older && !takes_version(&implementations[i], a->older_proof_question))
+            fail("a library takes neither questions of version 3 nor of version 2");
         free_instance(a);
     }
 }
 
-/* An older library has no blinding rows, and may lack what a proof needs. It draws by another header, and so would
- * try other counters. */
-static int has_operation(size_t implementation, enum operation operation, const struct sizes *s)
+/* An older library draws from other strings, and so would try other counters. */
+static int has_operation(size_t implementation, enum operation operation)
 {
-    const struct implementation *with = &implementations[implementation];
-
-    if (with->older && (s->beta > 0 || operation == PROVE_8 || operation == PROVE_16))
-        return 0;
-    if (operation == CHECK_PROOF)
-        return with->check_proof != NULL && with->prove != NULL;
-    return operation < PROVE || operation == DRAWN || with->prove != NULL;
+    return !implementations[implementation].older || (operation != PROVE_8 && operation != PROVE_16);
 }
 
 /* The question that the proof stands for takes the place of the drawn one. */
@@ -147,37 +145,35 @@ static void take_drawn_question(struct instance *a)
     indices = a->question + a->question_bytes - 2 * a->s.l;
     for (uint32_t b = 0; b < a->s.l; b++)
         a->indices[b] = (uint32_t)(indices[2 * b] | indices[2 * b + 1] << 8);
+    a->reply_bytes = a->proof_length - COUNTER_BYTES;
     renew_older(a);
 }
 
-/* Older libraries check proofs of their own. */
-static void make_older_proofs(struct instance *a)
+/* By plain C, and by older libraries, which have trees, replies and proofs of their own. */
+static void prepare(struct instance *a, enum operation operation)
 {
     for (size_t i = 0; i < IMPLEMENTATIONS; i++)
-        if (implementations[i].older && has_operation(i, PROVE, &a->s) && call(&implementations[i], PROVE, a) != 0)
-            fail("proving was refused");
+        if ((i == PLAIN_C || implementations[i].older) && call(&implementations[i], operation, a) != 0)
+            fail("what comes before a call was refused");
 }
 
-/* An instance on which plain C has done what comes before the operation. It depends on nothing but the sizes. */
+/* An instance on which what comes before the operation is done. It depends on nothing but the sizes. */
 static struct instance *prepared(struct sizes s, enum operation operation)
 {
-    const struct implementation *with = &implementations[PLAIN_C];
     struct instance *a;
 
     draw_again();
     a = make_instance(s);
     if (operation > COMMIT) {
-        if (call(with, COMMIT, a) != 0)
-            fail("committing was refused");
+        prepare(a, COMMIT);
         ask(a);
     }
-    if (operation > OPEN && operation < PROVE && call(with, OPEN, a) != 0)
-        fail("opening was refused");
+    if (operation > OPEN && operation < PROVE)
+        prepare(a, OPEN);
     if (operation > PROVE_16) {
-        if (call(with, PROVE, a) != 0)
-            fail("proving was refused");
+        prepare(a, PROVE);
         take_drawn_question(a);
-        make_older_proofs(a);
+        prepare(a, OPEN); /* the older reply to it */
     }
     return a;
 }
@@ -206,40 +202,73 @@ static struct written written_by(struct instance *a, enum operation operation)
     }
 }
 
-/* Clears what an operation writes, or copies it out; returns its bytes. */
-static size_t outcome(struct instance *a, enum operation operation, uint8_t *copy)
+/* The part of it that no hashing goes into, and that an older library leaves, too: of committing the table, of opening
+ * answers and records, of proving the evaluation answers. */
+static struct written unhashed_by(struct instance *a, enum operation operation, int older)
 {
-    struct written w = written_by(a, operation);
+    const struct sizes *s = &a->s;
+    size_t answer = 4 * width_of(s);
 
-    if (copy == NULL) {
-        memset(w.first, 0, w.bytes);
-        memset(w.second, 0, w.more);
-    } else {
-        memcpy(copy, w.first, w.bytes);
-        memcpy(copy + w.bytes, w.second, w.more);
+    switch (operation) {
+    case COMMIT:
+        return (struct written){a->table, &a->length, 4 * a->table_count, 0};
+    case OPEN:
+        return (struct written){older ? a->older_reply : a->reply, &a->length,
+                                answer * (s->eta + s->m) + record_bytes(s) * s->l, 8};
+    case PROVE:
+        return (struct written){(older ? a->older_proof : a->proof) + COUNTER_BYTES + answer * s->eta, &a->length,
+                                answer * s->m, 0};
+    default:
+        return written_by(a, operation);
     }
-    return w.bytes + w.more;
 }
 
-/* All implementations have to leave the same, but for the proofs of older ones. */
+static void clear(struct written w)
+{
+    memset(w.first, 0, w.bytes);
+    memset(w.second, 0, w.more);
+}
+
+static uint8_t *copy_of(struct written w)
+{
+    uint8_t *copy = allocate(w.bytes + w.more);
+
+    memcpy(copy, w.first, w.bytes);
+    memcpy(copy + w.bytes, w.second, w.more);
+    return copy;
+}
+
+static int is_copy(const uint8_t *copy, struct written w)
+{
+    return memcmp(copy, w.first, w.bytes) == 0 && memcmp(copy + w.bytes, w.second, w.more) == 0;
+}
+
+static void call_honest(size_t implementation, enum operation operation, struct instance *a, struct written w)
+{
+    clear(w);
+    if (call(&implementations[implementation], operation, a) != 0)
+        fail("an honest call was refused");
+}
+
+/* All implementations have to leave what plain C leaves; older ones the part of it that no hashing goes into. */
 static void compare(struct instance *a, enum operation operation)
 {
-    size_t bytes = outcome(a, operation, NULL);
-    uint8_t *first = allocate(bytes), *other = allocate(bytes);
+    uint8_t *whole, *unhashed;
 
+    call_honest(PLAIN_C, operation, a, written_by(a, operation));
+    whole = copy_of(written_by(a, operation));
+    unhashed = copy_of(unhashed_by(a, operation, 0));
     for (size_t i = 0; i < IMPLEMENTATIONS; i++) {
-        int other_proof = implementations[i].older && operation == PROVE;
-        if (!has_operation(i, operation, &a->s))
+        int older = implementations[i].older;
+        struct written w = older ? unhashed_by(a, operation, 1) : written_by(a, operation);
+        if (!has_operation(i, operation))
             continue;
-        outcome(a, operation, NULL);
-        if (call(&implementations[i], operation, a) != 0)
-            fail("an honest call was refused");
-        outcome(a, operation, i == 0 ? first : other);
-        if (i > 0 && !other_proof && memcmp(first, other, bytes) != 0)
+        call_honest(i, operation, a, w);
+        if (!is_copy(older ? unhashed : whole, w))
             fail("the implementations differ");
     }
-    free(first);
-    free(other);
+    free(whole);
+    free(unhashed);
 }
 
 /* ---- Permutations of Keccak, from the lengths of the strings hashed ------------------------------- */
@@ -260,7 +289,7 @@ static uint64_t permutations_of_counter(const struct instance *a)
  * each counter, and what a draw has beyond its first block. */
 static uint64_t permutations_of_draws(const struct instance *a, uint64_t counters)
 {
-    return permutations_of(1 + HEADER_BYTES + DIGEST_BYTES) + draw_string(a) / RATE_BYTES +
+    return permutations_of(1 + NAMING_BYTES) + draw_string(a) / RATE_BYTES +
            counters * permutations_of_counter(a) + (DIGEST_BYTES + 8 * a->s.l - 1) / RATE_BYTES;
 }
 
@@ -277,8 +306,8 @@ static uint64_t permutations(const struct instance *a, enum operation operation)
 {
     const struct sizes *s = &a->s;
     uint64_t leaves = (uint64_t)1 << s->h;
-    uint64_t leaf = permutations_of(3 + 4 * record_of(s) + 32);
-    uint64_t node = permutations_of(1 + 2 * DIGEST_BYTES);
+    uint64_t leaf = permutations_of(1 + SALT_BYTES + 2 + record_bytes(s));
+    uint64_t node = permutations_of(1 + SALT_BYTES + 2 * DIGEST_BYTES);
 
     switch (operation) {
     case COMMIT:
@@ -354,7 +383,7 @@ static void measure(struct instance *a, enum operation operation, int (*has)(siz
 
     for (size_t i = 0; i < IMPLEMENTATIONS; i++) {
         found[i] = (struct timing){0, 0};
-        if (has(i) && has_operation(i, operation, &a->s))
+        if (has(i) && has_operation(i, operation))
             had[count++] = i;
     }
     measure_in_turn(run_measured, &what, calls_of_run(run_measured(0, &what, 1)), had, count, found);

@@ -7,34 +7,30 @@
 #define PERMUTATION_ROUNDS 501 /* pairs of runs of which the median is a permutation's time */
 #define PERMUTATION_CALLS 10
 
-/* All sizes, and one at which a counter ends its block, and the padding begins another: each takes two permutations. */
-#define PROOF_SIZES (SIZES + 1)
-
-static const struct sizes over_border = {8, 4, 36, 1, 16, 2, 1, 0};
-
-static struct sizes proof_sizes(size_t n)
-{
-    return n < SIZES ? all_sizes[n] : over_border;
-}
-
 /* What the check refuses with an 8: it has then hashed all that it hashes, and done nothing after it. */
 static struct instance *with_other_root(struct sizes s)
 {
     struct instance *a = prepared(s, CHECK);
 
     a->question[HEADER_BYTES] ^= 1;
-    renew_older(a);
+    a->older_question[HEADER_BYTES] ^= 1;
     for (size_t i = 0; i < IMPLEMENTATIONS; i++)
         if (call(&implementations[i], CHECK, a) != 8)
             fail("another root was not refused");
     return a;
 }
 
-/* Seconds of one permutation by each implementation: what the check's 8 takes longer where one word more makes each
- * leaf's string a block longer, by the permutations that it has more; the median of runs on both, one after the other. */
+/* The implementations that try as many counters as the library does. */
+static int in_shares(size_t implementation)
+{
+    return in_growth(implementation) && has_operation(implementation, PROVE_16);
+}
+
+/* Seconds of one permutation by each of these: what the check's 8 takes longer where one word more makes each leaf's
+ * string a block longer, by the permutations that it has more; the median of runs on both, one after the other. */
 static void time_permutations(double *seconds)
 {
-    struct sizes s = {7, 24, 1, 1, 64, 1, 1, 0}; /* a leaf's string has 135 bytes, and the block's last is padding */
+    struct sizes s = {7, 16, 1, 1, 64, 1, 1, 0}; /* a leaf's string has 135 bytes, and the block's last is padding */
     static double found[PERMUTATION_ROUNDS];
     struct instance *shorter = with_other_root(s), *longer;
     double more;
@@ -43,6 +39,8 @@ static void time_permutations(double *seconds)
     longer = with_other_root(s);
     more = (double)(permutations(longer, CHECK) - permutations(shorter, CHECK));
     for (size_t i = 0; i < IMPLEMENTATIONS; i++) {
+        if (!in_shares(i))
+            continue;
         for (size_t r = 0; r < PERMUTATION_ROUNDS; r++) {
             double first = run(&implementations[i], CHECK, shorter, PERMUTATION_CALLS);
             found[r] = (run(&implementations[i], CHECK, longer, PERMUTATION_CALLS) - first) / more;
@@ -88,12 +86,6 @@ struct proof_times {
     uint64_t tried, draws;
 };
 
-static int in_shares(size_t implementation)
-{
-    return in_growth(implementation) && has_operation(implementation, PROVE_16, &over_border) &&
-           has_operation(implementation, CHECK_PROOF, &over_border);
-}
-
 static void show_shares_row(const struct proof_times *t, const double *permutation)
 {
     printf("| %" PRIu64 " | %" PRIu64 " ", t->tried, t->draws);
@@ -129,24 +121,39 @@ static void show_shares(const struct proof_times *times)
         if (in_shares(i))
             printf("---|---|---|");
     puts("");
-    for (size_t n = 0; n < PROOF_SIZES; n++) {
-        struct sizes s = proof_sizes(n);
-        print_sizes(&s);
+    for (size_t n = 0; n < SIZES; n++) {
+        print_sizes(&all_sizes[n]);
         show_shares_row(&times[n], permutation);
     }
 }
 
+/* At one of the sizes a counter ends its block, and the padding begins another: each takes two permutations. */
+static void expect_long_counter(void)
+{
+    uint64_t most = 0;
+
+    for (size_t n = 0; n < SIZES; n++) {
+        struct instance *a = make_instance(all_sizes[n]);
+        uint64_t permutations = permutations_of_counter(a);
+        most = permutations > most ? permutations : most;
+        free_instance(a);
+    }
+    if (most != 2)
+        fail("at no size a counter takes two permutations");
+}
+
 static void show_proofs(void)
 {
-    static struct proof_times times[PROOF_SIZES];
+    static struct proof_times times[SIZES];
 
+    expect_long_counter();
     printf("\nProofs. " TIMES_CAPTION " `prove` has kappa 0; `check, drawn` is the conversation's check of the reply in "
            "that proof, under the question so drawn. Permutations of a `prove` are those of its draws.\n\n",
            ROUNDS);
     printf(SIZES_HEAD "| operation | permutations | kappa | counters tried ");
     end_times_head(SIZES_COLUMNS + 4);
-    for (size_t n = 0; n < PROOF_SIZES; n++)
-        times[n].tried = show_proof_rows(proof_sizes(n), times[n].least, &times[n].draws);
+    for (size_t n = 0; n < SIZES; n++)
+        times[n].tried = show_proof_rows(all_sizes[n], times[n].least, &times[n].draws);
     show_shares(times);
 }
 

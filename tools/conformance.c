@@ -35,7 +35,7 @@ enum place {
     PLACES
 };
 
-#define SLICES 9
+#define SLICES 10
 #define GUARD 64
 #define GUARD_BYTE 0xa5
 #define ARENA ((size_t)16 << 20)
@@ -165,11 +165,11 @@ static const struct entry {
     int writes_length;
     size_t count, widths[SLICES];
 } entries[] = {
-    {'c', 7, 0, 7, {4, 4, 4, 4, 1, 4, 1}},
+    {'c', 7, 0, 8, {4, 4, 4, 4, 1, 1, 4, 1}},
     {'l', 0, 1, 1, {1}},
-    {'o', 0, 1, 9, {1, 4, 4, 4, 4, 4, 1, 1, 1}},
+    {'o', 0, 1, 10, {1, 4, 4, 4, 4, 4, 1, 1, 1, 1}},
     {'k', 0, 0, 3, {1, 1, 1}},
-    {'p', 2, 1, 9, {1, 4, 4, 4, 4, 4, 1, 1, 1}},
+    {'p', 2, 1, 10, {1, 4, 4, 4, 4, 4, 1, 1, 1, 1}},
     {'q', 1, 0, 3, {1, 1, 1}},
     {'i', 0, 0, 3, {4, 4, 4}},
 };
@@ -187,15 +187,15 @@ static uint32_t call(int kind, const uint32_t n[NUMBERS], uint64_t *length)
 {
     if (kind == 'c')
         return smallwood_commit(n[0], n[1], n[2], n[3], n[4], n[5], n[6], WORDS(0), WORDS(1),
-                                WORDS(2), WORDS(3), BYTES(4), WORDS(5), BYTES(6));
+                                WORDS(2), WORDS(3), BYTES(4), BYTES(5), WORDS(6), BYTES(7));
     if (kind == 'l')
         return smallwood_reply_length(BYTES(0), length);
     if (kind == 'o')
         return smallwood_open(BYTES(0), WORDS(1), WORDS(2), WORDS(3), WORDS(4), WORDS(5), BYTES(6),
-                              BYTES(7), BYTES(8), length);
+                              BYTES(7), BYTES(8), BYTES(9), length);
     if (kind == 'p')
         return smallwood_prove(BYTES(0), n[0], n[1], WORDS(1), WORDS(2), WORDS(3), WORDS(4), WORDS(5),
-                               BYTES(6), BYTES(7), BYTES(8), length);
+                               BYTES(6), BYTES(7), BYTES(8), BYTES(9), length);
     if (kind == 'q')
         return smallwood_check_proof(BYTES(0), n[0], BYTES(1), BYTES(2));
     if (kind == 'i')

@@ -37,9 +37,9 @@ KINDS = {
 }  # fmt: skip
 FLAGS = {1: "bytes beside a slice changed", 2: "the outcome depends on where the slices stand"}
 
-COMMIT_SLICES = ("coefficients", "tails", "blinds", "masks", "nonces", "table", "tree")
+COMMIT_SLICES = ("coefficients", "tails", "blinds", "masks", "nonces", "salt", "table", "tree")
 LENGTH_SLICES = ("question",)
-OPEN_SLICES = ("question", "coefficients", "tails", "blinds", "masks", "table", "nonces", "tree", "buffer")
+OPEN_SLICES = ("question", "coefficients", "tails", "blinds", "masks", "table", "nonces", "salt", "tree", "buffer")
 CHECK_SLICES = ("question", "reply", "buffer")
 PROOF_SLICES = ("question", "proof", "buffer")
 INTERPOLATE_SLICES = ("points", "values", "coefficients")

@@ -17,6 +17,35 @@ from conformance import DRAWN, EVERY, Broken, Caller, call_groups, program_diffe
 
 PLAIN = Path(__file__).resolve().parent / "plain"
 
+SALTED = "strings[0] = mark;\n        memcpy(strings + 1, salt, SALT_BYTES);"
+
+
+def salted(mark, begun):
+    """The beginning of strings where that of the strings with this mark is another."""
+    return "if (mark == %s) {\n %s\n } else {\n %s\n }" % (mark, begun, SALTED)
+
+
+def leaf_strings(name, prefix, begun):
+    """Edits that let leaf strings begin otherwise, with so many bytes before the index."""
+    return (
+        (name, "tree.h", "#define LEAF_PREFIX (SALTED_PREFIX +", "#define LEAF_PREFIX (%s +" % prefix),
+        (name, "tree.h", "to[SALTED_PREFIX] =", "to[%s] =" % prefix),
+        (name, "tree.h", "to[SALTED_PREFIX + 1] =", "to[%s + 1] =" % prefix),
+        (name, "tree.h", SALTED, salted("LEAF_MARK", begun)),
+    )
+
+
+def node_strings(name, prefix, begun):
+    """The same for node strings, with so many bytes before the children."""
+    return (
+        (name, "tree.h", "#define NODE_STRING (SALTED_PREFIX +", "#define NODE_STRING (%s +" % prefix),
+        (name, "tree.h", "memcpy(to + SALTED_PREFIX, left,", "memcpy(to + %s, left," % prefix),
+        (name, "tree.h", "memcpy(to + SALTED_PREFIX + DIGEST_BYTES, right,",
+         "memcpy(to + %s + DIGEST_BYTES, right," % prefix),
+        (name, "tree.h", SALTED, salted("NODE_MARK", begun)),
+    )  # fmt: skip
+
+
 # (what is wrong, file of plain/, text that stands once in it, text in its place). Some edits follow one another with
 # the same name: they make one fault.
 FAULTS = (
@@ -66,9 +95,9 @@ FAULTS = (
     ("question: equal indices are taken", "question.h",
      "indices[b] <= q->opened", "indices[b] < q->opened"),
     ("question: sizes before mark", "question.h",
-     "\\2\", 5) != 0)", "\\2\", 5) != 0 && bytes[5] != 0)"),
+     "\\3\", 5) != 0)", "\\3\", 5) != 0 && bytes[5] != 0)"),
     ("question: the version's upper byte is not read", "question.h",
-     "\\2\", 5) != 0)", "\\2\", 4) != 0)"),
+     "\\3\", 5) != 0)", "\\3\", 4) != 0)"),
     ("question: elements after indices", "question.h",
      "return 3;\n    q->opened.count", "number = 3;\n    q->opened.count"),
     ("question: elements after indices", "question.h",
@@ -79,15 +108,8 @@ FAULTS = (
      "copy(factors[k], from_power_0 + 1,", "copy(factors[k], from_power_0,"),
     ("all: batching from power 0", "check.h",
      "factors[0] + 1, MAX_ROWS + 1,", "factors[0], MAX_ROWS + 1,"),
-    ("all: leaf without first byte", "tree.h",
-     "#define LEAF_PREFIX 3", "#define LEAF_PREFIX 2"),
-    ("all: leaf without first byte", "tree.h",
-     "to[0] = LEAF_MARK;\n    to[1] = (uint8_t)index;\n    to[2] =", "to[0] = (uint8_t)index;\n    to[1] ="),
-    ("all: node without first byte", "tree.h",
-     "#define NODE_STRING (1 + 2 * DIGEST_BYTES)", "#define NODE_STRING (2 * DIGEST_BYTES)"),
-    ("all: node without first byte", "tree.h",
-     "to[0] = NODE_MARK;\n    memcpy(to + 1, left, DIGEST_BYTES);\n    memcpy(to + 1 + DIGEST_BYTES,",
-     "memcpy(to, left, DIGEST_BYTES);\n    memcpy(to + DIGEST_BYTES,"),
+    *leaf_strings("all: leaf without first byte", "SALT_BYTES", "memcpy(strings, salt, SALT_BYTES);"),
+    *node_strings("all: node without first byte", "SALT_BYTES", "memcpy(strings, salt, SALT_BYTES);"),
     ("all: siblings that can be computed are listed", "tree.h",
      "return at + 1 < level->count &&", "return at + 1 < level->count && level->count > 2 &&"),
     ("all: power 0 of 0 is 0", "field.h",
@@ -107,11 +129,11 @@ FAULTS = (
     ("commit: writes nothing", "commit.h",
      "    fill_table(&s", "    return 0;\n fill_table(&s"),
     ("commit: leaf 4095 is hashed as 0", "tree.h",
-     "to[1] = (uint8_t)index;", "to[1] = (uint8_t)(index == 4095 ? 0 : index);"),
+     "to[SALTED_PREFIX] = (uint8_t)index;", "to[SALTED_PREFIX] = (uint8_t)(index == 4095 ? 0 : index);"),
     ("open: table not tested", "open.h",
      " ||\n        !are_elements(table, table_count))", ")"),
     ("open: the root is not compared", "open.h",
-     "if (memcmp(q.root,", "if (0 && memcmp(q.root,"),
+     "if (!names(&q, tree + tree_bytes - DIGEST_BYTES,", "if (!names(&q, q.root,"),
     ("length: the bound", "plain.c",
      "*length = exact_size(&q);", "*length = reply_size(&q.sizes, (size_t)q.sizes.l * q.sizes.h);"),
     ("length: one node too many", "plain.c",
@@ -153,6 +175,7 @@ FAULTS = (
      "to = store_records(&q, table, nonces, to);",
      "for (uint32_t b = 0; b < s->l; b++) {\n uint32_t i = q.opened.indices[b];\n"
      " uint8_t string[MAX_LEAF_STRING], digest[32];\n"
+     "put_salts(string, LEAF_PREFIX + record_size(s), 1, LEAF_MARK, salt);\n"
      "put_leaf(string, i, table + (size_t)i * s->record, s->record, nonces + 32 * (size_t)i);\n"
      "hash(string, LEAF_PREFIX + record_size(s), 1, digest);\n if (memcmp(digest, tree + 32 * (size_t)i, 32))\n"
      " return 8;\n }\nto = store_records(&q, table, nonces, to);"),
@@ -172,7 +195,7 @@ FAULTS = (
     ("all: the second of two strings ends as the first", "keccak.c",
      "last_lane(first, length), last_lane(second,", "last_lane(first, length), last_lane(first,"),
     ("all: the last of an odd number of strings is not hashed", "tree.h",
-     "for (; count > 0;", "for (; 0;"),
+     "for (; count > 0; count--, strings += length, digests", "for (; 0; count--, strings += length, digests"),
     ("all: the last coefficients, fewer than a span, are left out", "polynomials.h",
      "if (rest > 0)", "if (0)"),
     ("all: spans are taken one power too near", "polynomials.h",
@@ -306,7 +329,7 @@ PROOF_FAULTS = (
      "words + LONG_WORD * k", "words + 0 * k"),
     ("draws: challenges after another first byte", "draw.h",
      "#define CHALLENGE_MARK 0x02", "#define CHALLENGE_MARK 0x03"),
-    ("draws: challenges without the root's last byte", "draw.h",
+    ("draws: challenges without the salt's last byte", "draw.h",
      "hash(string, sizeof string, 1,", "hash(string, sizeof string - 1, 1,"),
     ("draws: leaves after another first byte", "draw.h",
      "#define DRAW_MARK 0x03", "#define DRAW_MARK 0x02"),
@@ -323,7 +346,7 @@ PROOF_FAULTS = (
     ("draws: evaluation answers are left out", "proof.h",
      "hash_draws(&d, answers + answers_size(s));", "hash_draws(&d, answers + 4 * s->width * s->eta);"),
     ("draws: points are left out", "draw.h",
-     "return d->string + 1 + question_bytes;", "return d->string + 1 + HEADER_BYTES + DIGEST_BYTES;"),
+     "return d->string + 1 + question_bytes;", "return d->string + 1 + NAMING_BYTES;"),
     ("draws: the next blocks of output are the first", "keccak.c",
      "memcpy(out, state, RATE_BYTES);\n        permute(state);", "memcpy(out, state, RATE_BYTES);"),
     ("prove: the second of two counters is the first", "keccak.c",
@@ -332,8 +355,8 @@ PROOF_FAULTS = (
      "load_words(&counter, proof, 1);", "load_words(&counter, proof, 1);\n counter = __builtin_bswap32(counter);"),
     ("proof: kappa after the question's length", "question.h",
      "if (kappa > MAX_KAPPA)\n        return 1;\n"
-     "    if (length != HEADER_BYTES + DIGEST_BYTES + 4 * s->m)\n        return 6;",
-     "if (length != HEADER_BYTES + DIGEST_BYTES + 4 * s->m)\n return 6;\n if (kappa > MAX_KAPPA)\n return 1;"),
+     "    if (length != NAMING_BYTES + 4 * s->m)\n        return 6;",
+     "if (length != NAMING_BYTES + 4 * s->m)\n return 6;\n if (kappa > MAX_KAPPA)\n return 1;"),
     ("proof: kappa before mark", "question.h",
      "number = read_header(bytes, s);\n    if (number != 0)\n        return number;\n"
      "    if (kappa > MAX_KAPPA)\n        return 1;",
@@ -345,9 +368,8 @@ PROOF_FAULTS = (
     ("proof: kappa has a sign", "question.h",
      "if (kappa > MAX_KAPPA)", "if ((int32_t)kappa > MAX_KAPPA)"),
     ("proof: a conversation's question is taken too", "question.h",
-     "if (length != HEADER_BYTES + DIGEST_BYTES + 4 * s->m)",
-     "if (length != HEADER_BYTES + DIGEST_BYTES + 4 * s->m &&\n"
-     " length != HEADER_BYTES + DIGEST_BYTES + 4 * (s->eta + s->m) + 2 * s->l)"),
+     "if (length != NAMING_BYTES + 4 * s->m)",
+     "if (length != NAMING_BYTES + 4 * s->m &&\n length != NAMING_BYTES + 4 * (s->eta + s->m) + 2 * s->l)"),
     ("proof: points are not tested", "question.h",
      "return are_elements(q->points, s->m) ? 0 : 3;", "return 0;"),
     ("proof: the counter is read first", "proof.h",
@@ -380,13 +402,13 @@ PROOF_FAULTS = (
     ("prove: a buffer without room for the counter", "proof.h",
      "if (proof_bytes != COUNTER_BYTES + reply_size(", "if (proof_bytes != reply_size("),
     ("prove: 11 before 8", "proof.h",
-     "if (memcmp(q.root,", "if (limit == 0)\n return 11;\n if (memcmp(q.root,"),
+     "if (!names(&q,", "if (limit == 0)\n return 11;\n if (!names(&q,"),
     ("prove: 11 for 0 only", "proof.h",
      "        return 11;", "        return limit == 0 ? 11 : 0;"),
     ("prove: table not tested", "proof.h",
      " ||\n        !are_elements(table, table_count))", ")"),
     ("prove: the root is not compared", "proof.h",
-     "if (memcmp(q.root,", "if (0 && memcmp(q.root,"),
+     "if (!names(&q, tree + tree_bytes - DIGEST_BYTES,", "if (!names(&q, q.root,"),
     ("prove: the counter is not written", "proof.h",
      "to = store_words(proof, &counter, 1);", "to = proof + COUNTER_BYTES;"),
     ("prove: the counter after the reply", "proof.h",
@@ -515,14 +537,14 @@ BLINDING_FAULTS = (
      "struct lent lent = {coefficients, tails, blinds, masks};",
      "static const uint32_t none[4096];\n struct lent lent = {coefficients, tails, none, masks};"),
     ("question: version 1 is taken too", "question.h",
-     "\\2\", 5) != 0)", "\\2\", 5) != 0 && memcmp(bytes, \"SWQ\\1\", 5) != 0)"),
+     "\\3\", 5) != 0)", "\\3\", 5) != 0 && memcmp(bytes, \"SWQ\\1\", 5) != 0)"),
     ("question: version 1 is taken instead", "question.h",
-     "\\2\", 5) != 0)", "\\1\", 5) != 0)"),
+     "\\3\", 5) != 0)", "\\1\", 5) != 0)"),
     ("question: 14 bytes are a header", "question.h",
      "if (length < HEADER_BYTES)\n        return 6;\n    number = read_header(bytes, s);\n    if (number != 0)\n"
-     "        return number;\n    if (length != HEADER_BYTES + DIGEST_BYTES + 4 * (s->eta",
+     "        return number;\n    if (length != NAMING_BYTES + 4 * (s->eta",
      "if (length < HEADER_BYTES - 1)\n return 6;\n number = read_header(bytes, s);\n if (number != 0)\n"
-     " return number;\n if (length != HEADER_BYTES + DIGEST_BYTES + 4 * (s->eta"),
+     " return number;\n if (length != NAMING_BYTES + 4 * (s->eta"),
     ("question: beta before m", "question.h",
      "s->m = bytes[13];\n    s->beta = bytes[14];", "s->m = bytes[14];\n    s->beta = bytes[13];"),
     ("question: beta's lower four bits", "question.h",
@@ -536,6 +558,204 @@ BLINDING_FAULTS = (
      "copy(d->string + 1, question, question_bytes);\n d->string[HEADER_BYTES] = 0;"),
     ("program: splits at 14 bytes", "program.c",
      "#define HEADER_BYTES 15", "#define HEADER_BYTES 14"),
+)  # fmt: skip
+
+
+# The same for the salt.
+HASHED = "hash(string, sizeof string, 1, words);"
+
+BEGUN = "copy(d->string + 1, question, question_bytes);\n    return d->string + 1 + question_bytes;"
+
+NAMES = "memcmp(q->root, root, DIGEST_BYTES) == 0 && memcmp(q->salt, salt, SALT_BYTES) == 0"
+
+NAMED = "if (!names(&q, tree + tree_bytes - DIGEST_BYTES, salt))"
+
+LENGTH_2 = "salt_bytes, table_count, tree_bytes))\n        return 2;"
+
+
+SALT_FAULTS = (
+    *leaf_strings("strings: leaves without salt", "1", "strings[0] = mark;"),
+    *node_strings("strings: nodes without salt", "1", "strings[0] = mark;"),
+    *leaf_strings("strings: leaves with salt after the index", "1",
+                  "strings[0] = mark;\n memcpy(strings + 3, salt, SALT_BYTES);")[1:],
+    ("strings: salt before the first byte", "tree.h",
+     SALTED, "memcpy(strings, salt, SALT_BYTES);\n strings[SALT_BYTES] = mark;"),
+    ("strings: leaves with salt before the first byte", "tree.h",
+     SALTED, salted("LEAF_MARK", "memcpy(strings, salt, SALT_BYTES);\n strings[SALT_BYTES] = mark;")),
+    ("strings: nodes with salt before the first byte", "tree.h",
+     SALTED, salted("NODE_MARK", "memcpy(strings, salt, SALT_BYTES);\n strings[SALT_BYTES] = mark;")),
+    ("strings: 31 bytes of the salt", "tree.h",
+     SALTED, "strings[0] = mark;\n memcpy(strings + 1, salt, SALT_BYTES - 1);\n strings[SALT_BYTES] = 0;"),
+    ("strings: the salt without its first byte", "tree.h",
+     SALTED, "strings[0] = mark;\n strings[1] = 0;\n memcpy(strings + 2, salt + 1, SALT_BYTES - 1);"),
+    ("strings: the salt backwards", "tree.h",
+     SALTED, "strings[0] = mark;\n for (size_t i = 0; i < SALT_BYTES; i++)\n strings[1 + i] = salt[31 - i];"),
+    ("strings: nodes with a salt of zeros", "tree.h",
+     SALTED, salted("NODE_MARK", "strings[0] = mark;\n memset(strings + 1, 0, SALT_BYTES);")),
+    ("strings: leaves with a salt of zeros", "tree.h",
+     SALTED, salted("LEAF_MARK", "strings[0] = mark;\n memset(strings + 1, 0, SALT_BYTES);")),
+    ("strings: the first salt for all calls", "tree.h",
+     SALTED, "static uint8_t kept[SALT_BYTES];\n static int is_kept;\n if (!is_kept++)\n"
+     " memcpy(kept, salt, SALT_BYTES);\n strings[0] = mark;\n memcpy(strings + 1, kept, SALT_BYTES);"),
+    ("commit: no salt in the second of two leaves", "commit.h",
+     "put_salts(strings, length, 2, LEAF_MARK, salt);",
+     "memset(strings, 0, sizeof strings);\n put_salts(strings, length, 1, LEAF_MARK, salt);"),
+    ("commit: no salt in the second of two nodes", "tree.h",
+     "put_salts(strings, NODE_STRING, 2, NODE_MARK, salt);",
+     "memset(strings, NODE_MARK, sizeof strings);\n put_salts(strings, NODE_STRING, 1, NODE_MARK, salt);"),
+    ("check: no salt in the last opened leaf", "check.h",
+     "put_salts(strings, length, s->l, LEAF_MARK, q->salt);",
+     "memset(strings, 0, sizeof strings);\n put_salts(strings, length, s->l - 1, LEAF_MARK, q->salt);"),
+    ("check: no salt in the last of 64 nodes", "tree.h",
+     "put_salts(strings, NODE_STRING, opened->count, NODE_MARK, salt);",
+     "memset(strings, NODE_MARK, sizeof strings);\n"
+     " put_salts(strings, NODE_STRING, opened->count < 64 ? opened->count : 63, NODE_MARK, salt);"),
+    ("check: no salt above the first level of nodes", "tree.h",
+     "level.count = above;\n    }\n}",
+     "level.count = above;\n memset(strings, 0, sizeof strings);\n for (uint32_t i = 0; i < above; i++)\n"
+     " strings[NODE_STRING * i] = NODE_MARK;\n    }\n}"),
+    ("check: the root for salt", "question.h",
+     "q->salt = q->root + DIGEST_BYTES;", "q->salt = q->root;"),
+    ("check: the salt from a byte too far", "question.h",
+     "q->salt = q->root + DIGEST_BYTES;", "q->salt = q->root + DIGEST_BYTES + 1;"),
+    ("check: the salt from a byte too near", "question.h",
+     "q->salt = q->root + DIGEST_BYTES;", "q->salt = q->root + DIGEST_BYTES - 1;"),
+    ("question: salt before root", "question.h",
+     "q->root = bytes + HEADER_BYTES;\n    q->salt = q->root + DIGEST_BYTES;",
+     "q->salt = bytes + HEADER_BYTES;\n q->root = q->salt + SALT_BYTES;"),
+    ("question: no salt", "question.h",
+     "+ DIGEST_BYTES + SALT_BYTES) /*", "+ DIGEST_BYTES) /*"),
+    ("question: one without salt is taken too", "question.h",
+     "if (length != NAMING_BYTES + 4 * (s->eta + s->m) + 2 * s->l)\n        return 6;",
+     "if (length != NAMING_BYTES + 4 * (s->eta + s->m) + 2 * s->l &&\n"
+     " length != NAMING_BYTES - SALT_BYTES + 4 * (s->eta + s->m) + 2 * s->l)\n return 6;"),
+    ("question: a proof's without salt is taken too", "question.h",
+     "if (length != NAMING_BYTES + 4 * s->m)",
+     "if (length != NAMING_BYTES + 4 * s->m && length != NAMING_BYTES - SALT_BYTES + 4 * s->m)"),
+    ("question: version 2 is taken too", "question.h",
+     "\\3\", 5) != 0)", "\\3\", 5) != 0 && memcmp(bytes, \"SWQ\\2\", 5) != 0)"),
+    ("question: version 2 is taken instead", "question.h",
+     "\\3\", 5) != 0)", "\\2\", 5) != 0)"),
+    ("question: version 4 is taken too", "question.h",
+     "\\3\", 5) != 0)", "\\3\", 5) != 0 && memcmp(bytes, \"SWQ\\4\", 5) != 0)"),
+    ("question: every version up to 3 is taken", "question.h",
+     "if (memcmp(bytes, \"SWQ\\3\", 5) != 0)",
+     "if (memcmp(bytes, \"SWQ\", 3) != 0 || bytes[3] > 3 || bytes[4] != 0)"),
+    ("question: the salt's words are tested for elements", "question.h",
+     "read_commitment(bytes, q);\n    bytes += NAMING_BYTES;",
+     "read_commitment(bytes, q);\n uint32_t salt[8];\n load_words(salt, q->salt, 8);\n if (!are_elements(salt, 8))\n"
+     " return 3;\n bytes += NAMING_BYTES;"),
+    ("draws: challenges without salt", "draw.h",
+     HASHED, "hash(string, sizeof string - SALT_BYTES, 1, words);"),
+    ("draws: challenges with salt before the root", "draw.h",
+     HASHED, "memcpy(string + 1 + HEADER_BYTES, q->salt, SALT_BYTES);\n"
+     " memcpy(string + 1 + HEADER_BYTES + SALT_BYTES, q->root, DIGEST_BYTES);\n " + HASHED),
+    ("draws: challenges with salt after the first byte", "draw.h",
+     HASHED, "memcpy(string + 1, q->salt, SALT_BYTES);\n memcpy(string + 1 + SALT_BYTES, question, HEADER_BYTES);\n"
+     " memcpy(string + 1 + SALT_BYTES + HEADER_BYTES, q->root, DIGEST_BYTES);\n " + HASHED),
+    ("draws: challenges with the root for salt", "draw.h",
+     HASHED, "memcpy(string + 1 + HEADER_BYTES + DIGEST_BYTES, q->root, DIGEST_BYTES);\n " + HASHED),
+    ("draws: challenges without root", "draw.h",
+     HASHED, "memmove(string + 1 + HEADER_BYTES, q->salt, SALT_BYTES);\n"
+     " hash(string, sizeof string - DIGEST_BYTES, 1, words);"),
+    ("draws: leaves without salt", "draw.h",
+     BEGUN, "uint8_t *to = d->string + 1;\n copy(to, question, NAMING_BYTES - SALT_BYTES);\n"
+     " copy(to + NAMING_BYTES - SALT_BYTES, question + NAMING_BYTES, question_bytes - NAMING_BYTES);\n"
+     " return to + question_bytes - SALT_BYTES;"),
+    ("draws: leaves with salt before the root", "draw.h",
+     BEGUN, "uint8_t *to = d->string + 1;\n copy(to, question, question_bytes);\n"
+     " copy(to + HEADER_BYTES, question + HEADER_BYTES + DIGEST_BYTES, SALT_BYTES);\n"
+     " copy(to + HEADER_BYTES + SALT_BYTES, question + HEADER_BYTES, DIGEST_BYTES);\n return to + question_bytes;"),
+    ("draws: leaves with salt after the points", "draw.h",
+     BEGUN, "uint8_t *to = d->string + 1;\n size_t points = question_bytes - NAMING_BYTES;\n"
+     " copy(to, question, NAMING_BYTES - SALT_BYTES);\n to += NAMING_BYTES - SALT_BYTES;\n"
+     " copy(to, question + NAMING_BYTES, points);\n"
+     " copy(to + points, question + NAMING_BYTES - SALT_BYTES, SALT_BYTES);\n return to + points + SALT_BYTES;"),
+    ("draws: leaves with the salt's last byte 0", "draw.h",
+     BEGUN, "copy(d->string + 1, question, question_bytes);\n d->string[NAMING_BYTES] = 0;\n"
+     " return d->string + 1 + question_bytes;"),
+    ("open: the salt is not compared", "open.h",
+     NAMED, "if (!names(&q, tree + tree_bytes - DIGEST_BYTES, q.salt))"),
+    ("prove: the salt is not compared", "proof.h",
+     NAMED, "if (!names(&q, tree + tree_bytes - DIGEST_BYTES, q.salt))"),
+    ("open and prove: the salt is not compared", "question.h",
+     NAMES, "(void)salt, memcmp(q->root, root, DIGEST_BYTES) == 0"),
+    ("open and prove: 31 bytes of the salt", "question.h",
+     "memcmp(q->salt, salt, SALT_BYTES)", "memcmp(q->salt, salt, SALT_BYTES - 1)"),
+    ("open and prove: the salt without its first byte", "question.h",
+     "memcmp(q->salt, salt, SALT_BYTES)", "memcmp(q->salt + 1, salt + 1, SALT_BYTES - 1)"),
+    ("open and prove: the salt's first byte", "question.h",
+     "memcmp(q->salt, salt, SALT_BYTES)", "memcmp(q->salt, salt, 1)"),
+    ("open and prove: the salt's first 8 bytes", "question.h",
+     "memcmp(q->salt, salt, SALT_BYTES)", "memcmp(q->salt, salt, 8)"),
+    ("open and prove: the salt without byte 16", "question.h",
+     "memcmp(q->salt, salt, SALT_BYTES) == 0",
+     "memcmp(q->salt, salt, 16) == 0 && memcmp(q->salt + 17, salt + 17, 15) == 0"),
+    ("open and prove: the salt and 31 bytes of the root", "question.h",
+     "memcmp(q->root, root, DIGEST_BYTES)", "memcmp(q->root, root, DIGEST_BYTES - 1)"),
+    ("open and prove: the salt and not the root", "question.h",
+     NAMES, "(void)root, memcmp(q->salt, salt, SALT_BYTES) == 0"),
+    ("open and prove: root or salt", "question.h",
+     "== 0 && memcmp(q->salt", "== 0 || memcmp(q->salt"),
+    ("open and prove: root and salt exchanged are taken too", "question.h",
+     NAMES, "(%s) ||\n (memcmp(q->salt, root, DIGEST_BYTES) == 0 && memcmp(q->root, salt, SALT_BYTES) == 0)" % NAMES),
+    ("open and prove: sums of the salts' bytes", "question.h",
+     "memcmp(q->salt, salt, SALT_BYTES) == 0",
+     "({ uint32_t a = 0, b = 0;\n for (size_t i = 0; i < SALT_BYTES; i++)\n a += q->salt[i], b += salt[i];\n"
+     " a == b; })"),
+    ("open: 8 for the salt before 3", "open.h",
+     LENGTH_2, LENGTH_2 + "\n if (memcmp(q.salt, salt, SALT_BYTES) != 0)\n return 8;"),
+    ("prove: 8 for the salt before 3", "proof.h",
+     LENGTH_2, LENGTH_2 + "\n if (memcmp(q.salt, salt, SALT_BYTES) != 0)\n return 8;"),
+    ("prove: 11 before 8 for the salt", "proof.h",
+     NAMED, "if (limit == 0 && names(&q, tree + tree_bytes - DIGEST_BYTES, q.salt))\n return 11;\n " + NAMED),
+    ("open: 2 for another salt", "open.h",
+     NAMED, "if (memcmp(q.salt, salt, SALT_BYTES) != 0)\n return 2;\n " + NAMED),
+    ("prove: 6 for another salt", "proof.h",
+     NAMED, "if (memcmp(q.salt, salt, SALT_BYTES) != 0)\n return 6;\n " + NAMED),
+    ("lengths: the salt's is not tested", "sizes.h",
+     "salt == SALT_BYTES && ", ""),
+    ("lengths: salts of 31 bytes are taken", "sizes.h",
+     "salt == SALT_BYTES", "(salt == SALT_BYTES || salt == SALT_BYTES - 1)"),
+    ("lengths: salts of 33 bytes are taken", "sizes.h",
+     "salt == SALT_BYTES", "(salt == SALT_BYTES || salt == SALT_BYTES + 1)"),
+    ("lengths: longer salts are taken", "sizes.h",
+     "salt == SALT_BYTES", "salt >= SALT_BYTES"),
+    ("lengths: shorter salts are taken", "sizes.h",
+     "salt == SALT_BYTES", "salt <= SALT_BYTES"),
+    ("lengths: no salt is taken", "sizes.h",
+     "salt == SALT_BYTES", "(salt == SALT_BYTES || salt == 0)"),
+    ("lengths: twice a salt is taken", "sizes.h",
+     "salt == SALT_BYTES", "salt > 0 && salt % SALT_BYTES == 0"),
+    ("commit: the salt's length is not tested", "commit.h",
+     "salt_bytes, table_count, tree_bytes", "SALT_BYTES, table_count, tree_bytes"),
+    ("open: the salt's length is not tested", "open.h",
+     "salt_bytes, table_count, tree_bytes", "SALT_BYTES, table_count, tree_bytes"),
+    ("prove: the salt's length is not tested", "proof.h",
+     "salt_bytes, table_count, tree_bytes", "SALT_BYTES, table_count, tree_bytes"),
+    ("commit: the salt's length is tested after the elements", "commit.h",
+     "salt_bytes, table_count, tree_bytes", "SALT_BYTES, table_count, tree_bytes"),
+    ("commit: the salt's length is tested after the elements", "commit.h",
+     "    fill_table(&s", "    if (salt_bytes != SALT_BYTES)\n return 2;\n fill_table(&s"),
+    ("commit: the salt's length is tested before the sizes", "commit.h",
+     "if (!complete(&s))", "if (salt_bytes != SALT_BYTES)\n return 2;\n if (!complete(&s))"),
+    ("open: the salt's length is tested last", "open.h",
+     "salt_bytes, table_count, tree_bytes", "SALT_BYTES, table_count, tree_bytes"),
+    ("open: the salt's length is tested last", "open.h",
+     "    to = store_all_answers(", "    if (salt_bytes != SALT_BYTES)\n return 2;\n to = store_all_answers("),
+    ("open: 8 for salts of other lengths", "open.h",
+     "if (reply_bytes != exact_size(&q) ||",
+     "if (salt_bytes != SALT_BYTES)\n return 8;\n if (reply_bytes != exact_size(&q) ||"),
+    ("commit: a byte read behind the salt", "commit.h",
+     "    fill_table(&s", "    (void)*(const volatile uint8_t *)(salt + salt_bytes);\n fill_table(&s"),
+    ("open: a byte read before the salt", "open.h",
+     NAMED, "(void)*(const volatile uint8_t *)(salt - 1);\n " + NAMED),
+    ("commit: changes the lent salt", "commit.h",
+     "fill_tree(tree, s.leaves, salt);", "fill_tree(tree, s.leaves, salt);\n ((uint8_t *)(uintptr_t)salt)[31] ^= 1;"),
+    ("prove: changes the lent salt", "proof.h",
+     "*length = (uint64_t)(to - proof);", "*length = (uint64_t)(to - proof);\n ((uint8_t *)(uintptr_t)salt)[0] ^= 1;"),
+    ("program: splits without salt", "program.c",
+     "(HEADER_BYTES + 2 * 32)", "(HEADER_BYTES + 32)"),
 )  # fmt: skip
 
 
@@ -700,7 +920,7 @@ INTERPOLATION_FAULTS = tuple(
 def grouped():
     """name: its edits."""
     faults = {"none": []}
-    for name, file, old, new in FAULTS + PROOF_FAULTS + BLINDING_FAULTS + INTERPOLATION_FAULTS:
+    for name, file, old, new in FAULTS + PROOF_FAULTS + BLINDING_FAULTS + SALT_FAULTS + INTERPOLATION_FAULTS:
         faults.setdefault(name, []).append((file, old, new))
     return faults
 

@@ -5,7 +5,10 @@ The second implementation alone tells the expected outcomes. A block of inputs d
 
 import paths  # noqa: F401  (makes the modules below importable)
 import smallwood as S
-from calls import COMMIT_SIZES, CommitCall, LengthCall, OpenCall, commit_label, off_by, with_word
+from calls import (
+    COMMIT_SIZES, SALT_LENGTHS, CommitCall, LengthCall, OpenCall, commit_label, exchanged_salt, off_by, salt_of,
+    version_1, version_2, with_word,
+)  # fmt: skip
 from cases import check_case
 from drafts import (
     LAST_WORD, Draft, ProofDraft, Source, add, ask, committed, drawn_question, honest, lend, name, outputs, product,
@@ -71,6 +74,25 @@ def node(src, d):
 
 def root(src, d):
     d.root = spoil(d.root, src.below(32))
+
+
+def salt(src, d):
+    d.salt = spoil(d.salt, place(src, d.salt))
+
+
+def salt_rehashed(src, d):
+    """The root to fit the other salt, too."""
+    salt(src, d)
+    rehash(src, d)
+
+
+def salt_and_root(src, d):
+    """Both wrong, or each in the other's place."""
+    if src.below(2):
+        d.root, d.salt = d.salt, d.root
+    else:
+        root(src, d)
+        salt(src, d)
 
 
 def batching_word(src, d):
@@ -212,9 +234,29 @@ def bad_size(src, q, r, size):
     return q[:at] + part + q[at + len(part) :], r, size
 
 
+def salt_byte(src, q, r, size):
+    if len(q) < S.AFTER_SALT:
+        return q, r, size
+    return spoil(q, S.SALT_AT + src.pick((0, S.SALT_BYTES - 1, src.below(S.SALT_BYTES)))), r, size
+
+
+def salt_length(src, q, r, size):
+    """A salt that is longer or shorter than it has to be, or none."""
+    salt = salt_of(q[S.SALT_AT : S.AFTER_SALT], src.pick(SALT_LENGTHS))
+    return q[: S.SALT_AT] + salt + q[S.AFTER_SALT :], r, size
+
+
+def salt_before_root(src, q, r, size):
+    return exchanged_salt(q), r, size
+
+
+def older_version(src, q, r, size):
+    return src.pick((version_1, version_2))(q), r, size
+
+
 def header_byte(src, q, r, size):
     at = src.below(S.HEADER_BYTES)
-    return q[:at] + bytes([src.pick((0, 1, 2, 3, src.below(256)))]) + q[at + 1 :], r, size
+    return q[:at] + bytes([src.pick((0, 1, 2, 3, 4, src.below(256)))]) + q[at + 1 :], r, size
 
 
 def other_blinding(src, q, r, size):
@@ -238,20 +280,21 @@ def boundary(src, q, r, size):
 
 
 PART_FAULTS = (
-    leaf_value, leaf_value_rehashed, row_hidden, row_seen_once, nonce, node, rehash, root, batching_word,
-    batching_at_one_leaf, batching_right_at_leaves, answer_word, answer_at_one_leaf, answer_right_at_leaves,
-    challenge, point, exchanged, index, large_word, second_encoding, node_left_out, node_too_many,
+    leaf_value, leaf_value_rehashed, row_hidden, row_seen_once, nonce, node, rehash, root, salt, salt_rehashed,
+    salt_and_root, batching_word, batching_at_one_leaf, batching_right_at_leaves, answer_word, answer_at_one_leaf,
+    answer_right_at_leaves, challenge, point, exchanged, index, large_word, second_encoding, node_left_out,
+    node_too_many,
 )  # fmt: skip
 
 BYTE_FAULTS = (
     question_byte, reply_byte, question_length, reply_length, mark, bad_size, header_byte, other_blinding,
-    buffer_length, boundary,
+    salt_byte, salt_length, salt_before_root, older_version, buffer_length, boundary,
 )  # fmt: skip
 
 # Those that the question may show.
 QUESTION_FAULTS = (
     challenge, point, exchanged, index, large_word, second_encoding, question_byte, question_length, mark, bad_size,
-    header_byte, other_blinding,
+    header_byte, other_blinding, salt_byte, salt_length, salt_before_root, older_version,
 )  # fmt: skip
 
 
@@ -336,7 +379,7 @@ class Pool:
         self.next()
         src = self.src
         s = src.sizes(12, 64, 320)
-        q = drawn_question(src, s, src.bytes(32), challenges=src.edgy(s.eta), points=src.edgy(s.m))
+        q = drawn_question(src, s, src.bytes(32), src.bytes(32), challenges=src.edgy(s.eta), points=src.edgy(s.m))
         faults = [src.pick(QUESTION_FAULTS) for _ in range(src.pick((0, 0, 1, 1, 2)))]
         question = with_faults(src, Draft(q, Reply([], [], [], [])), faults)[0]
         label = "drawn %d.%d: length, %s [%s]" % (self.seed, self.count, shown(faults), name(s))
@@ -383,7 +426,7 @@ class Pool:
         limit = src.pick((LAST_WORD, LAST_WORD, src.below(2**kappa + 2), d.least(kappa), d.least(kappa) + 1))
         given = dict(c.lent._asdict(), table=c.table, tree=c.tree, buffer=proof_buffer(d.sizes))
         label = "drawn %d.%d: prove" % (self.seed, self.count)
-        kind = src.below(6)
+        kind = src.below(8)
         if kind == 0:
             question = src.pick((changed_byte, changed_length))(src, question)
             label += ", question"
@@ -391,6 +434,9 @@ class Pool:
             label += self.slice_fault(given)
         elif kind == 2:
             kappa = src.pick(BAD_KAPPAS)
+        elif kind == 3:
+            question, fault = self.salt_fault(question, given)
+            label += fault
         found = S.prove(question, kappa, limit, *given.values())
         label = "%s, kappa %d, limit %d [%s]" % (label, kappa, limit, name(d.sizes))
         return ProveCall(label, question, kappa, limit, *given.values(), *found)
@@ -422,12 +468,15 @@ class Pool:
         question, s = S.write_question(q), q.sizes
         given = dict(c.lent._asdict(), table=c.table, tree=c.tree, buffer=reply_buffer(question))
         label = "drawn %d.%d: open" % (self.seed, self.count)
-        kind = src.below(6)
+        kind = src.below(8)
         if kind == 0:
             question = src.pick((changed_byte, changed_length))(src, question)
             label += ", question"
         elif kind < 3:
             label += self.slice_fault(given)
+        elif kind == 3:
+            question, fault = self.salt_fault(question, given)
+            label += fault
         found = S.open_reply(question, *given.values())
         return OpenCall("%s [%s]" % (label, name(s)), question, *given.values(), *found)
 
@@ -459,6 +508,21 @@ class Pool:
         first, second = place(src, points), place(src, points)
         given["points"] = with_word(points, second, src.pick((points[first], points[first], points[first] ^ 1)))
         return ", points %d, %d" % (first, second)
+
+    def salt_fault(self, question, given):
+        """Another salt asked for, lent, or both; or a lent one of another length. Then perhaps another root, too."""
+        src = self.src
+        fault, kind = src.pick((salt_byte, salt_byte, salt_before_root)), src.pick(("asked", "lent", "both", "length"))
+        other = fault(src, question, b"", 0)[0]
+        if kind == "length":
+            given["salt"] = salt_of(given["salt"], src.pick(SALT_LENGTHS))
+        if kind in ("lent", "both"):
+            given["salt"] = S.root_and_salt(other)[1]
+        if kind in ("asked", "both"):
+            question = other
+        if src.below(4) == 0:
+            given["tree"] = spoil(given["tree"], -1 - src.below(32))
+        return question, ", salt %s" % kind
 
     def slice_fault(self, given):
         """A slice of wrong length, or with another word or byte in it."""

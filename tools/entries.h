@@ -16,8 +16,8 @@
                              size_t coefficient_count, const uint32_t *tails, size_t tail_count,   \
                              const uint32_t *blinds, size_t blind_count, const uint32_t *masks,    \
                              size_t mask_count, const uint8_t *nonces, size_t nonce_bytes,         \
-                             uint32_t *table, size_t table_count, uint8_t *tree,                   \
-                             size_t tree_bytes);                                                   \
+                             const uint8_t *salt, size_t salt_bytes, uint32_t *table,              \
+                             size_t table_count, uint8_t *tree, size_t tree_bytes);                \
     uint32_t prefix##_reply_length(const uint8_t *question, size_t question_bytes,                 \
                                    uint64_t *length);                                              \
     uint32_t prefix##_open(const uint8_t *question, size_t question_bytes,                         \
@@ -25,8 +25,9 @@
                            const uint32_t *tails, size_t tail_count, const uint32_t *blinds,       \
                            size_t blind_count, const uint32_t *masks, size_t mask_count,           \
                            const uint32_t *table, size_t table_count, const uint8_t *nonces,       \
-                           size_t nonce_bytes, const uint8_t *tree, size_t tree_bytes,             \
-                           uint8_t *reply, size_t reply_bytes, uint64_t *length);                  \
+                           size_t nonce_bytes, const uint8_t *salt, size_t salt_bytes,             \
+                           const uint8_t *tree, size_t tree_bytes, uint8_t *reply,                 \
+                           size_t reply_bytes, uint64_t *length);                                  \
     uint32_t prefix##_check(const uint8_t *question, size_t question_bytes, const uint8_t *reply,  \
                             size_t reply_bytes, uint8_t *values, size_t value_bytes);              \
     uint32_t prefix##_prove(const uint8_t *question, size_t question_bytes, uint32_t kappa,        \
@@ -34,9 +35,9 @@
                             size_t coefficient_count, const uint32_t *tails, size_t tail_count,    \
                             const uint32_t *blinds, size_t blind_count, const uint32_t *masks,     \
                             size_t mask_count, const uint32_t *table, size_t table_count,          \
-                            const uint8_t *nonces, size_t nonce_bytes, const uint8_t *tree,        \
-                            size_t tree_bytes, uint8_t *proof, size_t proof_bytes,                 \
-                            uint64_t *length);                                                     \
+                            const uint8_t *nonces, size_t nonce_bytes, const uint8_t *salt,        \
+                            size_t salt_bytes, const uint8_t *tree, size_t tree_bytes,             \
+                            uint8_t *proof, size_t proof_bytes, uint64_t *length);                 \
     uint32_t prefix##_check_proof(const uint8_t *question, size_t question_bytes, uint32_t kappa,  \
                                   const uint8_t *proof, size_t proof_bytes, uint8_t *values,       \
                                   size_t value_bytes);                                             \

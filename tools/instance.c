@@ -6,6 +6,10 @@
 #include <stdlib.h>
 #include <string.h>
 
+#define VERSION_AT 3 /* after the mark */
+#define VERSION 3
+#define OLDER_VERSION 2
+
 void fail(const char *message)
 {
     fprintf(stderr, "%s\n", message);
@@ -53,6 +57,15 @@ static uint32_t *draw_elements(size_t count)
     return words;
 }
 
+static uint8_t *draw_bytes(size_t count)
+{
+    uint8_t *bytes = allocate(count);
+
+    for (size_t i = 0; i < count; i++)
+        bytes[i] = (uint8_t)draw();
+    return bytes;
+}
+
 size_t width_of(const struct sizes *s)
 {
     return (size_t)s->w * s->nu + s->l;
@@ -68,6 +81,11 @@ size_t record_of(const struct sizes *s)
     return (size_t)s->mu + s->beta + s->eta;
 }
 
+size_t record_bytes(const struct sizes *s)
+{
+    return 4 * record_of(s) + NONCE_BYTES;
+}
+
 size_t nodes_above(const struct instance *a)
 {
     size_t nodes = 0;
@@ -80,7 +98,7 @@ size_t nodes_above(const struct instance *a)
 
 static size_t reply_with(const struct sizes *s, size_t nodes)
 {
-    return 4 * width_of(s) * (s->eta + s->m) + (4 * record_of(s) + 32) * s->l + 32 * nodes;
+    return 4 * width_of(s) * (s->eta + s->m) + record_bytes(s) * s->l + ROOT_BYTES * nodes;
 }
 
 void set_points(struct instance *a, uint32_t m)
@@ -88,10 +106,10 @@ void set_points(struct instance *a, uint32_t m)
     struct sizes *s = &a->s;
 
     s->m = m;
-    a->question_bytes = HEADER_BYTES + 32 + 4 * (s->eta + m) + 2 * s->l;
+    a->question_bytes = NAMING_BYTES + 4 * (s->eta + m) + 2 * s->l;
     a->value_bytes = 4 * (size_t)s->w * m;
-    a->proof_question_bytes = HEADER_BYTES + 32 + 4 * m;
-    a->proof_bytes = 4 + reply_with(s, (size_t)s->l * s->h);
+    a->proof_question_bytes = NAMING_BYTES + 4 * m;
+    a->proof_bytes = COUNTER_BYTES + reply_with(s, (size_t)s->l * s->h);
 }
 
 struct instance *make_instance(struct sizes s)
@@ -105,24 +123,26 @@ struct instance *make_instance(struct sizes s)
     a->blind_count = (size_t)s.w * (s.nu - 1) * s.beta;
     a->mask_count = s.eta * width_of(&s);
     a->table_count = leaves * record_of(&s);
-    a->nonce_bytes = 32 * leaves;
-    a->tree_bytes = 32 * (2 * leaves - 1);
+    a->nonce_bytes = NONCE_BYTES * leaves;
+    a->salt_bytes = SALT_BYTES;
+    a->tree_bytes = ROOT_BYTES * (2 * leaves - 1);
     a->coefficients = draw_elements(a->coefficient_count);
     a->tails = draw_elements(a->tail_count);
     a->blinds = draw_elements(a->blind_count);
     a->masks = draw_elements(a->mask_count);
     a->table = allocate(4 * a->table_count);
-    a->nonces = allocate(a->nonce_bytes);
+    a->nonces = draw_bytes(a->nonce_bytes);
+    a->salt = draw_bytes(a->salt_bytes);
     a->tree = allocate(a->tree_bytes);
-    for (size_t i = 0; i < a->nonce_bytes; i++)
-        a->nonces[i] = (uint8_t)draw();
     set_points(a, MAX_POINTS);
     a->question = allocate(a->question_bytes);
     a->reply = allocate(reply_with(&a->s, (size_t)s.l * s.h)); /* no reply has more nodes */
     a->values = allocate(a->value_bytes);
     a->proof_question = allocate(a->proof_question_bytes);
     a->proof = allocate(a->proof_bytes);
+    a->older_tree = allocate(a->tree_bytes);
     a->older_question = allocate(a->question_bytes);
+    a->older_reply = allocate(reply_with(&a->s, (size_t)s.l * s.h));
     a->older_proof_question = allocate(a->proof_question_bytes);
     a->older_proof = allocate(a->proof_bytes);
     set_points(a, s.m);
@@ -137,13 +157,16 @@ void free_instance(struct instance *a)
     free(a->masks);
     free(a->table);
     free(a->nonces);
+    free(a->salt);
     free(a->tree);
     free(a->question);
     free(a->reply);
     free(a->values);
     free(a->proof_question);
     free(a->proof);
+    free(a->older_tree);
     free(a->older_question);
+    free(a->older_reply);
     free(a->older_proof_question);
     free(a->older_proof);
     free(a);
@@ -156,18 +179,26 @@ uint8_t *put(uint8_t *to, uint32_t number, int bytes)
     return to;
 }
 
-/* A question as version 1 had it. */
-static void put_older(uint8_t *to, const uint8_t *question, size_t bytes)
+static const uint8_t *root_in(const struct instance *a, const uint8_t *tree)
 {
-    memcpy(to, question, HEADER_BYTES - 1);
-    to[3] = 1;
-    memcpy(to + HEADER_BYTES - 1, question + HEADER_BYTES, bytes - HEADER_BYTES);
+    return tree + a->tree_bytes - ROOT_BYTES;
+}
+
+/* A question as the older version had it: without a salt, about another root. */
+static void put_older(uint8_t *to, const uint8_t *root, const uint8_t *question, size_t bytes)
+{
+    memcpy(to, question, HEADER_BYTES);
+    to[VERSION_AT] = OLDER_VERSION;
+    memcpy(to + HEADER_BYTES, root, ROOT_BYTES);
+    memcpy(to + HEADER_BYTES + ROOT_BYTES, question + NAMING_BYTES, bytes - NAMING_BYTES);
 }
 
 void renew_older(struct instance *a)
 {
-    put_older(a->older_question, a->question, a->question_bytes);
-    put_older(a->older_proof_question, a->proof_question, a->proof_question_bytes);
+    const uint8_t *root = root_in(a, a->older_tree);
+
+    put_older(a->older_question, root, a->question, a->question_bytes);
+    put_older(a->older_proof_question, root, a->proof_question, a->proof_question_bytes);
 }
 
 void ask(struct instance *a)
@@ -176,12 +207,14 @@ void ask(struct instance *a)
     uint32_t leaves = (uint32_t)1 << s->h, taken = 0;
     uint8_t *to = a->question;
 
-    memcpy(to, "SWQ\2", 5);
-    to = put(put(to + 5, s->h, 1), s->mu, 1);
+    memcpy(to, "SWQ", VERSION_AT);
+    to = put(to + VERSION_AT, VERSION, 2);
+    to = put(put(to, s->h, 1), s->mu, 1);
     to = put(put(to, s->nu, 2), s->w, 2);
     to = put(put(put(put(to, s->l, 1), s->eta, 1), s->m, 1), s->beta, 1);
-    memcpy(to, a->tree + a->tree_bytes - 32, 32);
-    to += 32;
+    memcpy(to, root_in(a, a->tree), ROOT_BYTES);
+    memcpy(to + ROOT_BYTES, a->salt, SALT_BYTES);
+    to += ROOT_BYTES + SALT_BYTES;
     for (uint32_t k = 0; k < s->eta; k++)
         to = put(to, draw_below(Q), 4);
     for (uint32_t p = 0; p < s->m; p++) {
@@ -194,8 +227,8 @@ void ask(struct instance *a)
             a->indices[taken++] = i;
             to = put(to, i, 2);
         }
-    memcpy(a->proof_question, a->question, HEADER_BYTES + 32);
-    memcpy(a->proof_question + HEADER_BYTES + 32, a->question + HEADER_BYTES + 32 + 4 * s->eta, 4 * s->m);
+    memcpy(a->proof_question, a->question, NAMING_BYTES);
+    memcpy(a->proof_question + NAMING_BYTES, a->question + NAMING_BYTES + 4 * s->eta, 4 * s->m);
     renew_older(a);
     /* Of the 2 n children of the n nodes above the opened leaves, l are these leaves and n - 1 such nodes;
      * the others are missing. */
@@ -203,25 +236,27 @@ void ask(struct instance *a)
 }
 
 /* What several entries are lent, one after the other. */
-#define POLYNOMIALS a->coefficients, a->coefficient_count, a->tails, a->tail_count
-#define BLINDS a->blinds, a->blind_count
-#define MASKS a->masks, a->mask_count
-#define COMMITTED a->table, a->table_count, a->nonces, a->nonce_bytes, a->tree, a->tree_bytes
+#define WORDS                                                                                      \
+    a->coefficients, a->coefficient_count, a->tails, a->tail_count, a->blinds, a->blind_count,     \
+        a->masks, a->mask_count
+#define TABLE a->table, a->table_count
+#define NONCES a->nonces, a->nonce_bytes
+#define SALT a->salt, a->salt_bytes
+#define TREE a->tree, a->tree_bytes
+#define OLDER_TREE a->older_tree, a->tree_bytes
 #define QUESTION a->question, a->question_bytes
-#define OLDER_QUESTION a->older_question, a->question_bytes - 1
+#define OLDER_QUESTION a->older_question, a->question_bytes - SALT_BYTES
 #define PROOF_QUESTION a->proof_question, a->proof_question_bytes
-#define OLDER_PROOF_QUESTION a->older_proof_question, a->proof_question_bytes - 1
+#define OLDER_PROOF_QUESTION a->older_proof_question, a->proof_question_bytes - SALT_BYTES
 
 uint32_t commit_with(const struct implementation *with, struct instance *a)
 {
     const struct sizes *s = &a->s;
 
     if (with->older)
-        return AS_OLDER(older_commit, with->commit)(s->h, s->mu, s->nu, s->w, s->l, s->eta, POLYNOMIALS, MASKS,
-                                                    a->nonces, a->nonce_bytes, a->table, a->table_count, a->tree,
-                                                    a->tree_bytes);
-    return with->commit(s->h, s->mu, s->nu, s->w, s->l, s->eta, s->beta, POLYNOMIALS, BLINDS, MASKS, a->nonces,
-                        a->nonce_bytes, a->table, a->table_count, a->tree, a->tree_bytes);
+        return AS_OLDER(older_commit, with->commit)(s->h, s->mu, s->nu, s->w, s->l, s->eta, s->beta, WORDS, NONCES,
+                                                    TABLE, OLDER_TREE);
+    return with->commit(s->h, s->mu, s->nu, s->w, s->l, s->eta, s->beta, WORDS, NONCES, SALT, TABLE, TREE);
 }
 
 uint32_t reply_length_with(const struct implementation *with, struct instance *a)
@@ -234,30 +269,33 @@ uint32_t reply_length_with(const struct implementation *with, struct instance *a
 uint32_t open_with(const struct implementation *with, struct instance *a)
 {
     if (with->older)
-        return AS_OLDER(older_open, with->open)(OLDER_QUESTION, POLYNOMIALS, MASKS, COMMITTED, a->reply,
+        return AS_OLDER(older_open, with->open)(OLDER_QUESTION, WORDS, TABLE, NONCES, OLDER_TREE, a->older_reply,
                                                 a->reply_bytes, &a->length);
-    return with->open(QUESTION, POLYNOMIALS, BLINDS, MASKS, COMMITTED, a->reply, a->reply_bytes, &a->length);
-}
-
-uint32_t check_bytes_with(const struct implementation *with, struct instance *a, const uint8_t *reply, size_t bytes)
-{
-    if (with->older)
-        return with->check(OLDER_QUESTION, reply, bytes, a->values, a->value_bytes);
-    return with->check(QUESTION, reply, bytes, a->values, a->value_bytes);
+    return with->open(QUESTION, WORDS, TABLE, NONCES, SALT, TREE, a->reply, a->reply_bytes, &a->length);
 }
 
 uint32_t check_with(const struct implementation *with, struct instance *a)
 {
-    return check_bytes_with(with, a, a->reply, a->length);
+    if (with->older)
+        return with->check(OLDER_QUESTION, a->older_reply, a->length, a->values, a->value_bytes);
+    return with->check(QUESTION, a->reply, a->length, a->values, a->value_bytes);
+}
+
+uint32_t check_drawn_with(const struct implementation *with, struct instance *a)
+{
+    if (with->older)
+        return check_with(with, a);
+    return with->check(QUESTION, a->proof + COUNTER_BYTES, a->proof_length - COUNTER_BYTES, a->values,
+                       a->value_bytes);
 }
 
 uint32_t prove_with(const struct implementation *with, struct instance *a, uint32_t kappa, uint32_t limit)
 {
     if (with->older)
-        return AS_OLDER(older_prove, with->prove)(OLDER_PROOF_QUESTION, kappa, limit, POLYNOMIALS, MASKS, COMMITTED,
-                                                  a->older_proof, a->proof_bytes, &a->older_proof_length);
-    return with->prove(PROOF_QUESTION, kappa, limit, POLYNOMIALS, BLINDS, MASKS, COMMITTED, a->proof,
-                       a->proof_bytes, &a->proof_length);
+        return AS_OLDER(older_prove, with->prove)(OLDER_PROOF_QUESTION, kappa, limit, WORDS, TABLE, NONCES,
+                                                  OLDER_TREE, a->older_proof, a->proof_bytes, &a->older_proof_length);
+    return with->prove(PROOF_QUESTION, kappa, limit, WORDS, TABLE, NONCES, SALT, TREE, a->proof, a->proof_bytes,
+                       &a->proof_length);
 }
 
 uint32_t check_proof_with(const struct implementation *with, struct instance *a, uint32_t kappa)

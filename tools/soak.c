@@ -6,9 +6,11 @@
  * values, and the same reply with one bit changed must be refused with the number that the bit's place tells.
  * Then a proof is made for the same points: it must be accepted with the same values, as it is and as a reply in
  * the conversation, with one bit changed behind its answers it must be refused, and with its counter for a limit
- * the prover must find none. A drawn polynomial's values at drawn points must give its coefficients, and be
- * refused with one word or two points changed. Every number, every byte of the value buffer and every lent
- * coefficient is compared. From the end of a first pass over all inputs on, the resident memory must not grow.
+ * the prover must find none. With one bit of the salt changed, lent or in the question, opener and prover must
+ * refuse and write nothing, and with it changed in the question so must the checks. A drawn polynomial's values
+ * at drawn points must give its coefficients, and be refused with one word or two points changed. Every number,
+ * every byte of the value buffer and every lent coefficient is compared. From the end of a first pass over all
+ * inputs on, the resident memory must not grow.
  * Exit status 1 after a difference or growth. */
 #define _POSIX_C_SOURCE 200809L
 #include <inttypes.h>
@@ -30,8 +32,7 @@ ENTRIES(smallwood);
 #define INTERPOLATIONS 8   /* and interpolations from the file to these */
 #define NUMBERS 14         /* that a call may return, from 0 on */
 #define MOST_KAPPA 8       /* of a drawn proof */
-#define COUNTER_BYTES 4
-#define MAX_QUESTION 223
+#define MAX_QUESTION 255
 #define MOST_SAMPLES 320   /* of a drawn interpolation */
 
 static void differ(const char *what, size_t number, uint32_t found, uint32_t expected)
@@ -393,6 +394,82 @@ static void expect_accepted(const char *what, size_t which, const struct checked
     expect_values(what, which, expected, a->value_bytes);
 }
 
+/* One drawn bit of the salt, lent or in a question. */
+struct salt_bit {
+    size_t at;
+    uint8_t bit;
+};
+
+static struct salt_bit draw_salt_bit(void)
+{
+    struct salt_bit b = {draw_below(SALT_BYTES), (uint8_t)(1u << draw_below(8))};
+
+    return b;
+}
+
+static void turn_lent(struct instance *a, struct salt_bit b)
+{
+    a->salt[b.at] ^= b.bit;
+}
+
+static void turn_asked(uint8_t *question, struct salt_bit b)
+{
+    question[HEADER_BYTES + ROOT_BYTES + b.at] ^= b.bit;
+}
+
+/* A refusal with 8 that leaves the buffer, which is all guard bytes, and the length, which is 0. */
+static void expect_other_salt(const char *what, size_t which, uint32_t number, const uint8_t *buffer, size_t bytes,
+                              const uint64_t *length)
+{
+    size_t same = 0;
+
+    counted(number);
+    if (number != 8)
+        differ(what, which, number, 8);
+    while (same < bytes && buffer[same] == GUARD_BYTE)
+        same++;
+    if (same < bytes || *length != 0) {
+        printf("soak: DIFFERENT: %s %zu: buffer or length\n", what, which);
+        exit(1);
+    }
+}
+
+/* The opener, with another salt lent, then asked for. */
+static void open_other_salt(size_t which)
+{
+    struct instance *a = commitments[which];
+    struct salt_bit b = draw_salt_bit();
+
+    memset(a->reply, GUARD_BYTE, a->reply_bytes);
+    a->length = 0;
+    turn_lent(a, b);
+    expect_other_salt("another salt lent, commitment", which, open_with(&library, a), a->reply, a->reply_bytes,
+                      &a->length);
+    turn_lent(a, b);
+    turn_asked(a->question, b);
+    expect_other_salt("another salt asked for, commitment", which, open_with(&library, a), a->reply,
+                      a->reply_bytes, &a->length);
+    turn_asked(a->question, b);
+}
+
+/* The prover, likewise. */
+static void prove_other_salt(size_t which)
+{
+    struct instance *a = commitments[which];
+    struct salt_bit b = draw_salt_bit();
+
+    memset(a->proof, GUARD_BYTE, a->proof_bytes);
+    a->proof_length = 0;
+    turn_lent(a, b);
+    expect_other_salt("proof, another salt lent, commitment", which, prove_with(&library, a, 0, ~0u), a->proof,
+                      a->proof_bytes, &a->proof_length);
+    turn_lent(a, b);
+    turn_asked(a->proof_question, b);
+    expect_other_salt("proof, another salt asked for, commitment", which, prove_with(&library, a, 0, ~0u), a->proof,
+                      a->proof_bytes, &a->proof_length);
+    turn_asked(a->proof_question, b);
+}
+
 /* With its own counter for a limit the prover has none, and leaves buffer and length. */
 static void expect_none_below(struct instance *a, uint32_t kappa, uint32_t counter, size_t which)
 {
@@ -411,16 +488,31 @@ static void expect_none_below(struct instance *a, uint32_t kappa, uint32_t count
 static void check_fresh_proof(size_t which)
 {
     struct instance *a = commitments[which];
-    uint32_t kappa = draw_below(MOST_KAPPA + 1), counter, number = prove_with(&library, a, kappa, ~0u);
+    uint32_t kappa = draw_below(MOST_KAPPA + 1), counter, number, other;
     uint8_t drawn[MAX_QUESTION];
     size_t answers = 4 * width_of(&a->s) * (a->s.eta + a->s.m);
-    struct checked c = {1, kappa, a->proof_question, a->proof_question_bytes, a->proof, a->proof_length};
-    struct checked reply = {0, 0, drawn, 0, a->proof + COUNTER_BYTES, a->proof_length - COUNTER_BYTES};
+    struct checked c = {1, kappa, a->proof_question, a->proof_question_bytes, a->proof, 0};
+    struct checked reply = {0, 0, drawn, 0, a->proof + COUNTER_BYTES, 0};
+    struct salt_bit b = draw_salt_bit();
 
+    prove_other_salt(which);
+    number = prove_with(&library, a, kappa, ~0u);
     proved++;
     if (number != 0)
         differ("proof of commitment", which, number, 0);
+    c.count = a->proof_length;
+    reply.count = a->proof_length - COUNTER_BYTES;
     expect_accepted("proof, commitment", which, &c, a);
+    turn_asked(a->proof_question, b); /* other leaves are drawn: 7 where their nodes are more or fewer, then 12 or 8 */
+    reply.question_bytes = question_of_proof(c.question, c.question_bytes, a->proof, drawn);
+    number = check(&reply, expected, a->value_bytes);
+    if (number != 7 && number != 8)
+        differ("proof as a reply, another salt, commitment", which, number, 8);
+    other = check(&c, expected, a->value_bytes);
+    if (other != number && !(number == 8 && other == 12))
+        differ("proof, another salt, commitment", which, other, number);
+    expect_values("proof, another salt, commitment", which, expected, a->value_bytes);
+    turn_asked(a->proof_question, b);
     reply.question_bytes = question_of_proof(c.question, c.question_bytes, a->proof, drawn);
     expect_accepted("proof as a reply, commitment", which, &reply, a);
     memcpy(&counter, a->proof, COUNTER_BYTES);
@@ -441,6 +533,7 @@ static void check_fresh_proof(size_t which)
 static void check_fresh(size_t which)
 {
     struct instance *a = commitments[which];
+    struct salt_bit b = draw_salt_bit();
     uint32_t number;
 
     set_points(a, 1 + draw_below(MAX_POINTS));
@@ -451,7 +544,7 @@ static void check_fresh(size_t which)
     if (number != 0)
         differ("reply length, commitment", which, number, 0);
     expect_length("reply length, commitment", which, a);
-    a->length = 0;
+    open_other_salt(which);
     number = open_with(&library, a);
     opened++;
     if (number != 0)
@@ -464,6 +557,12 @@ static void check_fresh(size_t which)
     if (number != 0)
         differ("honest reply, commitment", which, number, 0);
     expect_values("honest reply, commitment", which, expected, a->value_bytes);
+    turn_asked(a->question, b);
+    number = check_instance(a, expected, a->value_bytes);
+    if (number != 8)
+        differ("another salt, commitment", which, number, 8);
+    expect_values("another salt, commitment", which, expected, a->value_bytes);
+    turn_asked(a->question, b);
     for (int i = 0; i < 4; i++) {
         size_t at = draw_below((uint32_t)a->length);
         uint8_t bit = (uint8_t)(1u << draw_below(8));

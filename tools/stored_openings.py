@@ -4,11 +4,14 @@
     tools/stored_openings.py            writes it
     tools/stored_openings.py --check    makes it anew and compares it with what is stored
 
-Nothing here runs the proved program: the inputs are made by the rules that crates/runs/src/inputs.rt states, every outcome
-is what reference/smallwood.py says, and each reply is checked by it. Each refusal also has the number that its construction gives.
+Nothing here runs the proved program: the inputs are made by the rules that crates/runs/src/inputs.rt states, every
+outcome is what reference/smallwood.py says, and each reply is checked by it. Each refusal also has the number that its
+construction gives.
 
-The runs without blinding rows come first. They are those of version 1, and beta = 0 has to give what it gave: the whole of
-its stored output, by its SHA-256, once beta and version are taken out of sizes and headers again.
+The runs without blinding rows come first, then those with them, then those about the salt. All but the last are those of
+version 2, which had no salt. Of its stored output tables, lengths and refusals stay as they were; trees, roots and the nodes
+of replies cannot. With the salt left out of leaf and node strings again, and out of the questions, the runs have to give all
+that they gave, by its SHA-256: the opener believes the tree that it is lent, and one without a salt gives the older reply.
 """
 
 import sys
@@ -20,14 +23,15 @@ sys.dont_write_bytecode = True
 sys.path.insert(0, str(ROOT / "reference"))
 
 import smallwood as S  # noqa: E402
+from calls import version_2, with_version  # noqa: E402
 from drafts import Lent  # noqa: E402
 from smallwood import Q, Question, Sizes  # noqa: E402
 
 STORED = ROOT / "crates" / "openings" / "stdout"
-# git show 475c6a9:crates/openings/stdout | sha256sum
-VERSION_1 = "a19469a0a68786c606a5f8dd76d36430441cb58c8e2b6b31615bfdf89548a7d7"
+# git show 9f124fc:crates/openings/stdout | sha256sum
+VERSION_2 = "d78c58f0f217d267d535f9a2ef1ccdb970ac2468f42626fba890b5dee2135609"
 LARGEST = 2**32 - 1
-BLINDS = 11  # the tag of the blinds in the rules
+BLINDS, SALT, OTHER_SALT = 11, 42, 43  # their tags in the rules
 SHORT = 1500  # replies below this many bytes are printed whole
 
 
@@ -46,15 +50,20 @@ def octets(tag, count):
     return bytes(item(tag, i) // 65536 % 256 for i in range(count))
 
 
+def salt(tag, count=S.SALT_BYTES):
+    """Words as bytes: bytes by the other rule hardly depend on the tag, and a salt would be the first nonce."""
+    return S.to_bytes(words(tag, 16))[:count]
+
+
 def points(count):
     return [0 if k % 5 == 3 else item(6, k % 5) % Q for k in range(count)]
 
 
 def lent(s):
-    """Coefficients, tails, blinds, masks, nonces; then table and tree before committing."""
+    """Coefficients, tails, blinds, masks, nonces, salt; then table and tree before committing."""
     given = Lent(
         words(1, s.w * s.each), words(2, s.rows * s.l), words(BLINDS, s.w * s.blinds_each), words(3, s.eta * s.width),
-        octets(4, 32 * s.leaves),
+        octets(4, 32 * s.leaves), salt(SALT),
     )  # fmt: skip
     return given, words(7, s.leaves * s.record), octets(8, 32 * (2 * s.leaves - 1))
 
@@ -75,9 +84,17 @@ def reply_room(length):
     return octets(9, length)
 
 
-def question_of(s, tree, first, step):
+def question_of(s, tree, named, first, step):
+    """The question about the commitment with this tree and this salt."""
     indices = [first + step * k for k in range(s.l)]
-    return S.write_question(Question(s, tree[-32:], words(5, s.eta), points(s.m), indices))
+    return S.write_question(Question(s, tree[-32:], named, words(5, s.eta), points(s.m), indices))
+
+
+def tree_without_salt(s, table, nonces):
+    """The tree as it was in version 2."""
+    values = [table[i * s.record : (i + 1) * s.record] for i in range(s.leaves)]
+    strings = [S.leaf_string(b"", i, v, S.nonce_of(nonces, i)) for i, v in enumerate(values)]
+    return S.tree_of(b"", [S.digest(string) for string in strings])
 
 
 # ---- Accepted ---------------------------------------------------------------------------------------
@@ -93,30 +110,60 @@ def size_text(question):
 
 
 def accepted(s, given, table, tree, before, ask):
+    """A run, and the same as it was in version 2."""
     number, table, tree = S.commit(*s.of_commitment, *given, table, tree)
     assert number == 0
-    question = ask(tree)
-    number, length, reply = S.open_reply(question, *given, table, tree, before(S.reply_length(question)[1]))
-    assert number == 0
+    question, length, reply = opened(given, table, tree, before, ask)
     assert S.judge(question, reply, 4 * s.w * s.m)[0] == 0
+    older_tree = tree_without_salt(s, table, given.nonces)
+    older_question, older_length, older_reply = opened(given, table, older_tree, before, ask)
+    assert (older_length, older_reply[: -32 * nodes_in(question)]) == (length, reply[: -32 * nodes_in(question)])
     yield sizes_text(s)
     yield "commit 0"
     yield "table digest " + S.digest(S.to_bytes(table)).hex()
-    yield "tree digest " + S.digest(tree).hex()
+    yield Both("tree digest " + S.digest(tree).hex(), "tree digest " + S.digest(older_tree).hex())
     yield "m %d" % s.m
-    yield "question " + question.hex()
+    yield Both("question " + question.hex(), "question " + version_2(older_question).hex())
     yield size_text(question)
     yield "open 0"
     yield "length %d" % length
-    yield "reply " + reply.hex() if length < SHORT else "reply digest " + S.digest(reply).hex()
+    yield Both(reply_text(reply), reply_text(older_reply))
+
+
+def opened(given, table, tree, before, ask):
+    """(question, length, reply)"""
+    question = ask(tree)
+    number, length, reply = S.open_reply(question, *given, table, tree, before(S.reply_length(question)[1]))
+    assert number == 0
+    return question, length, reply
+
+
+def nodes_in(question):
+    """How many nodes the reply ends with."""
+    q = S.read_question(question)[1]
+    return len(S.missing_nodes(q.sizes.h, q.indices))
+
+
+def reply_text(reply):
+    return "reply " + reply.hex() if len(reply) < SHORT else "reply digest " + S.digest(reply).hex()
+
+
+class Both(str):
+    """A line that was another in version 2."""
+
+    def __new__(cls, line, older):
+        both = super().__new__(cls, line)
+        both.older = older
+        return both
 
 
 def case_p():
+    """The papers name neither nonces nor salt: they are zeros."""
     s = Sizes(1, 1, 1, 1, 1, 1, 1)
-    given = [5], [9], [], [7, 2], bytes(64)
+    given = Lent([5], [9], [], [7, 2], bytes(64), bytes(S.SALT_BYTES))
 
     def ask(tree):
-        return S.write_question(Question(s, tree[-32:], [10], [6], [1]))
+        return S.write_question(Question(s, tree[-32:], given.salt, [10], [6], [1]))
 
     yield from accepted(s, given, [0] * 4, bytes(96), bytes, ask)
 
@@ -146,8 +193,13 @@ BLINDED_CASES = (
 )
 
 
-def case(s, first, step):
-    yield from accepted(s, *lent(s), reply_room, lambda tree: question_of(s, tree, first, step))
+SALTED_CASES = ((SMALL, 1, 2), (BLINDED, 1, 2))  # once more, with another salt
+
+
+def case(s, first, step, tag=SALT):
+    given, table, tree = lent(s)
+    given = given._replace(salt=salt(tag))
+    yield from accepted(s, given, table, tree, reply_room, lambda tree: question_of(s, tree, given.salt, first, step))
 
 
 # ---- Refused ----------------------------------------------------------------------------------------
@@ -221,11 +273,11 @@ class Opening:
         self.given, table, tree = lent(s)
         number, self.table, self.tree = S.commit(*s.of_commitment, *self.given, table, tree)
         assert number == 0
-        self.question = question_of(s, self.tree, 1, 2)
+        self.question = question_of(s, self.tree, self.given.salt, 1, 2)
         self.exact = S.reply_length(self.question)[1]
 
     def asked(self, **changed):
-        """The question with other sizes, challenges, points or indices."""
+        """The question with other sizes, salt, challenges, points or indices."""
         return S.write_question(S.read_question(self.question)[1]._replace(**changed))
 
     def line(self, expected, question=None, given=None, table=None, tree=None, room=None):
@@ -264,10 +316,6 @@ def refused_opens():
     yield o.line(0)
 
 
-def with_version(question, version):
-    return question[:3] + version.to_bytes(2, "little") + question[5:]
-
-
 def refused_blinded_opens():
     plain, o = Opening(SMALL), Opening(BLINDED)
     yield plain.line(6, plain.question[:14])
@@ -293,6 +341,48 @@ def refused_blinded_opens():
     yield o.line(0)
 
 
+# ---- About the salt ---------------------------------------------------------------------------------
+
+SALT_LENGTHS = (0, 31, 33)
+
+
+def with_salt(given, count):
+    """What is lent, with so many bytes of salt by the rules."""
+    return given._replace(salt=salt(SALT, count))
+
+
+def refused_salted_commits():
+    c = Committing(SMALL)
+    for count in SALT_LENGTHS:
+        yield c.line(2, given=with_salt(c.given, count))
+    yield c.line(2, given=with_q(with_salt(c.given, 31), "coefficients"))
+    yield c.line(1, c.s._replace(h=0), given=with_salt(c.given, 31))
+    yield c.line(0, given=with_salt(c.given, 32))
+
+
+def refused_salted_opens():
+    o = Opening(SMALL)
+    first, last = S.SALT_AT, S.AFTER_SALT - 1
+    for version in (1, 2, 4):
+        yield o.line(5, with_version(o.question, version))
+    yield o.line(6, o.question[: -S.SALT_BYTES])
+    for count in SALT_LENGTHS:
+        yield o.line(2, given=with_salt(o.given, count))
+    yield o.line(3, raised(o.question, first), given=with_q(o.given, "masks"))
+    for at in (first, last):
+        yield o.line(8, raised(o.question, at))
+        yield o.line(8, given=with_raised_salt(o.given, at - first))
+    yield o.line(8, raised(o.question, first), tree=raised(o.tree, len(o.tree) - 1))
+    # Asked and lent are the same again; that the tree has another salt is not looked at.
+    for at in (first, last):
+        yield o.line(0, raised(o.question, at), given=with_raised_salt(o.given, at - first))
+    yield o.line(0)
+
+
+def with_raised_salt(given, at):
+    return given._replace(salt=raised(given.salt, at))
+
+
 # ---- The whole output -------------------------------------------------------------------------------
 
 
@@ -312,27 +402,30 @@ def blinded_lines():
     yield from refused_blinded_opens()
 
 
+def salted_lines():
+    for c in SALTED_CASES:
+        yield from case(*c, OTHER_SALT)
+    yield from refused_salted_commits()
+    yield from refused_salted_opens()
+
+
 def output():
-    plain = list(plain_lines())
-    compare_with_version_1(plain, VERSION_1)
-    return text([*plain, *blinded_lines()])
+    others = [*plain_lines(), *blinded_lines()]
+    compare_with_version_2(others, VERSION_2)
+    return text([*others, *salted_lines()])
 
 
 def text(lines):
     return "".join(line + "\n" for line in lines).encode()
 
 
-def in_version_1(line):
-    """A line as it was in version 1, whose sizes and headers had no beta."""
-    if line.startswith("question "):
-        question = with_version(bytes.fromhex(line.split()[1]), 1)
-        return "question " + (question[:14] + question[S.HEADER_BYTES :]).hex()
-    return line.replace(" beta 0", "", 1)
+def in_version_2(line):
+    return line.older if isinstance(line, Both) else line
 
 
-def compare_with_version_1(lines, expected):
-    if sha256(text(map(in_version_1, lines))).hexdigest() != expected:
-        sys.exit("the runs without blinding rows are not those of version 1")
+def compare_with_version_2(lines, expected):
+    if sha256(text(map(in_version_2, lines))).hexdigest() != expected:
+        sys.exit("the runs that are not about the salt are not those of version 2, but for the salt")
 
 
 def compare_or_write(path, output):

@@ -6,7 +6,8 @@
 
 As with tools/stored_openings.py, whose inputs these are, nothing here runs the proved program: every outcome is what
 reference/smallwood.py says, and each refusal also has the number that its construction gives. The runs without blinding
-rows come first; roots and values are those of version 1, proofs are not, since their draws hash the header.
+rows come first, then those with them, then those about the salt. Values are those of version 2, and so are roots once the
+salt is left out of leaf and node strings again; proofs are not, since their draws hash header, root and salt.
 """
 
 import sys
@@ -14,13 +15,14 @@ import sys
 sys.dont_write_bytecode = True
 
 from stored_openings import (  # noqa: E402
-    BLINDED, Q, ROOT, SMALL, S, Sizes, compare_or_write, compare_with_version_1, lent, points, question_of, raised, reply_room,
-    shorter, sizes_text, text, with_blinds, with_item, with_q, with_version, words,
+    BLINDED, OTHER_SALT, Q, ROOT, SALT_LENGTHS, SMALL, Both, S, Sizes, compare_or_write, compare_with_version_2, lent,
+    points, question_of, raised, reply_room, salt, shorter, sizes_text, text, tree_without_salt, version_2, with_blinds,
+    with_item, with_q, with_raised_salt, with_salt, with_version, words,
 )  # fmt: skip
 
 STORED = ROOT / "crates" / "offline_proofs" / "stdout"
-# git show 475c6a9:crates/offline_proofs/stdout | grep -E '^(h|m|question|values) ' | sha256sum
-VERSION_1 = "2db8579f3542d35a3865bd01ec2ff228b4ac53ab1c95f0ed4adde3b2e4d3507d"
+# git show 9f124fc:crates/offline_proofs/stdout | grep -E '^(h|m|question|values) ' | sha256sum
+VERSION_2 = "7346d9cbdedd5e0906faaa0312d8190c28d623bce86a8f7f26728dc3110e13bf"
 LIMIT = 5000  # above the least counter of every run here
 BUFFER = 4096  # the buffers of which a call is lent the front
 
@@ -28,10 +30,10 @@ BUFFER = 4096  # the buffers of which a call is lent the front
 SIZES = SMALL._replace(m=2)
 BLINDED_SIZES = BLINDED._replace(m=2)
 R_AT, COLUMNS_AT, TAIL_AT, ROWS_AT, MASKS_AT, NONCE_AT, NODES_AT, PROOF_LENGTH = 4, 36, 48, 68, 76, 84, 164, 228
-BLINDING_ROW_AT, BLINDED_LENGTH = 76, 236  # with a blinding row
-LEAST = 304  # the least counter with kappa 8
-COUNTER = 9  # with kappa 3
-UNQUALIFIED = 6  # draws the same leaves as COUNTER and does not qualify with kappa 3
+BLINDING_ROW_AT, BLINDED_LENGTH = 76, 204  # with a blinding row, and with one node
+LEAST = 88  # the least counter with kappa 8
+COUNTER = 11  # with kappa 3
+UNQUALIFIED = 4  # draws the same leaves as COUNTER and does not qualify with kappa 3
 
 
 def value_room(length):
@@ -41,15 +43,21 @@ def value_room(length):
 class Run:
     """A commitment at these sizes, and a question about it that a proof answers."""
 
-    def __init__(self, s):
+    def __init__(self, s, tag=None):
         self.s = s
         self.given, table, tree = lent(s)
+        if tag is not None:
+            self.given = self.given._replace(salt=salt(tag))
         number, self.table, self.tree = S.commit(*s.of_commitment, *self.given, table, tree)
         assert number == 0
         self.question = self.asked(points(s.m))
 
-    def asked(self, at, sizes=None):
-        return S.write_proof_question(S.ProofQuestion(sizes or self.s, self.tree[-32:], at))
+    def asked(self, at, sizes=None, tree=None):
+        return S.write_proof_question(S.ProofQuestion(sizes or self.s, (tree or self.tree)[-32:], self.given.salt, at))
+
+    def in_version_2(self):
+        """The question as it was in version 2."""
+        return version_2(self.asked(points(self.s.m), tree=tree_without_salt(self.s, self.table, self.given.nonces)))
 
     def prove(self, kappa, limit=LIMIT, buffer=None, question=None, given=None, table=None, tree=None):
         return S.prove(
@@ -78,8 +86,11 @@ BLINDED_ACCEPTED = (
 )
 
 
-def accepted(s, kappa):
-    run = Run(s)
+SALTED_ACCEPTED = ((SIZES, 3), (BLINDED_SIZES, 3))  # once more, with another salt
+
+
+def accepted(s, kappa, tag=None):
+    run = Run(s, tag)
     number, length, after = run.prove(kappa)
     assert number == 0
     proof = after[:length]
@@ -87,7 +98,7 @@ def accepted(s, kappa):
     assert number == 0
     yield sizes_text(s)
     yield "m %d kappa %d" % (s.m, kappa)
-    yield "question " + run.question.hex()
+    yield Both("question " + run.question.hex(), "question " + run.in_version_2().hex())
     yield "prove 0 %d" % length
     yield "proof " + proof.hex()
     yield "buffer digest " + S.digest(after + reply_room(BUFFER)[len(after) :]).hex()
@@ -106,7 +117,7 @@ def faulty_questions(run):
     yield raised(question, 4), None, 5
     yield raised(question, 8), None, 1
     yield question, 17, 1
-    yield question_of(run.s, run.tree, 1, 2), None, 6
+    yield question_of(run.s, run.tree, run.given.salt, 1, 2), None, 6
     yield question[:-1], None, 6
     yield question + bytes(1), None, 6
     yield run.asked([points(2)[0], Q]), None, 3
@@ -224,7 +235,7 @@ def refused_checks():
     yield line(3, proof=with_word_q(counted(UNQUALIFIED), ROWS_AT))
     # Other leaves, before and after, then leaves that miss one node, then the same leaves.
     for kappa, numbers in ((3, (12, 12, 7, 12, 0)), (0, (8, 8, 7, 0, 0))):
-        for counter, number in zip((7, 12, COUNTER - 1, UNQUALIFIED, 70), numbers):
+        for counter, number in zip((7, 12, 9, UNQUALIFIED, 46), numbers):
             yield line(number, kappa=kappa, proof=counted(counter))
     for kappa, in_r, in_columns, in_tail, unqualified in ((3, 12, 12, 12, 12), (0, 9, 8, 10, 8)):
         for at, number in ((R_AT, in_r), (COLUMNS_AT, in_columns), (TAIL_AT, in_tail)):
@@ -232,7 +243,7 @@ def refused_checks():
         for at in (ROWS_AT, MASKS_AT, NONCE_AT, NODES_AT):
             yield line(8, kappa=kappa, proof=raised(proof, at))
         yield line(unqualified, kappa=kappa, proof=raised(counted(UNQUALIFIED), NODES_AT))
-        for at, counter, number in ((R_AT, 13, 9), (COLUMNS_AT, 27, 10), (TAIL_AT, 28, 10)):  # the same leaves
+        for at, counter, number in ((R_AT, 75, 9), (COLUMNS_AT, 22, 10), (TAIL_AT, 33, 10)):  # the same leaves
             yield line(number, kappa=kappa, proof=raised(counted(counter), at))
     yield line(8, raised(run.question, S.HEADER_BYTES), 0)
     yield line(0)
@@ -251,19 +262,57 @@ def refused_blinded_checks():
     yield run.line(0)
 
 
+# ---- About the salt ---------------------------------------------------------------------------------
+
+FIRST, LAST = S.SALT_AT, S.AFTER_SALT - 1  # a question's salt
+
+
+def refused_salted_proofs():
+    run = Proving(SIZES)
+    for version in (1, 2, 4):
+        yield run.line(5, with_version(run.question, version))
+    yield run.line(6, run.question[: -S.SALT_BYTES])
+    for count in SALT_LENGTHS:
+        yield run.line(2, given=with_salt(run.given, count))
+    yield run.line(3, raised(run.question, FIRST), given=with_q(run.given, "masks"))
+    for at in (FIRST, LAST):
+        yield run.line(8, raised(run.question, at))
+        yield run.line(8, given=with_raised_salt(run.given, at - FIRST))
+    yield run.line(8, raised(run.question, FIRST), tree=raised(run.tree, len(run.tree) - 1))
+    yield run.line(8, raised(run.question, LAST), limit=0)
+    # Asked and lent are the same again; that the tree has another salt is not looked at.
+    for at in (FIRST, LAST):
+        yield run.line(0, raised(run.question, at), given=with_raised_salt(run.given, at - FIRST))
+    yield run.line(0)
+
+
+def refused_salted_checks():
+    """With another salt other leaves are drawn; these miss two nodes, too."""
+    run = Checking(SIZES)
+    for version in (1, 2, 4):
+        yield run.line(5, with_version(run.question, version))
+    yield run.line(6, run.question[: -S.SALT_BYTES])
+    for kappa, numbers in ((0, (8, 8)), (3, (8, 12))):
+        for at, number in zip((FIRST, LAST), numbers):
+            yield run.line(number, raised(run.question, at), kappa)
+    yield run.line(0)
+
+
 # ---- The whole output -------------------------------------------------------------------------------
 
 
-def all_accepted(cases):
-    return [line for case in cases for line in accepted(*case)]
+def all_accepted(cases, *tag):
+    return [line for case in cases for line in accepted(*case, *tag)]
 
 
 def output():
-    plain = all_accepted(ACCEPTED)
-    compare_with_version_1([line for line in plain if line.split()[0] in ("h", "m", "question", "values")], VERSION_1)
+    plain, blinded = all_accepted(ACCEPTED), all_accepted(BLINDED_ACCEPTED)
+    kept = [line for line in plain + blinded if line.split()[0] in ("h", "m", "question", "values")]
+    compare_with_version_2(kept, VERSION_2)
     return text([
         *plain, *refused_proofs(), *refused_checks(),
-        *all_accepted(BLINDED_ACCEPTED), *refused_blinded_proofs(), *refused_blinded_checks(),
+        *blinded, *refused_blinded_proofs(), *refused_blinded_checks(),
+        *all_accepted(SALTED_ACCEPTED, OTHER_SALT), *refused_salted_proofs(), *refused_salted_checks(),
     ])  # fmt: skip
 
 

@@ -47,11 +47,13 @@ static inline bool root_holds(const struct question *q, const struct reply *r)
     uint8_t strings[MAX_LEAF_STRING * MAX_OPENED], *end = strings;
     uint8_t digests[MAX_OPENED][DIGEST_BYTES];
     const uint8_t *record = r->records;
+    size_t length = LEAF_PREFIX + record_size(s);
 
+    put_salts(strings, length, s->l, LEAF_MARK, q->salt);
     for (uint32_t b = 0; b < s->l; b++, record += record_size(s))
         end = put_leaf(end, q->opened.indices[b], record, s->record, record + 4 * s->record);
-    hash(strings, LEAF_PREFIX + record_size(s), s->l, digests[0]);
-    find_root(s->h, &q->opened, digests, r->nodes);
+    hash(strings, length, s->l, digests[0]);
+    find_root(s->h, &q->opened, q->salt, digests, r->nodes);
     return memcmp(digests[0], q->root, DIGEST_BYTES) == 0;
 }
 

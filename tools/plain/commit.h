@@ -75,13 +75,16 @@ static inline void fill_table(const struct sizes *s, const struct lent *lent, ui
 
 /* Leaves come in pairs. */
 static inline void hash_leaves(const struct sizes *s, const uint32_t *table, const uint8_t *nonces,
-                               uint8_t *digests)
+                               const uint8_t *salt, uint8_t *digests)
 {
+    uint8_t strings[2 * MAX_LEAF_STRING], *second;
+    size_t length = LEAF_PREFIX + record_size(s);
+
+    put_salts(strings, length, 2, LEAF_MARK, salt);
     for (uint32_t i = 0; i < s->leaves; i += 2) {
-        uint8_t strings[2 * MAX_LEAF_STRING], *second, *end;
         second = put_leaf(strings, i, table, s->record, nonces);
-        end = put_leaf(second, i + 1, table + s->record, s->record, nonces + NONCE_BYTES);
-        hash(strings, (size_t)(end - second), 2, digests);
+        put_leaf(second, i + 1, table + s->record, s->record, nonces + NONCE_BYTES);
+        hash(strings, length, 2, digests);
         table += 2 * s->record;
         nonces += 2 * NONCE_BYTES;
         digests += 2 * DIGEST_BYTES;
@@ -92,8 +95,9 @@ uint32_t PLAIN(commit)(uint32_t h, uint32_t mu, uint32_t nu, uint32_t w, uint32_
                        uint32_t beta, const uint32_t *coefficients, size_t coefficient_count,
                        const uint32_t *tails, size_t tail_count, const uint32_t *blinds,
                        size_t blind_count, const uint32_t *masks, size_t mask_count,
-                       const uint8_t *nonces, size_t nonce_bytes, uint32_t *table,
-                       size_t table_count, uint8_t *tree, size_t tree_bytes)
+                       const uint8_t *nonces, size_t nonce_bytes, const uint8_t *salt,
+                       size_t salt_bytes, uint32_t *table, size_t table_count, uint8_t *tree,
+                       size_t tree_bytes)
 {
     struct sizes s = {.h = h, .mu = mu, .nu = nu, .w = w, .l = l, .eta = eta, .m = 1, .beta = beta};
     struct lent lent = {coefficients, tails, blinds, masks};
@@ -101,14 +105,14 @@ uint32_t PLAIN(commit)(uint32_t h, uint32_t mu, uint32_t nu, uint32_t w, uint32_
     if (!complete(&s))
         return 1;
     if (!lengths_hold(&s, coefficient_count, tail_count, blind_count, mask_count, nonce_bytes,
-                      table_count, tree_bytes))
+                      salt_bytes, table_count, tree_bytes))
         return 2;
     if (!are_elements(coefficients, coefficient_count) || !are_elements(tails, tail_count) ||
         !are_elements(blinds, blind_count) || !are_elements(masks, mask_count))
         return 3;
     fill_table(&s, &lent, table);
-    hash_leaves(&s, table, nonces, tree);
-    fill_tree(tree, s.leaves);
+    hash_leaves(&s, table, nonces, salt, tree);
+    fill_tree(tree, s.leaves, salt);
     return 0;
 }
 

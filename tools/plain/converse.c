@@ -19,8 +19,8 @@ size_t question_of_proof(const uint8_t *question, size_t question_bytes, const u
     hash_draws(&d, answers + answers_size(s));
     draw_leaves(&d, counter, 0, &q);
     draw_challenges(question, &q);
-    memcpy(to, question, HEADER_BYTES + DIGEST_BYTES);
-    to = store_words(to + HEADER_BYTES + DIGEST_BYTES, q.challenges, s->eta);
+    memcpy(to, question, NAMING_BYTES);
+    to = store_words(to + NAMING_BYTES, q.challenges, s->eta);
     to = store_words(to, q.points, s->m);
     for (uint32_t b = 0; b < s->l; b++, to += 2) {
         to[0] = (uint8_t)q.opened.indices[b];

@@ -5,7 +5,7 @@
 #include <stddef.h>
 #include <stdint.h>
 
-/* Writes it, at most 223 bytes, and returns its length: 0 where the proof's question is refused. The proof must have
+/* Writes it, at most 255 bytes, and returns its length: 0 where the proof's question is refused. The proof must have
  * room for counter and answers. */
 size_t question_of_proof(const uint8_t *question, size_t question_bytes, const uint8_t *proof, uint8_t *to);
 

@@ -13,7 +13,7 @@
 #define COUNTER_BYTES 4
 #define MAX_DRAW (DIGEST_BYTES + LONG_WORD * MAX_OPENED)
 #define MAX_ANSWERS (4 * MAX_WIDTH * (MAX_REPETITIONS + MAX_POINTS))
-#define MAX_DRAW_STRING (1 + HEADER_BYTES + DIGEST_BYTES + 4 * MAX_POINTS + MAX_ANSWERS)
+#define MAX_DRAW_STRING (1 + NAMING_BYTES + 4 * MAX_POINTS + MAX_ANSWERS)
 
 static inline uint64_t load_long(const uint8_t *from)
 {
@@ -25,7 +25,7 @@ static inline uint64_t load_long(const uint8_t *from)
 
 static inline void draw_challenges(const uint8_t *question, struct question *q)
 {
-    uint8_t string[1 + HEADER_BYTES + DIGEST_BYTES], words[DIGEST_BYTES];
+    uint8_t string[1 + NAMING_BYTES], words[DIGEST_BYTES];
 
     string[0] = CHALLENGE_MARK;
     memcpy(string + 1, question, sizeof string - 1);

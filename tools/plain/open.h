@@ -97,8 +97,9 @@ uint32_t PLAIN(open)(const uint8_t *question, size_t question_bytes, const uint3
                      size_t coefficient_count, const uint32_t *tails, size_t tail_count,
                      const uint32_t *blinds, size_t blind_count, const uint32_t *masks,
                      size_t mask_count, const uint32_t *table, size_t table_count,
-                     const uint8_t *nonces, size_t nonce_bytes, const uint8_t *tree,
-                     size_t tree_bytes, uint8_t *reply, size_t reply_bytes, uint64_t *length)
+                     const uint8_t *nonces, size_t nonce_bytes, const uint8_t *salt,
+                     size_t salt_bytes, const uint8_t *tree, size_t tree_bytes, uint8_t *reply,
+                     size_t reply_bytes, uint64_t *length)
 {
     struct lent lent = {coefficients, tails, blinds, masks};
     struct question q;
@@ -110,13 +111,13 @@ uint32_t PLAIN(open)(const uint8_t *question, size_t question_bytes, const uint3
         return number;
     if (reply_bytes != exact_size(&q) ||
         !lengths_hold(s, coefficient_count, tail_count, blind_count, mask_count, nonce_bytes,
-                      table_count, tree_bytes))
+                      salt_bytes, table_count, tree_bytes))
         return 2;
     if (!are_elements(coefficients, coefficient_count) || !are_elements(tails, tail_count) ||
         !are_elements(blinds, blind_count) || !are_elements(masks, mask_count) ||
         !are_elements(table, table_count))
         return 3;
-    if (memcmp(q.root, tree + tree_bytes - DIGEST_BYTES, DIGEST_BYTES) != 0)
+    if (!names(&q, tree + tree_bytes - DIGEST_BYTES, salt))
         return 8;
     to = store_all_answers(&q, &lent, to);
     to = store_records(&q, table, nonces, to);

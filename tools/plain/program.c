@@ -5,6 +5,7 @@
 
 #define INPUT_LIMIT 65536
 #define HEADER_BYTES 15
+#define NAMING_BYTES (HEADER_BYTES + 2 * 32) /* header, root and salt */
 
 /* The question's length and the number of values by the header; false when 15 bytes do not pass. */
 static int split(const uint8_t *input, size_t length, size_t *question, uint32_t *w, uint32_t *m)
@@ -15,7 +16,7 @@ static int split(const uint8_t *input, size_t length, size_t *question, uint32_t
         return 0;
     *w = (uint32_t)(input[9] | input[10] << 8);
     *m = input[13];
-    *question = HEADER_BYTES + 32 + 4 * (size_t)(input[12] + input[13]) + 2 * (size_t)input[11];
+    *question = NAMING_BYTES + 4 * (size_t)(input[12] + input[13]) + 2 * (size_t)input[11];
     if (*question > length)
         *question = length;
     return 1;

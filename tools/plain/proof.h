@@ -15,8 +15,8 @@ uint32_t PLAIN(prove)(const uint8_t *question, size_t question_bytes, uint32_t k
                       size_t tail_count, const uint32_t *blinds, size_t blind_count,
                       const uint32_t *masks, size_t mask_count, const uint32_t *table,
                       size_t table_count, const uint8_t *nonces, size_t nonce_bytes,
-                      const uint8_t *tree, size_t tree_bytes, uint8_t *proof, size_t proof_bytes,
-                      uint64_t *length)
+                      const uint8_t *salt, size_t salt_bytes, const uint8_t *tree,
+                      size_t tree_bytes, uint8_t *proof, size_t proof_bytes, uint64_t *length)
 {
     struct lent lent = {coefficients, tails, blinds, masks};
     struct question q;
@@ -29,13 +29,13 @@ uint32_t PLAIN(prove)(const uint8_t *question, size_t question_bytes, uint32_t k
         return number;
     if (proof_bytes != COUNTER_BYTES + reply_size(s, (size_t)s->l * s->h) ||
         !lengths_hold(s, coefficient_count, tail_count, blind_count, mask_count, nonce_bytes,
-                      table_count, tree_bytes))
+                      salt_bytes, table_count, tree_bytes))
         return 2;
     if (!are_elements(coefficients, coefficient_count) || !are_elements(tails, tail_count) ||
         !are_elements(blinds, blind_count) || !are_elements(masks, mask_count) ||
         !are_elements(table, table_count))
         return 3;
-    if (memcmp(q.root, tree + tree_bytes - DIGEST_BYTES, DIGEST_BYTES) != 0)
+    if (!names(&q, tree + tree_bytes - DIGEST_BYTES, salt))
         return 8;
     draw_challenges(question, &q);
     answers = begin_draws(&d, question, question_bytes);

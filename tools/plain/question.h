@@ -7,10 +7,11 @@
 #include "tree.h"
 
 #define HEADER_BYTES 15
+#define NAMING_BYTES (HEADER_BYTES + DIGEST_BYTES + SALT_BYTES) /* header, root and salt: every question's start */
 
 struct question {
     struct sizes sizes;
-    const uint8_t *root;
+    const uint8_t *root, *salt;
     uint32_t challenges[MAX_REPETITIONS];
     uint32_t points[MAX_POINTS];
     struct level opened;
@@ -18,7 +19,7 @@ struct question {
 
 static inline uint32_t read_header(const uint8_t *bytes, struct sizes *s)
 {
-    if (memcmp(bytes, "SWQ\2", 5) != 0)
+    if (memcmp(bytes, "SWQ\3", 5) != 0)
         return 5;
     s->h = bytes[5];
     s->mu = bytes[6];
@@ -31,6 +32,18 @@ static inline uint32_t read_header(const uint8_t *bytes, struct sizes *s)
     return complete(s) ? 0 : 1;
 }
 
+static inline void read_commitment(const uint8_t *bytes, struct question *q)
+{
+    q->root = bytes + HEADER_BYTES;
+    q->salt = q->root + DIGEST_BYTES;
+}
+
+/* Whether it is about the commitment with this root and this salt. */
+static inline bool names(const struct question *q, const uint8_t *root, const uint8_t *salt)
+{
+    return memcmp(q->root, root, DIGEST_BYTES) == 0 && memcmp(q->salt, salt, SALT_BYTES) == 0;
+}
+
 static inline uint32_t read_question(const uint8_t *bytes, size_t length, struct question *q)
 {
     struct sizes *s = &q->sizes;
@@ -41,10 +54,10 @@ static inline uint32_t read_question(const uint8_t *bytes, size_t length, struct
     number = read_header(bytes, s);
     if (number != 0)
         return number;
-    if (length != HEADER_BYTES + DIGEST_BYTES + 4 * (s->eta + s->m) + 2 * s->l)
+    if (length != NAMING_BYTES + 4 * (s->eta + s->m) + 2 * s->l)
         return 6;
-    q->root = bytes + HEADER_BYTES;
-    bytes = q->root + DIGEST_BYTES;
+    read_commitment(bytes, q);
+    bytes += NAMING_BYTES;
     load_words(q->challenges, bytes, s->eta);
     load_words(q->points, bytes + 4 * s->eta, s->m);
     bytes += 4 * (s->eta + s->m);
@@ -77,10 +90,10 @@ static inline uint32_t read_proof_question(const uint8_t *bytes, size_t length, 
         return number;
     if (kappa > MAX_KAPPA)
         return 1;
-    if (length != HEADER_BYTES + DIGEST_BYTES + 4 * s->m)
+    if (length != NAMING_BYTES + 4 * s->m)
         return 6;
-    q->root = bytes + HEADER_BYTES;
-    load_words(q->points, q->root + DIGEST_BYTES, s->m);
+    read_commitment(bytes, q);
+    load_words(q->points, bytes + NAMING_BYTES, s->m);
     return are_elements(q->points, s->m) ? 0 : 3;
 }
 

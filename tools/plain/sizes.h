@@ -9,6 +9,7 @@
 #include "shake.h"
 
 #define NONCE_BYTES 32
+#define SALT_BYTES 32
 
 /* The largest sizes. */
 #define MAX_LEAVES 4096
@@ -66,12 +67,12 @@ static inline size_t reply_size(const struct sizes *s, size_t nodes)
 
 /* Of what committing is lent, and opening after it. */
 static inline bool lengths_hold(const struct sizes *s, size_t coefficients, size_t tails, size_t blinds,
-                                size_t masks, size_t nonces, size_t table, size_t tree)
+                                size_t masks, size_t nonces, size_t salt, size_t table, size_t tree)
 {
     return coefficients == (size_t)s->w * s->each && tails == (size_t)s->rows * s->l &&
            blinds == (size_t)s->w * (s->nu - 1) * s->beta &&
            masks == (size_t)s->eta * s->width && nonces == NONCE_BYTES * (size_t)s->leaves &&
-           table == (size_t)s->leaves * s->record &&
+           salt == SALT_BYTES && table == (size_t)s->leaves * s->record &&
            tree == DIGEST_BYTES * (2 * (size_t)s->leaves - 1);
 }
 

@@ -11,9 +11,11 @@
 
 #define LEAF_MARK 0x00
 #define NODE_MARK 0x01
-#define LEAF_PREFIX 3
+#define SALTED_PREFIX (1 + SALT_BYTES)
+#define INDEX_BYTES 2
+#define LEAF_PREFIX (SALTED_PREFIX + INDEX_BYTES)
 #define MAX_LEAF_STRING (LEAF_PREFIX + 4 * (MAX_ROWS + MAX_REPETITIONS) + NONCE_BYTES)
-#define NODE_STRING (1 + 2 * DIGEST_BYTES)
+#define NODE_STRING (SALTED_PREFIX + 2 * DIGEST_BYTES)
 
 #ifdef PLAIN_OPENSSL
 #define ONE_DIGEST evp_digest
@@ -30,34 +32,44 @@ static inline void hash(const uint8_t *strings, size_t length, size_t count, uin
         ONE_DIGEST(strings, length, digests);
 }
 
-/* The string of a leaf, of which the values are words in the machine's order; returns what follows. */
+/* Mark and salt of `count` strings of the same length, one behind the other. The rest is put behind them, and again
+ * for the next digests: mark and salt stay. */
+static inline void put_salts(uint8_t *strings, size_t length, size_t count, uint8_t mark, const uint8_t *salt)
+{
+    for (; count > 0; count--, strings += length) {
+        strings[0] = mark;
+        memcpy(strings + 1, salt, SALT_BYTES);
+    }
+}
+
+/* The string of a leaf behind its salt, of which the values are words in the machine's order; returns what follows. */
 static inline uint8_t *put_leaf(uint8_t *to, uint32_t index, const void *values, size_t count,
                                 const uint8_t *nonce)
 {
-    to[0] = LEAF_MARK;
-    to[1] = (uint8_t)index;
-    to[2] = (uint8_t)(index >> 8);
+    to[SALTED_PREFIX] = (uint8_t)index;
+    to[SALTED_PREFIX + 1] = (uint8_t)(index >> 8);
     to += LEAF_PREFIX;
     copy(to, values, 4 * count);
     memcpy(to + 4 * count, nonce, NONCE_BYTES);
     return to + 4 * count + NONCE_BYTES;
 }
 
+/* The string of a node behind its salt. */
 static inline uint8_t *put_node(uint8_t *to, const uint8_t *left, const uint8_t *right)
 {
-    to[0] = NODE_MARK;
-    memcpy(to + 1, left, DIGEST_BYTES);
-    memcpy(to + 1 + DIGEST_BYTES, right, DIGEST_BYTES);
+    memcpy(to + SALTED_PREFIX, left, DIGEST_BYTES);
+    memcpy(to + SALTED_PREFIX + DIGEST_BYTES, right, DIGEST_BYTES);
     return to + NODE_STRING;
 }
 
 /* From the leaves' digests at its start, all levels of the tree. */
-static inline void fill_tree(uint8_t *tree, uint32_t leaves)
+static inline void fill_tree(uint8_t *tree, uint32_t leaves, const uint8_t *salt)
 {
-    uint8_t *above = tree + DIGEST_BYTES * (size_t)leaves;
+    uint8_t *above = tree + DIGEST_BYTES * (size_t)leaves, strings[2 * NODE_STRING];
 
+    put_salts(strings, NODE_STRING, 2, NODE_MARK, salt);
     for (uint32_t made = 0, batch; made + 1 < leaves; made += batch) {
-        uint8_t strings[2 * NODE_STRING], *end = strings;
+        uint8_t *end = strings;
         batch = made + 2 < leaves ? 2 : 1;
         for (uint32_t i = 0; i < batch; i++, tree += 2 * DIGEST_BYTES)
             end = put_node(end, tree, tree + DIGEST_BYTES);
@@ -126,14 +138,16 @@ static inline uint8_t *copy_missing(uint32_t h, const struct level *opened, cons
 }
 
 /* The opened leaves' digests become the root's, which ends in digests[0]. */
-static inline void find_root(uint32_t h, const struct level *opened,
+static inline void find_root(uint32_t h, const struct level *opened, const uint8_t *salt,
                              uint8_t (*digests)[DIGEST_BYTES], const uint8_t *missing)
 {
     struct level level;
+    uint8_t strings[NODE_STRING * MAX_OPENED];
 
+    put_salts(strings, NODE_STRING, opened->count, NODE_MARK, salt);
     begin_walk(&level, opened);
     for (; h > 0; h--) {
-        uint8_t strings[NODE_STRING * MAX_OPENED], *end = strings;
+        uint8_t *end = strings;
         uint32_t above = 0;
         for (uint32_t at = 0; at < level.count; at++) {
             uint32_t index = level.indices[at];
