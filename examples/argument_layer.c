@@ -34,9 +34,13 @@ enum {
     BLINDS = W * (NU - 1) * BETA,
     MASKS = ETA * WIDTH,
     NONCES = 32 * N,
+    ROOT = 32,
+    SALT = 32,
     TABLE = N * (ROWS + ETA),
     TREE = 32 * (2 * N - 1),
-    QUESTION = 15 + 32 + 4 * ETA + 4 * M + 2 * L,
+    HEADER = 15,
+    NAMED = HEADER + ROOT + SALT, /* a question begins with header, root and salt */
+    QUESTION = NAMED + 4 * ETA + 4 * M + 2 * L,
     BATCHING = 4 * WIDTH * ETA, /* a reply begins with the batching answers */
     EVALUATION = 4 * WIDTH * M, /* then come the evaluation answers */
     ANSWERS = BATCHING + EVALUATION,
@@ -121,14 +125,19 @@ static uint32_t word_at(const uint8_t *from)
     return (uint32_t)from[0] | (uint32_t)from[1] << 8 | (uint32_t)from[2] << 16 | (uint32_t)from[3] << 24;
 }
 
+/* What the badge sends when it has committed, and a question names: one thing, since the root is one under this salt only. */
+struct commitment {
+    uint8_t root[ROOT], salt[SALT];
+};
+
 struct asked {
     uint32_t challenges[ETA], points[M], indices[L];
 };
 
-static void write_question(uint8_t *to, const uint8_t *root, const struct asked *asked)
+static void write_question(uint8_t *to, const struct commitment *about, const struct asked *asked)
 {
     memcpy(to, "SWQ", 3);
-    put_half(to + 3, 2);
+    put_half(to + 3, 3);
     to[5] = H;
     to[6] = MU;
     put_half(to + 7, NU);
@@ -137,19 +146,21 @@ static void write_question(uint8_t *to, const uint8_t *root, const struct asked 
     to[12] = ETA;
     to[13] = M;
     to[14] = BETA;
-    memcpy(to + 15, root, 32);
+    memcpy(to + HEADER, about->root, ROOT);
+    memcpy(to + HEADER + ROOT, about->salt, SALT);
     for (int k = 0; k < ETA; k++)
-        put_word(to + 47 + 4 * k, asked->challenges[k]);
+        put_word(to + NAMED + 4 * k, asked->challenges[k]);
     for (int p = 0; p < M; p++)
-        put_word(to + 47 + 4 * ETA + 4 * p, asked->points[p]);
+        put_word(to + NAMED + 4 * ETA + 4 * p, asked->points[p]);
     for (int a = 0; a < L; a++)
-        put_half(to + 47 + 4 * ETA + 4 * M + 2 * a, asked->indices[a]);
+        put_half(to + NAMED + 4 * ETA + 4 * M + 2 * a, asked->indices[a]);
 }
 
-/* ---- The badge. Only its root, its answers and one reply leave it. */
+/* ---- The badge. Only its root and salt, its answers and one reply leave it. */
 
 static uint32_t badge_coefficients[COEFFICIENTS], badge_tails[TAILS], badge_blinds[BLINDS], badge_masks[MASKS], badge_table[TABLE];
 static uint8_t badge_nonces[NONCES], badge_tree[TREE];
+static struct commitment badge_commitment;
 
 /* What it was asked. The points and leaves are stand-ins until the reader sends his. */
 static struct asked badge_asked;
@@ -172,25 +183,27 @@ __attribute__((noinline)) static void wipe_stack(void)
         room[i] = 0;
 }
 
-static uint32_t badge_commit(uint32_t l, uint8_t *root)
+static uint32_t badge_commit(uint32_t l, size_t salt_size)
 {
     uint32_t number = smallwood_commit(H, MU, NU, W, l, ETA, BETA, badge_coefficients, COEFFICIENTS, badge_tails, TAILS, badge_blinds, BLINDS,
-                                       badge_masks, MASKS, badge_nonces, NONCES, badge_table, TABLE, badge_tree, TREE);
+                                       badge_masks, MASKS, badge_nonces, NONCES, badge_commitment.salt, salt_size, badge_table, TABLE,
+                                       badge_tree, TREE);
     wipe_stack();
     if (number == 0)
-        memcpy(root, badge_tree + TREE - 32, 32);
+        memcpy(badge_commitment.root, badge_tree + TREE - ROOT, ROOT);
     return number;
 }
 
 static uint32_t badge_open(const uint8_t *question, uint8_t *reply, size_t size, uint64_t *length)
 {
     uint32_t number = smallwood_open(question, QUESTION, badge_coefficients, COEFFICIENTS, badge_tails, TAILS, badge_blinds, BLINDS, badge_masks,
-                                     MASKS, badge_table, TABLE, badge_nonces, NONCES, badge_tree, TREE, reply, size, length);
+                                     MASKS, badge_table, TABLE, badge_nonces, NONCES, badge_commitment.salt, SALT, badge_tree, TREE, reply,
+                                     size, length);
     wipe_stack();
     return number;
 }
 
-static void badge_begins(uint8_t *root)
+static void badge_begins(struct commitment *sent)
 {
     for (uint32_t i = 0; i < COEFFICIENTS; i++)
         badge_coefficients[i] = i + 1; /* its secret; a real one has better */
@@ -198,10 +211,12 @@ static void badge_begins(uint8_t *root)
     draw_elements(badge_blinds, BLINDS); /* each as likely as any other, or columns would show coefficients after all */
     draw_elements(badge_masks, MASKS);
     draw_bytes(badge_nonces, NONCES);
+    draw_bytes(badge_commitment.salt, SALT); /* no secret, but of this commitment alone */
     for (uint32_t a = 0; a < L; a++)
         badge_asked.indices[a] = a;
-    must(badge_commit(L, root) == 0, "the badge commits");
+    must(badge_commit(L, SALT) == 0, "the badge commits");
     badge_step = COMMITTED;
+    *sent = badge_commitment;
 }
 
 /* The reply to what was asked so far, in memory of just its length. */
@@ -210,7 +225,7 @@ static uint8_t *badge_reply(size_t *size)
     uint8_t question[QUESTION], *reply;
     uint64_t needed = 0, length = 0;
 
-    write_question(question, badge_tree + TREE - 32, &badge_asked);
+    write_question(question, &badge_commitment, &badge_asked);
     must(smallwood_reply_length(question, QUESTION, &needed) == 0, "the badge learns the reply's length");
     reply = malloc((size_t)needed);
     must(reply != NULL, "the badge has memory for the reply");
@@ -271,9 +286,10 @@ static void badge_ends(void)
     wipe(badge_tree, sizeof badge_tree);
 }
 
-/* ---- The reader. It has the root, what it draws, and what the badge sends. */
+/* ---- The reader. It has root and salt, what it draws, and what the badge sends. */
 
-static uint8_t reader_root[32], reader_question[QUESTION], reader_answers[ANSWERS], reader_values[VALUES], untouched[VALUES];
+static struct commitment reader_commitment;
+static uint8_t reader_question[QUESTION], reader_answers[ANSWERS], reader_values[VALUES], untouched[VALUES];
 static struct asked reader_asked;
 
 static uint32_t reader_checks(const uint8_t *reply, size_t size)
@@ -329,10 +345,10 @@ int main(void)
 
     memset(untouched, 0xAA, VALUES);
 
-    /* The badge commits and sends the root. */
-    badge_begins(reader_root);
+    /* The badge commits and sends root and salt. */
+    badge_begins(&reader_commitment);
 
-    /* The reader draws nothing before it has the root, and no leaves before it has all answers. */
+    /* The reader draws nothing before it has both, and no leaves before it has all answers. */
     draw_elements(reader_asked.challenges, ETA);
     expect(badge_takes_challenges(reader_asked.challenges, reader_answers), "the badge gives its batching answers");
     draw_elements(reader_asked.points, M);
@@ -343,7 +359,7 @@ int main(void)
     printf("question of %d bytes, reply of %zu bytes\n", QUESTION, size);
 
     /* The reader checks, and reads the values point by point. */
-    write_question(reader_question, reader_root, &reader_asked);
+    write_question(reader_question, &reader_commitment, &reader_asked);
     expect(reader_got_before(reply), "the reply has the answers that came before");
     expect(reader_checks(reply, size) == 0, "the reply is accepted");
     for (int p = 0; p < M; p++)
@@ -378,6 +394,15 @@ int main(void)
     add_to_word(forged + ANSWERS, 1);
     expect(refused_with(8, forged, size), "a changed leaf value is refused with 8");
 
+    /* Another commitment's salt. The opener compares it; the check cannot, but hashes other strings and comes to another root. */
+    reader_question[HEADER + ROOT] ^= 1;
+    expect(badge_open(reader_question, forged, size, &length) == 8 && length == 0, "the badge refuses a question with another salt with 8");
+    expect(refused_with(8, reply, size), "under another salt the reply is refused with 8");
+    reader_question[HEADER + ROOT] ^= 1;
+    put_half(reader_question + 3, 2);
+    expect(refused_with(5, reply, size), "a question of version 2, which had no salt, is refused with 5");
+    put_half(reader_question + 3, 3);
+
     /* Two encodings of one element: q is refused, not reduced. */
     memcpy(forged, reply, size);
     put_word(forged, SMALLWOOD_Q);
@@ -390,7 +415,8 @@ int main(void)
     expect(size < REPLY_BOUND, "this reply is shorter than the bound");
     expect(badge_open(reader_question, longer, REPLY_BOUND, &length) == 2 && length == 0, "a longer buffer is refused with 2, and the length is as it was");
     expect(smallwood_reply_length(reader_question, QUESTION - 1, &length) == 6 && length == 0, "a cut question is refused with 6, and the length is as it was");
-    expect(badge_commit(N, reader_root) == 1, "sizes that do not fit are refused with 1");
+    expect(badge_commit(L, SALT - 1) == 2, "a salt that is not of 32 bytes is refused with 2");
+    expect(badge_commit(N, SALT) == 1, "sizes that do not fit are refused with 1");
     expect(reader_checks(reply, size) == 0, "the honest reply is accepted again");
 
     badge_ends();

@@ -1,6 +1,6 @@
 /*
- * A proof without a conversation, in C. A desk issues a badge: it commits, and the door gets the root while it is online. Later the door
- * is offline: it draws points, the badge proves at them, and the door checks. Then it is shown what is refused. Each result is checked,
+ * A proof without a conversation, in C. A desk issues a badge: it commits, and the door gets root and salt while it is online. Later it
+ * is offline: it draws points, the badge proves at them, and it checks. Then it is shown what is refused. Each result is checked,
  * and the program exits with 1 at the first that is not as it should be.
  *
  * All randomness is the system's (getrandom, Linux), so values, counter and the proof's length change from run to run. What is checked
@@ -34,10 +34,12 @@ enum {
     BLINDS = W * (NU - 1) * BETA,
     MASKS = ETA * WIDTH,
     NONCES = 32 * N,
+    ROOT = 32,
+    SALT = 32,
     TABLE = N * (ROWS + ETA),
     TREE = 32 * (2 * N - 1),
     HEADER = 15,
-    NAMED = HEADER + 32, /* header and root */
+    NAMED = HEADER + ROOT + SALT,
     QUESTION = NAMED + 4 * M,
     COUNTER = 4,
     ANSWERS = 4 * WIDTH * (ETA + M), /* they follow the counter */
@@ -107,11 +109,16 @@ static uint32_t word_at(const uint8_t *from)
     return (uint32_t)from[0] | (uint32_t)from[1] << 8 | (uint32_t)from[2] << 16 | (uint32_t)from[3] << 24;
 }
 
-/* What a question begins with, and badge and door both have: header and root. */
-static void write_named(uint8_t *to, const uint8_t *root)
+/* What the desk sends when the badge has committed: one thing, since the root is one under this salt only. */
+struct commitment {
+    uint8_t root[ROOT], salt[SALT];
+};
+
+/* What a question begins with, and badge and door both have: header, root and salt. */
+static void write_named(uint8_t *to, const struct commitment *about)
 {
     memcpy(to, "SWQ", 3);
-    put_half(to + 3, 2);
+    put_half(to + 3, 3);
     to[5] = H;
     to[6] = MU;
     put_half(to + 7, NU);
@@ -120,13 +127,15 @@ static void write_named(uint8_t *to, const uint8_t *root)
     to[12] = ETA;
     to[13] = M;
     to[14] = BETA;
-    memcpy(to + HEADER, root, 32);
+    memcpy(to + HEADER, about->root, ROOT);
+    memcpy(to + HEADER + ROOT, about->salt, SALT);
 }
 
-/* ---- The badge. Only its root and one proof leave it. */
+/* ---- The badge. Only its root and salt and one proof leave it. */
 
 static uint32_t badge_coefficients[COEFFICIENTS], badge_tails[TAILS], badge_blinds[BLINDS], badge_masks[MASKS], badge_table[TABLE];
 static uint8_t badge_nonces[NONCES], badge_tree[TREE], badge_named[NAMED];
+static struct commitment badge_commitment;
 static bool badge_used;
 
 static void wipe(void *memory, size_t size)
@@ -146,8 +155,8 @@ __attribute__((noinline)) static void wipe_stack(void)
         room[i] = 0;
 }
 
-/* At the desk. The root goes to the doors, over a way that they trust. */
-static void badge_begins(uint8_t *root)
+/* At the desk. Root and salt go to the doors, over a way that they trust. A badge that is renewed begins here again: all is drawn anew. */
+static void badge_begins(struct commitment *sent)
 {
     uint32_t number;
 
@@ -157,20 +166,23 @@ static void badge_begins(uint8_t *root)
     draw_elements(badge_blinds, BLINDS); /* each as likely as any other, or columns would show coefficients after all */
     draw_elements(badge_masks, MASKS);
     draw_bytes(badge_nonces, NONCES);
+    draw_bytes(badge_commitment.salt, SALT); /* no secret, but of this commitment alone */
     number = smallwood_commit(H, MU, NU, W, L, ETA, BETA, badge_coefficients, COEFFICIENTS, badge_tails, TAILS, badge_blinds, BLINDS, badge_masks,
-                              MASKS, badge_nonces, NONCES, badge_table, TABLE, badge_tree, TREE);
+                              MASKS, badge_nonces, NONCES, badge_commitment.salt, SALT, badge_table, TABLE, badge_tree, TREE);
     wipe_stack();
     must(number == 0, "the badge commits");
-    memcpy(root, badge_tree + TREE - 32, 32);
-    write_named(badge_named, root);
+    memcpy(badge_commitment.root, badge_tree + TREE - ROOT, ROOT);
+    write_named(badge_named, &badge_commitment);
     badge_used = false;
+    *sent = badge_commitment;
 }
 
 static uint32_t badge_prove(const uint8_t *question, size_t size, uint32_t kappa, uint32_t limit, uint8_t *proof, size_t room,
                             uint64_t *length)
 {
     uint32_t number = smallwood_prove(question, size, kappa, limit, badge_coefficients, COEFFICIENTS, badge_tails, TAILS, badge_blinds, BLINDS,
-                                      badge_masks, MASKS, badge_table, TABLE, badge_nonces, NONCES, badge_tree, TREE, proof, room, length);
+                                      badge_masks, MASKS, badge_table, TABLE, badge_nonces, NONCES, badge_commitment.salt, SALT,
+                                      badge_tree, TREE, proof, room, length);
     wipe_stack();
     return number;
 }
@@ -213,16 +225,17 @@ static void badge_ends(void)
     wipe(badge_tree, sizeof badge_tree);
 }
 
-/* ---- The door. It has the root from the desk, its own points, and the proof that it is shown. */
+/* ---- The door. It has root and salt from the desk, its own points, and the proof that it is shown. */
 
-static uint8_t door_root[32], door_question[QUESTION], door_values[VALUES], untouched[VALUES];
+static struct commitment door_commitment;
+static uint8_t door_question[QUESTION], door_values[VALUES], untouched[VALUES];
 static uint32_t door_points[M];
 
-/* Fresh points for each visit, drawn when the root is known. They are all that binds a proof to this door and this hour. */
+/* Fresh points for each visit, drawn when root and salt are known. They are all that binds a proof to this door and this hour. */
 static void door_asks(void)
 {
     draw_elements(door_points, M);
-    write_named(door_question, door_root);
+    write_named(door_question, &door_commitment);
     for (int p = 0; p < M; p++)
         put_word(door_question + NAMED + 4 * p, door_points[p]);
 }
@@ -370,6 +383,17 @@ static void try_lengths(const uint8_t *proof, size_t size, uint8_t *room)
     expect(smallwood_check_proof(NULL, 0, KAPPA, NULL, 0, NULL, 0) == 6, "nothing at all is refused with 6");
 }
 
+/* Another commitment's salt. It is hashed with the draws, so 7 or 12 mostly tells; if neither does, the root does. */
+static void try_salt(const uint8_t *proof, size_t size)
+{
+    door_question[HEADER + ROOT] ^= 1;
+    expect(refused(door_checks(KAPPA, proof, size)), "under another salt the proof is refused");
+    door_question[HEADER + ROOT] ^= 1;
+    put_half(door_question + 3, 2);
+    expect(door_checks(KAPPA, proof, size) == 5 && values_kept(), "a question of version 2, which had no salt, is refused with 5");
+    put_half(door_question + 3, 3);
+}
+
 /* What the prover refuses; neither the buffer nor the length changes. */
 static void try_prover(const uint8_t *proof, size_t size)
 {
@@ -389,6 +413,9 @@ static void try_prover(const uint8_t *proof, size_t size)
     memcpy(question, door_question, QUESTION);
     question[HEADER] ^= 1;
     expect(badge_prove(question, QUESTION, KAPPA, LIMIT, room, PROOF_ROOM, &length) == 8, "another root is refused with 8");
+    question[HEADER] ^= 1;
+    question[HEADER + ROOT] ^= 1;
+    expect(badge_prove(question, QUESTION, KAPPA, LIMIT, room, PROOF_ROOM, &length) == 8, "another salt is refused with 8");
     expect(length == 77 && memcmp(room, before, PROOF_ROOM) == 0, "and each time buffer and length are as they were");
 
     /* The same question once more shows nothing new: a proof is a function of what is lent. */
@@ -417,8 +444,8 @@ int main(void)
 
     memset(untouched, 0xAA, VALUES);
 
-    /* The desk issues the badge, and the door learns its root. */
-    badge_begins(door_root);
+    /* The desk issues the badge, and the door learns its root and salt. */
+    badge_begins(&door_commitment);
 
     /* The door, now offline, draws points; the badge proves; the door checks. */
     door_asks();
@@ -442,6 +469,7 @@ int main(void)
     try_bytes(proof, size);
     try_element(proof, size);
     try_lengths(proof, size, room);
+    try_salt(proof, size);
     try_other_polynomial();
     try_prover(proof, size);
     expect(door_decides(door_checks(KAPPA, proof, size)) == OPENS, "the honest proof is accepted again");

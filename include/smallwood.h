@@ -20,7 +20,7 @@
  * What a reply shows
  *
  *   One commitment answers one question, by a reply or by a proof, and the library keeps no state: the caller sees to it. Each
- *   commitment has tails, blinds, masks and nonces of its own, drawn uniformly. A proof shows what the reply in it shows.
+ *   commitment has tails, blinds, masks, nonces and a salt of its own, drawn uniformly. A proof shows what the reply in it shows.
  *
  *   Columns     For each point the reply has the value of every column. Of a polynomial with beta blinding rows they show its values at
  *               the points, and no more, as long as at most beta different points are asked, none of them 0 (from the sources, and tried
@@ -31,25 +31,34 @@
  *   Leaves      At each opened leaf it has the value of every row's polynomial. A row's l tails cover l opened leaves in all.
  *   Masks       A mask covers one batching answer.
  *
+ * The salt
+ *
+ *   32 bytes that whoever commits draws afresh for each commitment. They stand in every string that is hashed: no string is hashed alike in
+ *   two commitments whose salts differ, though the same polynomials are committed again, as when a badge is renewed. The salt is public. It
+ *   goes out with the root, stands in every question, and whoever checks takes both from the commitment as one thing, not from the question
+ *   that somebody else wrote. It hides nothing: the nonces do, and they are drawn anew for each commitment, whatever the salt.
+ *   An open and a prove are lent the salt and refuse a question with another one. A check is lent none and compares none: under another
+ *   salt it hashes other strings and comes to another root. So what is accepted is accepted of the question's root and salt together.
+ *
  * What stays in memory
  *
  *   From the dead stack after a commit every mask and some whole rows can be computed, and after an open, at some sizes, a mask
  *   (measured before there were blinding rows). Overwrite 32 kilobytes of stack after either call, or call on a stack of your own and wipe
  *   that. A prove makes its answers as an open does: do the same after it. An interpolate leaves on the dead stack what gives, with the
  *   points, every value and coefficient, and after a 13 values or what is left of them (by its source, not measured): do the same after it
- *   where values are secret. Coefficients, tails, blinds, masks, nonces and the table are the caller's to wipe.
+ *   where values are secret. Coefficients, tails, blinds, masks, nonces and the table are the caller's to wipe; the salt is no secret.
  *
  * What an accepted reply shows
  *
  *   Alone, that it fits its question, and no more: who knows the leaf indices before he answers can make false answers that fit. So
- *   challenges are drawn after the root is known, and indices only after all answers are. The answers, the first
+ *   challenges are drawn after root and salt are known, and indices only after all answers are. The answers, the first
  *   4 (w nu + l) (eta + m) bytes of a reply, do not depend on the indices: ask for them first, and compare them with the reply's.
  *
  * What an accepted proof shows
  *
  *   That its counter qualifies, and that its reply fits the question so drawn. Who proves draws for himself, and may try as many draws as
  *   he can hash: sizes and kappa have to stand against that work. Nothing binds a proof to a place, a time or a reader but the points:
- *   whoever checks draws them himself and afresh, when he already has the root from someone that he trusts, and takes one proof for them.
+ *   whoever checks draws them himself and afresh, when he already has root and salt from someone that he trusts, and takes one proof for them.
  *   With points that were known before, or that came with the proof, an old proof or a copied one is accepted as well as a new one. See
  *   the handbook, "Proofs without a conversation".
  *
@@ -60,13 +69,13 @@
  *
  *    1   a size is outside its range, or w nu + l > N, or beta > mu, or mu + beta > 64, or kappa is above 16; or there are no points to
  *        interpolate over, or more than 320
- *    2   a lent slice is of wrong length
+ *    2   a lent slice is of wrong length, the salt too
  *    3   an element is not below q
  *    4   the indices do not rise strictly, or one of them is not below N
  *    5   the mark or the version is wrong
  *    6   the question is under 15 bytes, or not of the length that its header gives
  *    7   the reply is not of its length, or the proof not of its
- *    8   the root differs
+ *    8   the root differs, or in an open and a prove the salt
  *    9   a batching answer fails at an opened leaf
  *   10   an evaluation answer fails at an opened leaf
  *   11   no counter below the limit qualifies
@@ -89,11 +98,11 @@
  *
  * A question
  *
- *   "SWQ", version (2 bytes, 2), h, mu (1 byte each), nu, w (2 bytes each), l, eta, m, beta (1 byte each): the header, 15 bytes.
- *   Then the root (32 bytes), eta challenges and m points (4 bytes each, below q), l leaf indices (2 bytes each, strictly rising).
- *   Version 1, whose header had no beta, is a 5.
- *   The sizes are the reader's to fix, together with the root: no hashed leaf or node holds the header, and the same reply can be
- *   accepted under the same root with other sizes, and with other values.
+ *   "SWQ", version (2 bytes, 3), h, mu (1 byte each), nu, w (2 bytes each), l, eta, m, beta (1 byte each): the header, 15 bytes.
+ *   Then the root (32 bytes), the salt (32 bytes), eta challenges and m points (4 bytes each, below q), l leaf indices (2 bytes each,
+ *   strictly rising). Versions 1 and 2, which had no salt, are a 5.
+ *   The sizes are the reader's to fix, together with root and salt: no hashed leaf or node holds the header, and the same reply can be
+ *   accepted under the same root and salt with other sizes, and with other values.
  *
  * A reply
  *
@@ -103,8 +112,8 @@
  *
  * A question of a proof
  *
- *   The header, as above; the root (32 bytes); m points (4 bytes each, below q): 47 + 4 m bytes. Challenges and indices are drawn by
- *   hashing (the handbook has the strings). kappa stands in no bytes: whoever checks says how many zero bits he wants.
+ *   The header, as above; the root (32 bytes); the salt (32 bytes); m points (4 bytes each, below q): 79 + 4 m bytes. Challenges and
+ *   indices are drawn by hashing (the handbook has the strings). kappa stands in no bytes: whoever checks says how many zero bits he wants.
  *
  * A proof
  *
@@ -132,13 +141,14 @@ extern "C" {
  *     blinds         polynomial by polynomial, column by column but for the last, row by row; random elements   w (nu - 1) beta
  *     masks          repetition by repetition, width coefficients each, lowest first; random elements   eta width
  *     nonces         leaf by leaf, 32 random bytes each                               32 N
+ *     salt           of this commitment, random bytes; any bytes are taken            32
  *   Fills
  *     table          leaf by leaf: mu + beta row values, then eta mask values         N (mu + beta + eta)
  *     tree           leaf digests, then each level above; the root is the last 32 bytes   32 (2 N - 1)
  *
  * The values of the polynomials do not depend on the blinds. With nu = 1 or beta = 0 there are none: an empty slice.
  *
- * Returns 0, or the first of: 1; 2, for any of the seven; 3, in coefficients, tails, blinds or masks.
+ * Returns 0, or the first of: 1; 2, for any of the eight; 3, in coefficients, tails, blinds or masks.
  */
 uint32_t smallwood_commit(uint32_t h, uint32_t mu, uint32_t nu, uint32_t w, uint32_t l, uint32_t eta, uint32_t beta,
                           const uint32_t *coefficients, size_t coefficients_length,
@@ -146,6 +156,7 @@ uint32_t smallwood_commit(uint32_t h, uint32_t mu, uint32_t nu, uint32_t w, uint
                           const uint32_t *blinds, size_t blinds_length,
                           const uint32_t *masks, size_t masks_length,
                           const uint8_t *nonces, size_t nonces_length,
+                          const uint8_t *salt, size_t salt_length,
                           uint32_t *table, size_t table_length,
                           uint8_t *tree, size_t tree_length);
 
@@ -167,8 +178,8 @@ uint32_t smallwood_reply_length(const uint8_t *question, size_t question_length,
  *     reply          the reply                                  what smallwood_reply_length gives, and no other
  *     length         the same number again
  *
- * Returns 0, or the first of: 6, 5, 1, 6, 3, 4 for the question, as above; 2, for any of the eight other slices; 3, in any lent words,
- * the table too; 8, where the tree's last 32 bytes are not the question's root.
+ * Returns 0, or the first of: 6, 5, 1, 6, 3, 4 for the question, as above; 2, for any of the nine other slices; 3, in any lent words,
+ * the table too; 8, where the tree's last 32 bytes are not the question's root, or the salt is not the question's.
  */
 uint32_t smallwood_open(const uint8_t *question, size_t question_length,
                         const uint32_t *coefficients, size_t coefficients_length,
@@ -177,6 +188,7 @@ uint32_t smallwood_open(const uint8_t *question, size_t question_length,
                         const uint32_t *masks, size_t masks_length,
                         const uint32_t *table, size_t table_length,
                         const uint8_t *nonces, size_t nonces_length,
+                        const uint8_t *salt, size_t salt_length,
                         const uint8_t *tree, size_t tree_length,
                         uint8_t *reply, size_t reply_length,
                         uint64_t *length);
@@ -200,7 +212,7 @@ uint32_t smallwood_check(const uint8_t *question, size_t question_length,
  * question so drawn, from what was lent to smallwood_commit and what it left in table and tree. These are lent as to smallwood_open.
  *
  *   Reads
- *     question       header, root, points                       47 + 4 m
+ *     question       header, root, salt, points                 79 + 4 m
  *     kappa          how many zero bits the draw must begin with
  *     limit          the counters 0, 1, .., limit - 1 are tried; 0 tries none, 4294967295 is allowed
  *   Fills
@@ -209,8 +221,8 @@ uint32_t smallwood_check(const uint8_t *question, size_t question_length,
  *     length         the proof's length in bytes
  *
  * Returns 0, or the first of: 6, for under 15 bytes; 5; 1, for the sizes or kappa; 6, for another length than the header's; 3, in the
- * points; 2, for any of the eight other slices; 3, in any lent words, the table too; 8, where the tree's last 32 bytes are not the
- * question's root; 11. With a refusal neither the buffer nor *length is changed.
+ * points; 2, for any of the nine other slices; 3, in any lent words, the table too; 8, where the tree's last 32 bytes are not the
+ * question's root, or the salt is not the question's; 11. With a refusal neither the buffer nor *length is changed.
  *
  * About one counter in 2^kappa qualifies. With a limit of 64 * 2^kappa an 11 has a probability of about e^-64. After an 11 nothing has
  * been shown, and the same call with a greater limit may follow: the proof is the same for every limit above its counter.
@@ -225,6 +237,7 @@ uint32_t smallwood_prove(const uint8_t *question, size_t question_length,
                          const uint32_t *masks, size_t masks_length,
                          const uint32_t *table, size_t table_length,
                          const uint8_t *nonces, size_t nonces_length,
+                         const uint8_t *salt, size_t salt_length,
                          const uint8_t *tree, size_t tree_length,
                          uint8_t *proof, size_t proof_length,
                          uint64_t *length);
@@ -233,7 +246,7 @@ uint32_t smallwood_prove(const uint8_t *question, size_t question_length,
  * Checks a proof for a question, and on 0 hands out the polynomials' values. Any counter that qualifies is taken, the least or not.
  *
  *   Reads
- *     question       header, root, points                       47 + 4 m
+ *     question       header, root, salt, points                 79 + 4 m
  *     kappa          how many zero bits the draw must begin with
  *     proof          the proof and nothing after it: of the prover's buffer the first *length bytes
  *   Fills
