@@ -1,8 +1,8 @@
--- Every string that is hashed tells its commitment's salt; so strings under different salts differ.
-use mathlib.Core.Path.{_≡_, sym, ap, _∙_}
+-- Every string that is hashed tells its commitment's salt; so strings under different salts differ. And what is drawn is drawn from such strings.
+use mathlib.Core.Path.{_≡_, refl, sym, ap, _∙_}
 use mathlib.Core.Bool.{Bool, true}
-use mathlib.Core.List.{List, [], _∷_, _++_, map, List·Memᴰ as Mem}
-use Prim.Native.Nat.{ℕ, suc, _≤_}
+use mathlib.Core.List.{List, [], _∷_, _++_, map, List·Memᴰ as Mem, List·Memᴰ·head as here, List·Memᴰ·tail as there}
+use Prim.Native.Nat.{ℕ, suc, _+_, _*_, _%_, _≤_, _<_}
 use native.Mathlib.Omega.{arith}
 use lib.Dec.{ltb}
 use lib.ListN.{length, getD, take, drop, length-drop}
@@ -10,23 +10,27 @@ use lib.Seq.{take-append-le, take-take, length-take-le}
 use borrow.Author.Tests.{eqb-true, lt-ltb}
 use Rattle.lists.specs.Choice.{pick}
 use Rattle.lists.specs.All.{All, all-append, all-each, all-imp, all-mem}
-use Rattle.lists.specs.Range.{upFrom}
-use Rattle.lists.specs.Bytes.{Bytes}
+use Rattle.sponge.specs.Digest.{digest}
+use Rattle.sponge.specs.Draw.{draw}
+use Rattle.lists.specs.Maps.{map-in}
+use Rattle.lists.specs.Range.{upFrom, upFrom-in}
+use Rattle.lists.specs.Bytes.{Bytes, doubles}
 use Rattle.lists.specs.Pieces.{drop-take}
 use Rattle.lists.specs.Tests.{every-true}
+use Rattle.algebra.specs.Prime.{q}
 use Rattle.tree.specs.Leaf.{saltLength}
 use Rattle.scheme.specs.Layers.{Lent}
 use Rattle.scheme.specs.Sizes.{Sizes}
-use Rattle.scheme.specs.Question.{readQuestion, saltAt, challengesAt}
+use Rattle.scheme.specs.Question.{readQuestion, headerSizes, saltAt, challengesAt}
 use Rattle.scheme.specs.Reply.{readReply}
 use Rattle.scheme.specs.Commit.{lentOk, committedStrings}
 use Rattle.scheme.specs.Check.{hashedStrings}
 use Rattle.scheme.proofs.Accepted.{well-formed}
 use Rattle.scheme.proofs.Salted.{Salted, salt-is, committed-salted, hashed-salted}
 use Rattle.fiat_shamir.specs.Offline.{headerRootSalt, offlineSalt, offlineVerdict}
-use Rattle.fiat_shamir.specs.Draw.{challengeString, drawString}
-use Rattle.fiat_shamir.specs.Prove.{provedAnswers, counterBytes}
-use Rattle.fiat_shamir.specs.CheckProof.{proofCounter, proofReply, answersLength, proofAsks}
+use Rattle.fiat_shamir.specs.Draw.{challengeString, drawnChallenges, drawString, leafDraw, ranksAt}
+use Rattle.fiat_shamir.specs.Prove.{provedAnswers, counterBytes, counterDraw}
+use Rattle.fiat_shamir.specs.CheckProof.{proofCounter, proofReply, answersLength, proofDraw, proofAsks}
 use Rattle.fiat_shamir.specs.Salts.{Hashing, commits, checks, proves, checksProof, saltOf, drawStrings, stringsOf, Begun, saltIn, SaltsApart}
 use Rattle.fiat_shamir.proofs.Drawn.{asked-offline}
 
@@ -93,3 +97,24 @@ told a e x m = all-mem (Tells (saltOf a)) (stringsOf a) (all-told a e) x m
 
 pub salts-apart : SaltsApart
 salts-apart = record { told = told; apart = λ a b e f n x m k. n (sym (told a e x m) ∙ told b f x k) }
+
+-- ---- what is drawn is drawn from these strings
+
+pub challenges-hashed : (question answers : Bytes) (counters : List Bytes)
+    → (x : Bytes) × Mem x (drawStrings question answers counters) × (drawnChallenges (headerRootSalt question) ≡ map (λ w. w % q) (doubles (headerSizes (headerRootSalt question) .η) (digest x)))
+unfolding drawnChallenges
+challenges-hashed question answers counters = (challengeString (headerRootSalt question), here refl, refl)
+
+pub proved-hashed : (question : Bytes) (κ limit : ℕ) (l : Lent) (c : ℕ) → c < limit
+    → (x : Bytes) × Mem x (stringsOf (proves question κ limit l)) × (counterDraw question l c ≡ draw x (ranksAt + 8 * headerSizes question .ℓ))
+unfolding leafDraw
+proved-hashed question κ limit l c m = (
+  drawString question (provedAnswers question l) (counterBytes c),
+  there (map-in (drawString question (provedAnswers question l)) (map-in counterBytes (upFrom-in 0 limit c (omega arith) (omega (arith, m))))),
+  refl,
+)
+
+pub checked-hashed : (question : Bytes) (κ : ℕ) (proof : Bytes)
+    → (x : Bytes) × Mem x (stringsOf (checksProof question κ proof)) × (proofDraw question proof ≡ draw x (ranksAt + 8 * headerSizes question .ℓ))
+unfolding proofDraw leafDraw
+checked-hashed question κ proof = (drawString question (take (answersLength question) (proofReply proof)) (proofCounter proof), there (here refl), refl)

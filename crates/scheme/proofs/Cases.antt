@@ -58,7 +58,7 @@ pub further-cases : All (λ (row : List ℕ × List ℕ). row .0 ≡ row .1) fur
 unfolding evalN valuesAtN columnN powN upFrom children below mem without push parents siblings missing
     verdictOf every all sizesOk columnOf lowered loweredBy blindingRows extended combination polynomialValues pieces lentOk filledOk commitTests commitVerdict
     littleEndian number leafString nodeString flatten same rising readQuestion questionTests differ samplesTests interpolationTests interpolationVerdict
-further-cases = (refl, (refl, (refl, (refl, (refl, (refl, (refl, (refl, (refl, (refl, (refl, (refl, (refl, tt)))))))))))))
+further-cases = (refl, (refl, (refl, (refl, (refl, (refl, (refl, (refl, (refl, (refl, (refl, (refl, (refl, (refl, tt))))))))))))))
 
 -- the squares 1, 4, 9 at 1, 2, 3: X^2, whatever stood in the room
 pub interpolation-case : (a b c : ℕ) → interpolating (1 ∷ 2 ∷ 3 ∷ []) (1 ∷ 4 ∷ 9 ∷ []) (a ∷ b ∷ c ∷ []) ≡ (0, 0 ∷ 0 ∷ 1 ∷ [])

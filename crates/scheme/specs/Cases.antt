@@ -2,6 +2,7 @@
 use mathlib.Core.List.{List, [], _∷_, _++_, map, flatten}
 use Prim.Native.Nat.{ℕ, _+_, _-_, _*_, _%_}
 use lib.ListN.{take, getD, replicate}
+use Rattle.lists.specs.Range.{upFrom}
 use Rattle.tree.specs.Sets.{Node, missing}
 use Rattle.tree.specs.Leaf.{leafString, saltLength}
 use Rattle.tree.specs.Tree.{nodeString}
@@ -10,7 +11,7 @@ use Rattle.algebra.specs.Inverse.{invN}
 use Rattle.algebra.specs.Numbers.{evalN, valuesAtN}
 use Rattle.scheme.specs.Sizes.{Sizes, arity, levels, nodePrefix, columns, leafPoint}
 use Rattle.scheme.specs.Layers.{Lent, column, rowPolynomials, maskPolynomial, batchingAnswer, evaluationAnswer, polynomialValues}
-use Rattle.scheme.specs.Question.{Question, questionLength, questionVerdict}
+use Rattle.scheme.specs.Question.{Question, questionAt, questionLength, questionVerdict}
 use Rattle.scheme.specs.Reply.{replyLength}
 use Rattle.scheme.specs.Commit.{commitVerdict}
 use Rattle.scheme.specs.Interpolate.{interpolationVerdict}
@@ -85,6 +86,10 @@ questionP = record { sizes = sizesP; m = 1; root = []; salt = saltP; challenges 
 abbrev pub verdictV : ℕ → ℕ → ℕ
 verdictV n v = questionVerdict (take n (0x53 ∷ 0x57 ∷ 0x51 ∷ v ∷ replicate 11 0))
 
+-- what stands at the ends of root and salt in bytes that count from 0
+abbrev pub namedIn : Question → List ℕ
+namedIn u = getD (u .root) 0 0 ∷ getD (u .root) 31 0 ∷ getD (u .salt) 0 0 ∷ getD (u .salt) 31 0 ∷ []
+
 -- the verdict of committing in case P with a salt of n bytes
 abbrev pub verdictS : ℕ → ℕ
 verdictS n =
@@ -115,6 +120,7 @@ abbrev pub further : List (List ℕ × List ℕ)
 further =
     (questionLength sizesP 1 ∷ replyLength questionP ∷ [], 89 ∷ 88 ∷ [])
     ∷ (verdictV 14 3 ∷ verdictV 15 1 ∷ verdictV 15 2 ∷ verdictV 15 3 ∷ verdictV 15 4 ∷ [], 6 ∷ 5 ∷ 5 ∷ 1 ∷ 5 ∷ [])
+    ∷ (namedIn (questionAt sizesP 1 (upFrom 0 89)), 15 ∷ 46 ∷ 47 ∷ 78 ∷ [])
     ∷ (verdictS 31 ∷ verdictS 32 ∷ verdictS 33 ∷ [], 2 ∷ 0 ∷ 2 ∷ [])
     ∷ (leafString (7 ∷ 8 ∷ []) 258 (9 ∷ []) ++ nodeString 2 (nodePrefix sizesP (7 ∷ 8 ∷ [])) (λ c. c ∷ []) 3, 0 ∷ 7 ∷ 8 ∷ 2 ∷ 1 ∷ 9 ∷ 1 ∷ 7 ∷ 8 ∷ 6 ∷ 7 ∷ [])
     ∷ (column sizes5 (lent5 (7 ∷ [])) 0 ++ column sizes5 (lent5 (7 ∷ [])) 1, 1 ∷ 2 ∷ 7 ∷ (q - 4) ∷ 4 ∷ 5 ∷ [])
