@@ -413,6 +413,18 @@ def open_calls():
     yield from refused_opens(Sizes(4, 2, 2, 2, 3, 2, 2, 1))
 
 
+def other_salt_lengths(call, c, question):
+    """Salts of other lengths, lent to opening or proving, whose call this is, and in the question."""
+    for count in SALT_LENGTHS:
+        lent = c.lent._replace(salt=salt_of(c.lent.salt, count))
+        yield call("salt of %d bytes" % count, 2, lent=lent)
+        yield call("salt of %d bytes, element" % count, 2, lent=lent._replace(tails=with_word(lent.tails, -1, Q)))
+        yield call("salt of %d bytes, root" % count, 2, lent=lent, tree=spoil(c.tree, -1))
+        cut = question[: S.SALT_AT] + lent.salt + question[S.AFTER_SALT :]
+        yield call("question with a salt of %d bytes" % count, 6, question=cut)
+        yield call("salt of %d bytes, in the question too" % count, 6, question=cut, lent=lent)
+
+
 def salted_opens():
     """Questions with another salt, another lent salt, salts of other lengths, questions without one."""
     for s in (Sizes(3, 2, 2, 1, 2, 2, 1), Sizes(4, 3, 2, 2, 3, 1, 2, 1)):
@@ -440,14 +452,7 @@ def salted_opens():
         yield call("salt before root", 8, question=exchanged_salt(question))
         lent = c.lent._replace(salt=q.root)
         yield call("salt before root, and so lent", 8, question=exchanged_salt(question), lent=lent)
-        for count in SALT_LENGTHS:
-            lent = c.lent._replace(salt=salt_of(c.lent.salt, count))
-            yield call("salt of %d bytes" % count, 2, lent=lent)
-            yield call("salt of %d bytes, element" % count, 2, lent=lent._replace(tails=with_word(lent.tails, -1, Q)))
-            yield call("salt of %d bytes, root" % count, 2, lent=lent, tree=spoil(c.tree, -1))
-            cut = question[: S.SALT_AT] + lent.salt + question[S.AFTER_SALT :]
-            yield call("question with a salt of %d bytes" % count, 6, question=cut)
-            yield call("salt of %d bytes, in the question too" % count, 6, question=cut, lent=lent)
+        yield from other_salt_lengths(call, c, question)
         for version in (0, 1, 2, 4, 256 + 3, 3 << 8):
             yield call("version %d" % version, 5, question=with_version(question, version))
         for older in (version_1, version_2):

@@ -10,7 +10,7 @@ from itertools import combinations, permutations, product
 import smallwood as S
 from calls import (
     COMMIT_SIZES, LENT_ROOT_FAULTS, SALT_LENGTHS, WORDS, blinded_sizes, exchanged_salt, mistaken_lengths, off_by,
-    other_salts, salt_of, version_1, version_2, with_version, with_word, without_salt,
+    other_salt_lengths, other_salts, salt_of, version_1, version_2, with_version, with_word, without_salt,
 )  # fmt: skip
 from drafts import (
     LAST_WORD, Lent, ProofDraft, Source, add, allowed, answers_of, border_sizes, case_p_commitment, committed, ends,
@@ -706,14 +706,7 @@ def salted_proves(d):
     yield call("salt for root", 8, question=S.write_proof_question(p._replace(root=p.salt)))
     yield call("salt before root", 8, question=exchanged_salt(question))
     yield call("salt before root, and so lent", 8, question=exchanged_salt(question), lent=c.lent._replace(salt=p.root))
-    for count in SALT_LENGTHS:
-        lent = c.lent._replace(salt=salt_of(c.lent.salt, count))
-        yield call("salt of %d bytes" % count, 2, lent=lent)
-        yield call("salt of %d bytes, element" % count, 2, lent=lent._replace(tails=with_word(lent.tails, -1, Q)))
-        yield call("salt of %d bytes, root" % count, 2, lent=lent, tree=spoil(c.tree, -1))
-        cut = question[: S.SALT_AT] + lent.salt + question[S.AFTER_SALT :]
-        yield call("question with a salt of %d bytes" % count, 6, question=cut)
-        yield call("salt of %d bytes, in the question too" % count, 6, question=cut, lent=lent)
+    yield from other_salt_lengths(call, c, question)
 
 
 def buffer_proves(d):

@@ -434,40 +434,50 @@ static void expect_other_salt(const char *what, size_t which, uint32_t number, c
     }
 }
 
-/* The opener, with another salt lent, then asked for. */
+/* A call of the opener or the prover with what the instance has. */
+typedef uint32_t run(struct instance *a);
+
+static uint32_t run_open(struct instance *a)
+{
+    return open_with(&library, a);
+}
+
+static uint32_t run_prove(struct instance *a)
+{
+    return prove_with(&library, a, 0, ~0u);
+}
+
+/* It is made with another salt lent, then asked for. */
+static void other_salt(const char *lent, const char *asked, size_t which, run *call, uint8_t *question,
+                       uint8_t *buffer, size_t bytes, uint64_t *length)
+{
+    struct instance *a = commitments[which];
+    struct salt_bit b = draw_salt_bit();
+
+    memset(buffer, GUARD_BYTE, bytes);
+    *length = 0;
+    turn_lent(a, b);
+    expect_other_salt(lent, which, call(a), buffer, bytes, length);
+    turn_lent(a, b);
+    turn_asked(question, b);
+    expect_other_salt(asked, which, call(a), buffer, bytes, length);
+    turn_asked(question, b);
+}
+
 static void open_other_salt(size_t which)
 {
     struct instance *a = commitments[which];
-    struct salt_bit b = draw_salt_bit();
 
-    memset(a->reply, GUARD_BYTE, a->reply_bytes);
-    a->length = 0;
-    turn_lent(a, b);
-    expect_other_salt("another salt lent, commitment", which, open_with(&library, a), a->reply, a->reply_bytes,
-                      &a->length);
-    turn_lent(a, b);
-    turn_asked(a->question, b);
-    expect_other_salt("another salt asked for, commitment", which, open_with(&library, a), a->reply,
-                      a->reply_bytes, &a->length);
-    turn_asked(a->question, b);
+    other_salt("another salt lent, commitment", "another salt asked for, commitment", which, run_open, a->question,
+               a->reply, a->reply_bytes, &a->length);
 }
 
-/* The prover, likewise. */
 static void prove_other_salt(size_t which)
 {
     struct instance *a = commitments[which];
-    struct salt_bit b = draw_salt_bit();
 
-    memset(a->proof, GUARD_BYTE, a->proof_bytes);
-    a->proof_length = 0;
-    turn_lent(a, b);
-    expect_other_salt("proof, another salt lent, commitment", which, prove_with(&library, a, 0, ~0u), a->proof,
-                      a->proof_bytes, &a->proof_length);
-    turn_lent(a, b);
-    turn_asked(a->proof_question, b);
-    expect_other_salt("proof, another salt asked for, commitment", which, prove_with(&library, a, 0, ~0u), a->proof,
-                      a->proof_bytes, &a->proof_length);
-    turn_asked(a->proof_question, b);
+    other_salt("proof, another salt lent, commitment", "proof, another salt asked for, commitment", which, run_prove,
+               a->proof_question, a->proof, a->proof_bytes, &a->proof_length);
 }
 
 /* With its own counter for a limit the prover has none, and leaves buffer and length. */

@@ -360,23 +360,30 @@ def refused_salted_commits():
     yield c.line(0, given=with_salt(c.given, 32))
 
 
-def refused_salted_opens():
-    o = Opening(SMALL)
-    first, last = S.SALT_AT, S.AFTER_SALT - 1
+FIRST, LAST = S.SALT_AT, S.AFTER_SALT - 1  # a question's salt
+
+
+def refused_salted(run, *more):
+    """The lines of a run of opening or proving, with more after its refusals."""
     for version in (1, 2, 4):
-        yield o.line(5, with_version(o.question, version))
-    yield o.line(6, o.question[: -S.SALT_BYTES])
+        yield run.line(5, with_version(run.question, version))
+    yield run.line(6, run.question[: -S.SALT_BYTES])
     for count in SALT_LENGTHS:
-        yield o.line(2, given=with_salt(o.given, count))
-    yield o.line(3, raised(o.question, first), given=with_q(o.given, "masks"))
-    for at in (first, last):
-        yield o.line(8, raised(o.question, at))
-        yield o.line(8, given=with_raised_salt(o.given, at - first))
-    yield o.line(8, raised(o.question, first), tree=raised(o.tree, len(o.tree) - 1))
+        yield run.line(2, given=with_salt(run.given, count))
+    yield run.line(3, raised(run.question, FIRST), given=with_q(run.given, "masks"))
+    for at in (FIRST, LAST):
+        yield run.line(8, raised(run.question, at))
+        yield run.line(8, given=with_raised_salt(run.given, at - FIRST))
+    yield run.line(8, raised(run.question, FIRST), tree=raised(run.tree, len(run.tree) - 1))
+    yield from more
     # Asked and lent are the same again; that the tree has another salt is not looked at.
-    for at in (first, last):
-        yield o.line(0, raised(o.question, at), given=with_raised_salt(o.given, at - first))
-    yield o.line(0)
+    for at in (FIRST, LAST):
+        yield run.line(0, raised(run.question, at), given=with_raised_salt(run.given, at - FIRST))
+    yield run.line(0)
+
+
+def refused_salted_opens():
+    yield from refused_salted(Opening(SMALL))
 
 
 def with_raised_salt(given, at):

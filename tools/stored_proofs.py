@@ -15,9 +15,9 @@ import sys
 sys.dont_write_bytecode = True
 
 from stored_openings import (  # noqa: E402
-    BLINDED, OTHER_SALT, Q, ROOT, SALT_LENGTHS, SMALL, Both, S, Sizes, compare_or_write, compare_with_version_2, lent,
-    points, question_of, raised, reply_room, salt, shorter, sizes_text, text, tree_without_salt, version_2, with_blinds,
-    with_item, with_q, with_raised_salt, with_salt, with_version, words,
+    BLINDED, FIRST, LAST, OTHER_SALT, Q, ROOT, SMALL, Both, S, Sizes, compare_or_write, compare_with_version_2, lent, points,
+    question_of, raised, refused_salted, reply_room, salt, shorter, sizes_text, text, tree_without_salt, version_2,
+    with_blinds, with_item, with_q, with_version, words,
 )  # fmt: skip
 
 STORED = ROOT / "crates" / "offline_proofs" / "stdout"
@@ -264,26 +264,9 @@ def refused_blinded_checks():
 
 # ---- About the salt ---------------------------------------------------------------------------------
 
-FIRST, LAST = S.SALT_AT, S.AFTER_SALT - 1  # a question's salt
-
-
 def refused_salted_proofs():
     run = Proving(SIZES)
-    for version in (1, 2, 4):
-        yield run.line(5, with_version(run.question, version))
-    yield run.line(6, run.question[: -S.SALT_BYTES])
-    for count in SALT_LENGTHS:
-        yield run.line(2, given=with_salt(run.given, count))
-    yield run.line(3, raised(run.question, FIRST), given=with_q(run.given, "masks"))
-    for at in (FIRST, LAST):
-        yield run.line(8, raised(run.question, at))
-        yield run.line(8, given=with_raised_salt(run.given, at - FIRST))
-    yield run.line(8, raised(run.question, FIRST), tree=raised(run.tree, len(run.tree) - 1))
-    yield run.line(8, raised(run.question, LAST), limit=0)
-    # Asked and lent are the same again; that the tree has another salt is not looked at.
-    for at in (FIRST, LAST):
-        yield run.line(0, raised(run.question, at), given=with_raised_salt(run.given, at - FIRST))
-    yield run.line(0)
+    yield from refused_salted(run, run.line(8, raised(run.question, LAST), limit=0))
 
 
 def refused_salted_checks():
