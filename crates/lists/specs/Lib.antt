@@ -6,12 +6,13 @@ pub mod Tests
 pub mod Differ
 pub mod Scan
 pub mod Least
--- what holds of all elements; rising lists, lists put in order; ranges
+-- what holds of all elements; rising lists, lists put in order; ranges; sums
 pub mod All
 pub mod Rising
 pub mod Sorted
 pub mod Range
 pub mod Maps
+pub mod Total
 -- lists cut into pieces, and parts of a list
 pub mod Pieces
 pub mod Parts

@@ -69,6 +69,16 @@ passed (t ∷ ts) p e = let h = head (t .1) e in (h .0, passed ts (p .1) (h .1))
     head true k = absurd (subst (λ (n : ℕ). 0 < n → ⊥) (sym k) not-suc-le-zero (p .0))
     head false k = (refl, k)
 
+-- a verdict of a kind that none of the first tests has: none of these holds
+pub passed-by : (kind : ℕ → Bool) (ts more : List Test) → All (λ (t : Test). kind (t .0) ≡ false) ts → kind (verdictOf (ts ++ more)) ≡ true → All (λ (t : Test). t .1 ≡ false) ts
+unfolding verdictOf
+passed-by kind [] more h e = tt
+passed-by kind (t ∷ ts) more h e = let k = head (t .1) e in (k .0, passed-by kind ts more (h .1) (k .1))
+  where
+    head : (b : Bool) → kind (pick b (t .0) (verdictOf (ts ++ more))) ≡ true → (b ≡ false) × (kind (verdictOf (ts ++ more)) ≡ true)
+    head true k = absurd (false≢true (sym (h .0) ∙ k))
+    head false k = (refl, k)
+
 pub pass : (ts : List Test) → All (λ (t : Test). t .1 ≡ false) ts → verdictOf ts ≡ 0
 unfolding verdictOf
 pass [] h = refl

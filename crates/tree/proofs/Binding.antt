@@ -18,7 +18,7 @@ use Rattle.tree.proofs.Strings.{found-above, string-in}
 use Rattle.tree.proofs.Members.{child-in, parents-in, known, parents-below}
 
 -- an opening of the shape that its set asks for: a string of the right size for each node of the set and for each missing node
-record Fits (b size h : ℕ) (s : List ℕ) (ds nodes : List Bytes) : Type 0 where
+pub record Fits (b size h : ℕ) (s : List ℕ) (ds nodes : List Bytes) : Type 0 where
   pub bound : Below (b ^ h) s
   pub digests : length s ≡ length ds
   pub sizes : Sized size ds
@@ -38,7 +38,7 @@ pub record Opening (b size h : ℕ) (s : List ℕ) (leaves nodes : List Bytes) :
 
 module _ (digest : Bytes → Bytes) (size : ℕ) (sized : (x : Bytes) → length (digest x) ≡ size) (b : ℕ) (pos : zero < b) (pre : Bytes) where
   -- one level up
-  fits-up : (h : ℕ) (s : List ℕ) (ds nodes : List Bytes) → Fits b size (suc h) s ds nodes
+  pub fits-up : (h : ℕ) (s : List ℕ) (ds nodes : List Bytes) → Fits b size (suc h) s ds nodes
       → Fits b size h (parents b s) (map digest (strings digest b pre s ds nodes)) (drop (length (siblings b s)) nodes)
   unfolding strings missing
   fits-up h s ds nodes f = record {
@@ -50,7 +50,7 @@ module _ (digest : Bytes → Bytes) (size : ℕ) (sized : (x : Bytes) → length
   }
 
   -- the digests of the children, as the opening gives them
-  children-sized : (h : ℕ) (s : List ℕ) (ds nodes : List Bytes) → Fits b size (suc h) s ds nodes → (p : ℕ) → Mem p (parents b s)
+  pub children-sized : (h : ℕ) (s : List ℕ) (ds nodes : List Bytes) → Fits b size (suc h) s ds nodes → (p : ℕ) → Mem p (parents b s)
       → Sized size (map (found (s ++ siblings b s) (ds ++ nodes)) (children b p))
   children-sized h s ds nodes f p m =
       let long : length (s ++ siblings b s) ≤ length (ds ++ nodes) =
@@ -93,7 +93,7 @@ module _ (digest : Bytes → Bytes) (size : ℕ) (sized : (x : Bytes) → length
       ∙ node-inj v₁ v₂ (i / b) i (children-sized h s₁ ds₁ n₁ f₁ (i / b) p₁) (children-sized h s₂ ds₂ n₂ f₂ (i / b) p₂) (child-in b i pos) same
       ∙ found-left (siblings b s₂) ds₂ n₂ m₂ (f₂ .digests)
 
-  fits : (h : ℕ) (s : List ℕ) (leaves nodes : List Bytes) → Opening b size h s leaves nodes → Fits b size h s (map digest leaves) nodes
+  pub fits : (h : ℕ) (s : List ℕ) (leaves nodes : List Bytes) → Opening b size h s leaves nodes → Fits b size h s (map digest leaves) nodes
   fits h s leaves nodes o = record {
     bound = o .bound;
     digests = o .counted ∙ simp length-map;

@@ -23,10 +23,6 @@ copy-part buf x to j m h k l =
     take-paste buf to (drop (32 * j) x) 32 (omega arith) (omega (arith, length-drop (32 * j) x))
     ∙ ap (λ (r : Bytes). take to buf ++ r) (sym (pieces-at 32 m j x k))
 
--- rows with the same bytes in front have the same digests there
-pub parts-same : (n : ℕ) (x y : Bytes) → 32 * n ≤ length x → 32 * n ≤ length y → take (32 * n) x ≡ take (32 * n) y → parts n x ≡ parts n y
-parts-same n x y h l e = sym (pieces-front 32 n x h) ∙ ap (parts n) e ∙ pieces-front 32 n y l
-
 pub parts-bytes : (n : ℕ) (x : Bytes) → 32 * n ≤ length x → flatten (parts n x) ≡ take (32 * n) x
 parts-bytes n x h = ap flatten (sym (pieces-front 32 n x h)) ∙ flatten-pieces 32 n (take (32 * n) x) (length-take-le (32 * n) x h)
 

@@ -5,6 +5,7 @@ pub mod Complete
 pub mod Binding
 pub mod Counts
 pub mod Missing
+pub mod Above
 pub mod Rows
 -- laws of the definitions
 pub mod Members

@@ -17,18 +17,18 @@ use Rattle.tree.proofs.Members.{child-in, below-in, below-of, mem-in, m
 abbrev pub Above : ℕ → List ℕ → Node → Type 0
 Above b s n = (i : ℕ) × Mem i s × (i / b ^ (n .0) ≡ n .1)
 
-above-parents : (b : ℕ) (s : List ℕ) (k p : ℕ) → Above b (parents b s) (k, p) → Above b s (suc k, p)
+pub above-parents : (b : ℕ) (s : List ℕ) (k p : ℕ) → Above b (parents b s) (k, p) → Above b s (suc k, p)
 above-parents b s k p a =
     let o = parents-of b s (a .1) in
     (o .0, o .1, (ap (λ (x : ℕ). o .0 / x) (pow-succ' b k) ∙ sym (div-div-eq-div-mul (o .0) b (b ^ k))) ∙ ap (λ (x : ℕ). x / b ^ k) (sym (o .2)) ∙ a .2)
 
-parents-above : (b : ℕ) (s : List ℕ) (k p : ℕ) → Above b s (suc k, p) → Above b (parents b s) (k, p)
+pub parents-above : (b : ℕ) (s : List ℕ) (k p : ℕ) → Above b s (suc k, p) → Above b (parents b s) (k, p)
 parents-above b s k p a = (a .0 / b, parents-in b (a .1), div-div-eq-div-mul (a .0) b (b ^ k) ∙ ap (λ (x : ℕ). a .0 / x) (sym (pow-succ' b k)) ∙ a .2)
 
-above-zero : (b : ℕ) (s : List ℕ) (p : ℕ) → Above b s (0, p) → Mem p s
+pub above-zero : (b : ℕ) (s : List ℕ) (p : ℕ) → Above b s (0, p) → Mem p s
 above-zero b s p a = in-cast (sym (a .2) ∙ ap (λ (x : ℕ). a .0 / x) (pow-zero b) ∙ div-one (a .0)) (a .1)
 
-zero-above : (b : ℕ) (s : List ℕ) (p : ℕ) → Mem p s → Above b s (0, p)
+pub zero-above : (b : ℕ) (s : List ℕ) (p : ℕ) → Mem p s → Above b s (0, p)
 zero-above b s p m = (p, m, ap (λ (x : ℕ). p / x) (pow-zero b) ∙ div-one p)
 
 -- a node under the root, not above (or in) the set, whose parent is above it
@@ -127,11 +127,11 @@ siblings-rising : (b : ℕ) (s : List ℕ) → zero < b → Rising s → Rising 
 unfolding siblings
 siblings-rising b s h r = without-rising s (below b (parents b s)) (below-rising b (parents b s) h (parents-rising b s h r))
 
-level-order : (cs : List ℕ) → Rising cs → InOrder (map (λ c. (0, c)) cs)
-level-order [] r = tt
-level-order (c ∷ cs) r = (λ m k. let o = map-of cs k in subst (Before (0, c)) (sym (o .2)) (inr (refl, r .0 (o .0) (o .1))), level-order cs (r .1))
+pub level-order : (k : ℕ) (cs : List ℕ) → Rising cs → InOrder (map (λ c. (k, c)) cs)
+level-order k [] r = tt
+level-order k (c ∷ cs) r = (λ m i. let o = map-of cs i in subst (Before (k, c)) (sym (o .2)) (inr (refl, r .0 (o .0) (o .1))), level-order k cs (r .1))
 
-raised-order : (ns : List Node) → InOrder ns → InOrder (map raised ns)
+pub raised-order : (ns : List Node) → InOrder ns → InOrder (map raised ns)
 raised-order [] r = tt
 raised-order (n ∷ ns) r = (
   λ m k.
@@ -140,7 +140,7 @@ raised-order (n ∷ ns) r = (
   raised-order ns (r .1),
 )
 
-append-order : (xs ys : List Node) → InOrder xs → InOrder ys → ((x y : Node) → Mem x xs → Mem y ys → Before x y) → InOrder (xs ++ ys)
+pub append-order : (xs ys : List Node) → InOrder xs → InOrder ys → ((x y : Node) → Mem x xs → Mem y ys → Before x y) → InOrder (xs ++ ys)
 append-order [] ys rx ry h = ry
 append-order (x ∷ xs) ys rx ry h = (
   λ j m. ⊎-elim (λ k. rx .0 j k) (λ k. h x j (here refl) k) (in-cases xs m),
@@ -153,7 +153,7 @@ unfolding missing
 missing-order b zero s pos r = tt
 missing-order b (suc h) s pos r =
     append-order (map (λ c. (0, c)) (siblings b s)) (map raised (missing b h (parents b s)))
-    (level-order (siblings b s) (siblings-rising b s pos r))
+    (level-order 0 (siblings b s) (siblings-rising b s pos r))
     (raised-order (missing b h (parents b s)) (missing-order b h (parents b s) pos (parents-rising b s pos r)))
     (λ x y m k.
     let o = map-of (siblings b s) m in
