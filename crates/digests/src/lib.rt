@@ -1,9 +1,9 @@
 // Digests in rows of bytes: copies, a digest written to its place, the string and the digest of a leaf, what a node's string begins with.
 //
-// A digest has 32 bytes; in a row they stand one after the other.
+// A digest has 32 bytes; in a row they stand one after the other. A function that writes a digest returns how many permutations were run for it.
 ghost use mathlib.Core.Path.{_≡_};
 ghost use mathlib.Core.List.{_∷_, _++_};
-ghost use Prim.Native.Nat.{_+_, _*_, _≤_, _<_};
+ghost use Prim.Native.Nat.{_+_, _*_, _/_, _≤_, _<_};
 ghost use lib.ListN.{length, take, drop};
 ghost use lib.Seq.{paste};
 ghost use Rattle.sponge.specs.Digest.{digest};
@@ -14,11 +14,11 @@ const SALT: usize = 32; // bytes of a salt
 
 pub const PREFIX: usize = 33; // what every string begins with: a byte, the salt
 
-const RECORD_START: usize = 35; // where a leaf's record begins in its string: after the prefix, the index
+pub const RECORD_START: usize = 35; // where a leaf's record begins in its string: after the prefix, the index
 
 const LONGEST_LEAF: usize = 339; // a string with the longest record
 
-const NODE: usize = 97; // a node's string: the prefix, two digests
+pub const NODE: usize = 97; // a node's string: the prefix, two digests
 
 // ---- Copies and digests
 
@@ -35,7 +35,7 @@ pub fn copy(dst: &mut [u8], to: usize, src: &[u8], from: usize, n: usize)
 }
 
 // Copies the first n bytes.
-pub fn copy_front(dst: &mut [u8], src: &[u8], n: usize)
+fn copy_front(dst: &mut [u8], src: &[u8], n: usize)
     requires { ⌜ (n ≤ length (now dst)) × (n ≤ length (now src)) ⌝ }
     ensures { λ _. ⌜ take n (now (dst .exit)) ≡ take n (now (src .entry)) ⌝ }
 {
@@ -53,22 +53,26 @@ pub fn first_digest(s: &[u8]) -> [u8; 32]
 }
 
 // The digest of s, written to out.
-fn digest_into(s: &[u8], out: &mut [u8])
+fn digest_into(s: &[u8], out: &mut [u8]) -> usize
     requires { ⌜ length (now out) ≡ 32 ⌝ }
     ensures { λ _. ⌜ now (out .exit) ≡ digest (now (s .entry)) ⌝ }
+    ensures { λ r. ⌜ r ≡ length (now (s .entry)) / 136 + 1 ⌝ }
 {
-    let d = sponge::digest(s);
+    let h = sponge::hash(s);
+    let d = h.digest;
     copy(out, 0, &d, 0, 32);
+    h.permutations
 }
 
 // The digest of s, written to place p of a row of digests.
-pub fn write_digest(s: &[u8], row: &mut [u8], p: usize)
+pub fn write_digest(s: &[u8], row: &mut [u8], p: usize) -> usize
     requires { ⌜ 32 * p + 32 ≤ length (now row) ⌝ }
     ensures { λ _. ⌜ now (row .exit) ≡ take (32 * p) (now (row .entry)) ++ (digest (now (s .entry)) ++ drop (32 * p + 32) (now (row .entry))) ⌝ }
+    ensures { λ r. ⌜ r ≡ length (now (s .entry)) / 136 + 1 ⌝ }
 {
     let lo = 32 * p;
     let hi = lo + 32;
-    digest_into(s, &mut row[lo..hi]);
+    digest_into(s, &mut row[lo..hi])
 }
 
 // ---- Leaves
@@ -86,14 +90,15 @@ fn leaf_string(salt: &[u8], index: LeafIndex, leaf: &[u8], buf: &mut [u8])
 }
 
 // The digest of a leaf, given the commitment's salt, the leaf's index and its record of values and nonce.
-pub fn leaf_digest(salt: &[u8], index: LeafIndex, leaf: &[u8], out: &mut [u8])
+pub fn leaf_digest(salt: &[u8], index: LeafIndex, leaf: &[u8], out: &mut [u8]) -> usize
     requires { ⌜ (length (now salt) ≡ saltLength) × (index .0 < indexEnd) × (length (now leaf) ≤ longestRecord) × (length (now out) ≡ 32) ⌝ }
     ensures { λ _. ⌜ now (out .exit) ≡ digest (leafString (now (salt .entry)) (index .0) (now (leaf .entry))) ⌝ }
+    ensures { λ r. ⌜ r ≡ (recordStart + length (now (leaf .entry))) / 136 + 1 ⌝ }
 {
     let mut buf = [0u8; LONGEST_LEAF];
     let n = RECORD_START + leaf.len();
     leaf_string(salt, index, leaf, &mut buf);
-    digest_into(&buf[0..n], out);
+    digest_into(&buf[0..n], out)
 }
 
 // ---- Nodes

@@ -9,7 +9,7 @@ use Rattle.sponge.specs.Shake.{shake256, squeezed}
 pub digest : List ℕ → List ℕ
 digest m = shake256 m 32
 
--- for the proof of this crate's function `digest` alone
+-- for the proof of this crate's function `hash` alone
 pub digest-is : (m : List ℕ) → digest m ≡ shake256 m 32
 unfolding digest
 digest-is m = refl

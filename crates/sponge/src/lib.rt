@@ -1,6 +1,6 @@
 // SHAKE256 of FIPS 202: cut to 32 bytes, with output of any length, and of many strings that begin alike.
 ghost use mathlib.Core.Path.{_≡_};
-ghost use Prim.Native.Nat.{_*_, _/_, _≤_, _<_};
+ghost use Prim.Native.Nat.{_+_, _*_, _/_, _≤_, _<_};
 ghost use lib.ListN.{length};
 ghost use Rattle.sponge.specs.Shake as S;
 ghost use Rattle.sponge.specs.Step as W;
@@ -52,28 +52,67 @@ fn xor_last_block(a: &mut [u64; 25], s: &[u8])
     a[16] = a[16] ^ 0x8000_0000_0000_0000;
 }
 
-// The state after all blocks of the padded string.
-fn absorb(s: &[u8]) -> [u64; 25]
-    ensures { λ r. ⌜ r ≡ S.absorbed (S.padded (now (s .entry))) (length (S.padded (now (s .entry))) / 136) ⌝ }
+// A state, and how many permutations were run for it.
+struct Absorbed {
+    state: [u64; 25],
+    permutations: usize,
+}
+
+// The state after all blocks of the padded string. Each permutation for a digest is run here, and counted.
+fn absorb(s: &[u8]) -> Absorbed
+    ensures { λ r. ⌜ r .state ≡ S.absorbed (S.padded (now (s .entry))) (r .permutations) ⌝ }
+    ensures { λ r. ⌜ r .permutations ≡ length (now (s .entry)) / 136 + 1 ⌝ }
 {
     let mut a = [0u64; 25];
+    let mut ran: usize = 0;
     let mut at: usize = 0;
     while RATE <= s.len() - at {
         let next = at + RATE;
         xor_words(&mut a, &s[at..next]);
         keccak_f(&mut a);
+        ran += 1;
         at = next;
     }
     xor_last_block(&mut a, &s[at..]);
     keccak_f(&mut a);
-    a
+    Absorbed {
+        state: a,
+        permutations: ran + 1,
+    }
+}
+
+// A digest, and how many permutations were run for it.
+pub struct Hashed {
+    pub digest: [u8; 32],
+    pub permutations: usize,
+}
+
+// The digest of a byte string of any length, with its permutations counted.
+pub fn hash(s: &[u8]) -> Hashed
+    ensures { λ r. ⌜ r .digest ≡ D.digest (now (s .entry)) ⌝ }
+    ensures { λ r. ⌜ r .permutations ≡ length (now (s .entry)) / 136 + 1 ⌝ }
+{
+    let t = absorb(s);
+    let state = t.state;
+    let digest = squeeze(state);
+    Hashed {
+        digest,
+        permutations: t.permutations,
+    }
 }
 
 // The digest of a byte string of any length.
 pub fn digest(s: &[u8]) -> [u8; 32]
     ensures { λ r. ⌜ r ≡ D.digest (now (s .entry)) ⌝ }
 {
-    squeeze(absorb(s))
+    hash(s).digest
+}
+
+// The permutations that `hash` runs for a string of n bytes: for planners, who hash nothing.
+pub fn permutations_for(n: usize) -> usize
+    ensures { λ r. ⌜ r ≡ n / 136 + 1 ⌝ }
+{
+    n / RATE + 1
 }
 
 // ---- output of any length, and from a state on: apart from `absorb`, which is the faster for having one caller

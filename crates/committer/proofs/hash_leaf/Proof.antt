@@ -58,7 +58,7 @@ same-length c = search needs
 returns : tie.Need-returns
 returns c =
     let args = c .before .before .before .before .before .before .before .before .before .before .before .before .before .before .before .before .args in
-    c .before .before .leaf-digest .ensures
+    c .before .before .leaf-digest .ensures .0
     ∙ ap (λ (x : Bytes). digest (leafString (args .salt .now) (args .index .0) x))
     (record-is (args .values .now) (args .nonce .now) (c .before .before .before .before .before .before .before .before .before .before .before .blank-record .result)
     (c .before .before .before .before .before .before .before .before .before .put-words .last .0) (c .before .before .before .before .before .before .put-bytes .last .0) (4 * length (args .values .now)) refl

@@ -1,7 +1,11 @@
 -- `leaf_digest` meets its contract.
-use mathlib.Core.Path.{ap, _∙_}
+use mathlib.Core.Path.{_≡_, ap, _∙_}
+use Prim.Native.Nat.{ℕ, _+_, _/_}
 use native.Mathlib.Nat.{sub-zero}
+use lib.ListN.{length, take}
+use lib.Seq.{length-take-le}
 use Rattle.sponge.specs.Digest.{digest}
+use Rattle.tree.specs.Leaf.{recordStart}
 use borrow.Author.Needs.{needs}
 use Rattle.digests.proofs.leaf_digest.Statement.{statement}
 use Rattle.digests.proofs.leaf_digest.Tie as tie
@@ -31,7 +35,14 @@ same-length : tie.Need-same-length
 same-length c = search needs
 
 returns : tie.Need-returns
-returns c = c .before .before .digest-into .ensures ∙ ap digest (rw (sub-zero) (c .before .before .before .before .before .before .before .leaf-string .ensures))
+returns c =
+    let a = c .before .before .before .before .before .before .before .before .before .before .before .before .args in
+    let g = c .before .before .digest-into .ensures in
+    let f = c .before .before .before .before .before .before .before .leaf-string in
+    let n : ℕ = recordStart + length (a .leaf .now) in
+    let buf = f .last .1 .1 .1 .0 in
+    let size : length (take n buf) ≡ n = length-take-le n buf (search needs) in
+    (g .0 ∙ ap digest (rw (sub-zero) (f .ensures)), g .1 ∙ ap (λ (k : ℕ). k / 136 + 1) (rw (sub-zero) size))
 
 pub leaf-digest-spec : {M : Type 1} → statement M
 leaf-digest-spec =

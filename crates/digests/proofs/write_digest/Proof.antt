@@ -36,7 +36,7 @@ returns c =
     let s = c .before .before .before .before .before .before in
     let a = s .args in
     let g = c .before .before .digest-into in
-    row-put (a .row .now) (g .last .1 .0) (digest (a .s .now)) (a .p) (g .ensures)
+    (row-put (a .row .now) (g .last .1 .0) (digest (a .s .now)) (a .p) (g .ensures .0), g .ensures .1)
 
 pub write-digest-spec : {M : Type 1} → statement M
 write-digest-spec =

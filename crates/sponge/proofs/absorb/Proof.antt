@@ -1,7 +1,8 @@
--- `sponge::absorb` meets its contract: at the byte `at`, a multiple of the rate, the state has absorbed the blocks before it.
-use mathlib.Core.Path.{_≡_, refl, ap, _∙_}
+-- `sponge::absorb` meets its contract: at the byte `at`, a multiple of the rate, the state has absorbed the blocks before it, each by one permutation.
+use mathlib.Core.Path.{_≡_, refl, sym, ap, _∙_}
 use mathlib.Core.List.{List}
-use Prim.Native.Nat.{ℕ, suc, _+_, _-_, _*_, _/_, _%_, _≤_}
+use Prim.Native.Nat.{ℕ, _+_, _-_, _*_, _/_, _%_, _≤_}
+use native.Mathlib.Numerals.{add-one}
 use native.Mathlib.Omega.{arith}
 use lib.ListN.{length, take, drop, length-take, length-drop}
 use Rattle.lists.specs.Parts.{span-length}
@@ -9,27 +10,25 @@ use Rattle.keccak.specs.Keccak.{keccakF}
 use Rattle.keccak.specs.State.{length-keccakF}
 use Rattle.sponge.specs.Shake.{xorBlock, padded, absorbed}
 use Rattle.sponge.proofs.Blocks.{length-xorBlock, full-block, last-padded}
-use Rattle.sponge.proofs.Padding.{length-padded}
 use Rattle.sponge.proofs.absorb.Statement.{statement}
 use Rattle.sponge.proofs.absorb.Tie as tie
 
 -- one block more
-next : (p : List ℕ) (at : ℕ) → at % 136 ≡ 0 → keccakF (xorBlock (absorbed p (at / 136)) p at) ≡ absorbed p ((at + 136) / 136)
+next : (p : List ℕ) (at n : ℕ) → at % 136 ≡ 0 → n ≡ at / 136 → keccakF (xorBlock (absorbed p n) p at) ≡ absorbed p (n + 1)
 unfolding absorbed
-next p at h =
-    let start : at ≡ 136 * (at / 136) = omega arith in
-    let count : suc (at / 136) ≡ (at + 136) / 136 = omega arith in
-    ap (λ (k : ℕ). keccakF (xorBlock (absorbed p (at / 136)) p k)) start ∙ ap (absorbed p) count
+next p at n h count =
+    let start : at ≡ 136 * n = omega arith in
+    ap (λ (k : ℕ). keccakF (xorBlock (absorbed p n) p k)) start ∙ ap (absorbed p) (sym (add-one n))
 
 abbrev Inv-loop : tie.InvT-loop
-Inv-loop s a₀ at₀ a at = (length a ≡ 25) × (at ≤ length s) × (at % 136 ≡ 0) × (a ≡ absorbed (padded s) (at / 136))
+Inv-loop s a₀ ran₀ at₀ a ran at = (length a ≡ 25) × (at ≤ length s) × (at % 136 ≡ 0) × (ran ≡ at / 136) × (a ≡ absorbed (padded s) ran)
 
 abbrev μ-loop : tie.MeasureT-loop
-μ-loop s a₀ at₀ a at = length s - at
+μ-loop s a₀ ran₀ at₀ a ran at = length s - at
 
 loop-holds : tie.Need-loop-holds Inv-loop μ-loop
 unfolding absorbed
-loop-holds c = (refl, omega arith, refl, refl)
+loop-holds c = (refl, omega arith, refl, refl, refl)
 
 xor-words-requires : tie.Need-xor-words-requires Inv-loop μ-loop
 xor-words-requires c κs =
@@ -51,9 +50,10 @@ loop-again c =
       ap length (c .keccak-f .ensures) ∙ length-keccakF (taken .last .0),
       omega arith,
       omega arith,
+      omega arith,
       c .keccak-f .ensures
-          ∙ ap keccakF (taken .ensures ∙ full-block (l .a) s (l .at) (omega arith) ∙ ap (λ (x : List ℕ). xorBlock x (padded s) (l .at)) (l .inv .3))
-          ∙ next (padded s) (l .at) (l .inv .2),
+          ∙ ap keccakF (taken .ensures ∙ full-block (l .a) s (l .at) (omega arith) ∙ ap (λ (x : List ℕ). xorBlock x (padded s) (l .at)) (l .inv .4))
+          ∙ next (padded s) (l .at) (l .ran) (l .inv .2) (l .inv .3),
     )
 
 xor-last-block-requires : tie.Need-xor-last-block-requires Inv-loop μ-loop
@@ -71,13 +71,13 @@ keccak-f-requires-2 c κs =
 returns : tie.Need-returns Inv-loop μ-loop
 returns c =
     let l = c .before .before .before .before .before .before .loop in
-    let s = c .before .before .before .before .before .before .before .before .args .s .now in
-    let count : (l .at + 136) / 136 ≡ length (padded s) / 136 = omega (arith, length-padded s) in
-    c .keccak-f2 .ensures
-    ∙ ap keccakF
-    (c .before .before .xor-last-block .ensures ∙ last-padded (l .a) s (l .at) (l .inv .2) (l .inv .1) ∙ ap (λ (x : List ℕ). xorBlock x (padded s) (l .at)) (l .inv .3))
-    ∙ next (padded s) (l .at) (l .inv .2)
-    ∙ ap (absorbed (padded s)) count
+    let s = c .before .before .before .before .before .before .before .before .args .s .now in (
+      c .keccak-f2 .ensures
+          ∙ ap keccakF
+          (c .before .before .xor-last-block .ensures ∙ last-padded (l .a) s (l .at) (l .inv .2) (l .inv .1) ∙ ap (λ (x : List ℕ). xorBlock x (padded s) (l .at)) (l .inv .4))
+          ∙ next (padded s) (l .at) (l .ran) (l .inv .2) (l .inv .3),
+      omega arith,
+    )
 
 pub absorb-spec : {M : Type 1} → statement M
 absorb-spec =
@@ -94,10 +94,12 @@ absorb-spec =
     xor-words-requires
     keccak-f-requires
     (λ c. omega arith)
+    (λ c. omega arith)
     loop-again
     (λ c. omega arith)
     (λ c. omega arith)
     (λ c. omega arith)
     xor-last-block-requires
     keccak-f-requires-2
+    (λ c. omega arith)
     returns)

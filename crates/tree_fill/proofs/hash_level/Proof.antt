@@ -74,7 +74,7 @@ loop-again c =
     let more = c .before .before .before .before .before .before .before .before .before .before .loop-test .taken in
     let g = c .before .before .before .before .before .before .before .copy in
     let d = c .before .before .write-digest in
-    hash-level-again (s .pre) (l .inv) more (d .last .1 .0) digest-length (g .ensures) (g .kept .0) (d .ensures) refl
+    hash-level-again (s .pre) (l .inv) more (d .last .1 .0) digest-length (g .ensures) (g .kept .0) (d .ensures .0) refl
 
 same-length : tie.Need-same-length Inv-loop μ-loop
 same-length c = c .before .loop .inv .same-part
