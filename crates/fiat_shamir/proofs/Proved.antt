@@ -25,6 +25,7 @@ use Rattle.scheme.specs.Honest.{trueValues, WellLent, Replied}
 use Rattle.scheme.proofs.Lent.{below-elements, LentFacts, lent-facts}
 use Rattle.scheme.proofs.Committed.{filled, table-below}
 use Rattle.scheme.proofs.Complete.{completeness}
+use Rattle.scheme.proofs.Work.{uncounted}
 use Rattle.scheme.proofs.Opening.{names-true, opening-number, opening-done}
 use Rattle.fiat_shamir.specs.Offline.{offlineRoot, offlineSalt, offlinePoints, offlineVerdict}
 use Rattle.fiat_shamir.specs.Draw.{leafDraw, qualifies, drawnIndices, drawnBytes}
@@ -127,7 +128,7 @@ module _ (question : Bytes) (κ : ℕ) (l : Lent) (wf : offlineVerdict question 
 
     checked : counterOk question κ l c ≡ true → (values : List ℕ) → length values ≡ s .w * m → doesProof forRust question κ proof values ≡ (0, trueValues s l (offlinePoints question))
     checked ok values e =
-        replied ok forRust values ∙ honest .checked values (e ∙ ap (λ (n : ℕ). s .w * n) (sym m-same))
+        replied ok forRust values ∙ sym (uncounted D _ values _ _ _ (sym (honest .checked values (e ∙ ap (λ (n : ℕ). s .w * n) (sym m-same)))))
         ∙ ap (λ (zs : List ℕ). outcome (trueValues s l zs)) points-same
 
     checkedC : counterOk question κ l c ≡ true → (values : Bytes) → length values ≡ 4 * (s .w * m) → doesProof forC question κ proof values ≡ (0, bytesOf (trueValues s l (offlinePoints question)))

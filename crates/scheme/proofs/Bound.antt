@@ -20,7 +20,7 @@ use Rattle.lists.specs.Pieces.{length-pieces, pieces-sized}
 use Rattle.tree.proofs.Binding.{Opening, leaf-binding}
 use Rattle.scheme.specs.Sizes.{Sizes, arity, levels, nodePrefix, leaves}
 use Rattle.scheme.specs.Question.{Question, readQuestion}
-use Rattle.scheme.specs.Reply.{Reply, readReply, nodesAt}
+use Rattle.scheme.specs.Reply.{Reply, readReply, nodesAt, replyLength}
 use Rattle.tree.specs.Leaf.{leafString}
 use Rattle.scheme.specs.Check.{leafAt, recordAt, leafStrings, replyRoot, hashedStrings}
 use Rattle.scheme.proofs.Accepted.{Accepted}
@@ -39,7 +39,7 @@ leaf-inj : (salt : Bytes) (i : ℕ) (x y : Bytes) → leafString salt i x ≡ le
 unfolding leafString
 leaf-inj salt i x y e = append-cancel (littleEndian 2 i) x y (append-cancel (0 ∷ salt) (littleEndian 2 i ++ x) (littleEndian 2 i ++ y) e)
 
-leafStrings-length : (u : Question) (r : Reply) → length (leafStrings u r) ≡ u .sizes .ℓ
+pub leafStrings-length : (u : Question) (r : Reply) → length (leafStrings u r) ≡ u .sizes .ℓ
 unfolding leafStrings
 leafStrings-length u r = length-map (upFrom 0 (u .sizes .ℓ)) _ ∙ length-upFrom 0 (u .sizes .ℓ)
 
@@ -61,15 +61,21 @@ pub record Placed (s : Sizes) (salt : Bytes) (u : Question) (r : Reply) : Type 0
   pub rooted : rootFrom digest (arity s) (nodePrefix s salt) (levels s) (u .indices) (map digest (leafStrings u r)) (r .nodes) ≡ u .root
   pub strings : hashedStrings u r ≡ leafStrings u r ++ hashed digest (arity s) (nodePrefix s salt) (levels s) (u .indices) (map digest (leafStrings u r)) (r .nodes)
 
+-- a reply of the right length, as such an opening
+pub opening-of : (u : Question) (reply : Bytes) → length (u .indices) ≡ u .sizes .ℓ → Below (leaves (u .sizes)) (u .indices) → length reply ≡ replyLength u
+    → Opening (arity (u .sizes)) 32 (levels (u .sizes)) (u .indices) (leafStrings u (readReply u reply)) (readReply u reply .nodes)
+unfolding readReply
+opening-of u reply e below l = record {
+  bound = subst (λ (n : ℕ). Below n (u .indices)) (sym (leaves-are (u .sizes))) below;
+  counted = e ∙ sym (leafStrings-length u (readReply u reply));
+  listed = length-pieces 32 _ _;
+  node-sizes = pieces-sized 32 _ _ (omega (arith, l, length-drop (nodesAt (u .sizes) (u .m)) reply));
+}
+
 pub placed : (u : Question) (reply : Bytes) → length (u .indices) ≡ u .sizes .ℓ → Accepted u reply (readReply u reply) → Placed (u .sizes) (u .salt) u (readReply u reply)
-unfolding readReply replyRoot hashedStrings
+unfolding replyRoot hashedStrings
 placed u reply e a = record {
-  opening = record {
-    bound = subst (λ (n : ℕ). Below n (u .indices)) (sym (leaves-are (u .sizes))) (a .asks .indices-below);
-    counted = e ∙ sym (leafStrings-length u (readReply u reply));
-    listed = length-pieces 32 _ _;
-    node-sizes = pieces-sized 32 _ _ (omega (arith, a .reply-length, length-drop (nodesAt (u .sizes) (u .m)) reply));
-  };
+  opening = opening-of u reply e (a .asks .indices-below) (a .reply-length);
   rooted = a .root-right;
   strings = refl;
 }

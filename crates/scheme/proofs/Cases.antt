@@ -10,6 +10,10 @@ use Rattle.lists.specs.Bytes.{littleEndian}
 use Rattle.lists.specs.Rising.{rising}
 use Rattle.tree.specs.Leaf.{leafString}
 use Rattle.tree.specs.Tree.{nodeString}
+use Rattle.tree.specs.Ancestors.{nodesAbove}
+use Rattle.tree.specs.Work.{work}
+use Rattle.lists.specs.Total.{total}
+use Rattle.scheme.specs.Work.{afterHashing, questionWork}
 use Rattle.tree.specs.Sets.{children, below, mem, without, push, parents, siblings, missing}
 use Rattle.lists.specs.All.{All}
 use Rattle.algebra.specs.Inverse.{invN, invN-unique}
@@ -58,7 +62,8 @@ pub further-cases : All (λ (row : List ℕ × List ℕ). row .0 ≡ row .1) fur
 unfolding evalN valuesAtN columnN powN upFrom children below mem without push parents siblings missing
     verdictOf every all sizesOk columnOf lowered loweredBy blindingRows extended combination polynomialValues pieces lentOk filledOk commitTests commitVerdict
     littleEndian number leafString nodeString flatten same rising readQuestion questionTests differ samplesTests interpolationTests interpolationVerdict
-further-cases = (refl, (refl, (refl, (refl, (refl, (refl, (refl, (refl, (refl, (refl, (refl, (refl, (refl, (refl, tt))))))))))))))
+    nodesAbove total work afterHashing questionWork
+further-cases = (refl, (refl, (refl, (refl, (refl, (refl, (refl, (refl, (refl, (refl, (refl, (refl, (refl, (refl, (refl, (refl, (refl, (refl, (refl, tt)))))))))))))))))))
 
 -- the squares 1, 4, 9 at 1, 2, 3: X^2, whatever stood in the room
 pub interpolation-case : (a b c : ℕ) → interpolating (1 ∷ 2 ∷ 3 ∷ []) (1 ∷ 4 ∷ 9 ∷ []) (a ∷ b ∷ c ∷ []) ≡ (0, 0 ∷ 0 ∷ 1 ∷ [])

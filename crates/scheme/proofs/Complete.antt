@@ -11,6 +11,7 @@ use borrow.Author.Tests.{eq-eqb}
 use Rattle.sponge.specs.Digest.{digest}
 use Rattle.lists.specs.Range.{upFrom, at-run, upFrom-of}
 use Rattle.lists.specs.Bytes.{Bytes, bytesOf}
+use Rattle.tree.specs.Sets.{mem}
 use Rattle.tree.specs.Tree.{at, opened, rootFrom}
 use Rattle.lists.specs.Maps.{getD-in, map-cong, getD-map-in}
 use Rattle.lists.specs.All.{below-mem, All, all-imp, all-append}
@@ -26,6 +27,7 @@ use Rattle.tree.specs.Leaf.{leafString}
 use Rattle.scheme.specs.Commit.{lentOk, filledOk, lentElements, tableOf, treeOf, leafRecord, lastDigest}
 use Rattle.scheme.specs.Open.{openedBatching, openedAnswers, openedRecords, openedNodes, replyOf, openTests, openVerdict, opening}
 use Rattle.scheme.specs.Check.{leafAt, recordAt, challengeOf, batchingOf, pointOf, answerOf, replyElements, leafStrings, replyRoot, batchingAt, evaluationAt, replyTests, checkVerdict, checkValues, checking, checkingC}
+use Rattle.scheme.specs.Work.{afterHashing, checkWork, checkingCounted, questionWork}
 use Rattle.scheme.specs.Honest.{trueValues, WellLent, Replied, Completeness}
 use Rattle.scheme.proofs.Accepted.{Asked, well-formed, question-numbers}
 use Rattle.scheme.proofs.Bound.{some-children, leaves-are, indices-length, points-length}
@@ -33,7 +35,8 @@ use Rattle.scheme.proofs.HonestAnswers.{evaluation-honest, batching-hon
 use Rattle.scheme.proofs.ReplyReadBack.{FourParts, whole-length, back-batching, back-answers, back-records, back-nodes}
 use Rattle.scheme.proofs.Lent.{below-elements, LentFacts, lent-facts}
 use Rattle.scheme.proofs.Parts.{all-in, in-tree, batching-below, answers-below, four-parts}
-use Rattle.scheme.proofs.Opening.{sizing-is, names-true}
+use Rattle.scheme.proofs.Opening.{planning-is, names-true}
+use Rattle.scheme.proofs.Work.{work-asked}
 use Rattle.scheme.proofs.Committed.{committing-is, rec, record-below, record-rows, record-mask, level, level-length, level-at, digests, tree-parts, last-is, filled, table-below}
 
 -- ---- lists
@@ -218,6 +221,12 @@ module _ (question : Bytes) (l : Lent) (wf : questionVerdict question ≡ 0) (ri
   unfolding checking
   checks values e = rw (check-passes 1 (length values) (e ∙ omega arith), values-are)
 
+  counts : (values : List ℕ) → length values ≡ s .w * u .m → checkingCounted question reply values ≡ (0, questionWork u, trueValues s l (u .evaluationPoints))
+  unfolding checkingCounted checkWork afterHashing mem
+  counts values e =
+      ap (λ (z : ℕ × List ℕ). (z .0, checkWork u R (z .0), z .1)) (checks values e)
+      ∙ ap (λ (n : ℕ). (0, n, trueValues s l (u .evaluationPoints))) (work-asked u reply (well-formed question wf) (indices-length question) reply-length)
+
   checksC : (values : Bytes) → length values ≡ 4 * (s .w * u .m) → checkingC question reply values ≡ (0, bytesOf (trueValues s l (u .evaluationPoints)))
   unfolding checkingC
   checksC values e = rw (check-passes 4 (length values) e, values-are)
@@ -246,9 +255,10 @@ module _ (question : Bytes) (l : Lent) (wf : questionVerdict question ≡ 0) (ri
   unfolding opening replyOf
   replied buffer e = record {
     reply = reply;
-    sized = sizing-is question wf ∙ ap (λ (n : ℕ). (0, n)) (sym reply-length);
+    sized = planning-is replyLength question wf ∙ ap (λ (n : ℕ). (0, n)) (sym reply-length);
     opened = rw (open-passes buffer e, ← reply-length);
-    checked = checks;
+    counted = planning-is questionWork question wf;
+    checked = counts;
     checkedC = checksC;
   }
 

@@ -18,7 +18,6 @@ use Rattle.scheme.specs.Sizes.{width}
 use Rattle.scheme.specs.Layers.{Lent}
 use Rattle.scheme.specs.Question.{Question, readQuestion, questionTests, questionVerdict}
 use Rattle.scheme.specs.Reply.{replyLength, replyBound}
-use Rattle.scheme.specs.Sizing.{sizing}
 use Rattle.scheme.specs.Commit.{lentOk, filledOk}
 use Rattle.scheme.specs.Open.{lengthsOk, openVerdict, opening}
 use Rattle.scheme.specs.Check.{bufferTest, replyTests, checkVerdict, checking, checkingC}
@@ -26,7 +25,7 @@ use Rattle.scheme.specs.Collect.{Entry, forRust, forC, does}
 use Rattle.scheme.specs.Lengths.{valuesLength, Agreed, OneLength}
 use Rattle.scheme.proofs.Accepted.{Asked, well-formed, question-numbers}
 use Rattle.scheme.proofs.Bound.{indices-length}
-use Rattle.scheme.proofs.Opening.{sizing-is, sizing-number, asked-verdict, lent-passed, verdict-2, opening-refused, opening-done, opening-number}
+use Rattle.scheme.proofs.Opening.{planned-is, planning-number, asked-verdict, lent-passed, verdict-2, opening-refused, opening-done, opening-number}
 use Rattle.scheme.proofs.Parts.{reply-sized}
 
 -- a reply never has more than ℓ·h nodes
@@ -140,17 +139,12 @@ module _ (question : Bytes) where
     this-reply = not-7;
   }
 
-  pub sized-is : (n : ℕ) → sizing question ≡ (0, n) → (questionVerdict question ≡ 0) × (replyLength u ≡ n)
-  sized-is n e =
-      let wf : questionVerdict question ≡ 0 = sym (sizing-number question) ∙ ap (λ (r : ℕ × ℕ). r .0) e in
-      (wf, sym (ap (λ (r : ℕ × ℕ). r .1) (sizing-is question wf)) ∙ ap (λ (r : ℕ × ℕ). r .1) e)
-
   pub one-length : OneLength question
   one-length = (
-    λ n e. let k = sized-is n e in subst (Agreed question) (k .1) (agreed (k .0)),
+    λ n e. let k = planned-is replyLength question n e in subst (Agreed question) (k .1) (agreed (k .0)),
     λ v f e.
         let p : 0 < v = pos-of-ne-zero f in
-        let q : questionVerdict question ≡ v = sym (sizing-number question) ∙ e in
+        let q : questionVerdict question ≡ v = sym (planning-number replyLength question) ∙ e in
         record {
           opener = λ l table nodes buffer. opening-refused question l table nodes buffer v p (asked-verdict question l table nodes buffer v p q);
           check = says-v v p q;

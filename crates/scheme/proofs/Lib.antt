@@ -22,6 +22,8 @@ pub mod Salted
 -- one length for sizing, opening and checking
 pub mod Opening
 pub mod Lengths
+-- the work of a check
+pub mod Work
 -- demand 3 is not empty: questions written as bytes, honest calls that cover all leaves
 pub mod Encoded
 pub mod HonestRows

@@ -1,4 +1,4 @@
--- Laws of sizing and opening: their verdicts, test by test, and what they leave.
+-- Laws of planning and opening: their verdicts, test by test, and what they leave.
 use mathlib.Core.Path.{_≡_, refl, sym, ap, ap₂, _∙_}
 use mathlib.Core.Bool.{true, false, not}
 use mathlib.Core.List.{List, [], _∷_, _++_}
@@ -15,31 +15,38 @@ use Rattle.scheme.specs.Layers.{Lent}
 use Rattle.scheme.specs.Question.{Question, readQuestion, questionTests, questionVerdict}
 use Rattle.scheme.specs.Reply.{replyLength}
 use Rattle.scheme.specs.Commit.{lastDigest}
-use Rattle.scheme.specs.Sizing.{sizing, sizingC}
+use Rattle.scheme.specs.Sizing.{planning, planningC}
 use Rattle.scheme.specs.Open.{lengthsOk, wordsOk, namesOk, replyOf, openTests, openVerdict, opening, openingC}
 use Rattle.scheme.proofs.Accepted.{question-numbers}
 
--- ---- sizing
+-- ---- the entries for planners, whatever the number `plan` that questions have
 
-pub sizing-is : (question : Bytes) → questionVerdict question ≡ 0 → sizing question ≡ (0, replyLength (readQuestion question))
-unfolding sizing
-sizing-is question e = rw e refl
+module _ (plan : Question → ℕ) where
+  pub planning-is : (question : Bytes) → questionVerdict question ≡ 0 → planning plan question ≡ (0, plan (readQuestion question))
+  unfolding planning
+  planning-is question e = rw e refl
 
-pub sizing-refused : (question : Bytes) (v : ℕ) → 0 < v → questionVerdict question ≡ v → sizing question ≡ (v, 0)
-unfolding sizing
-sizing-refused question v p e = rw (e, ne-eqb v 0 (ne-of-gt p)) refl
+  pub planning-refused : (question : Bytes) (v : ℕ) → 0 < v → questionVerdict question ≡ v → planning plan question ≡ (v, 0)
+  unfolding planning
+  planning-refused question v p e = rw (e, ne-eqb v 0 (ne-of-gt p)) refl
 
--- for C, where nothing is refused
-pub sizing-C : (question : Bytes) (before n : ℕ) → sizingC question before ≡ (0, n) → sizing question ≡ (0, n)
-unfolding sizingC
-sizing-C question before n e =
-    let r : ℕ × ℕ = sizing question in
-    let z : r .0 ≡ 0 = ap (λ (x : ℕ × ℕ). x .0) e in
-    ap₂ (λ (v k : ℕ). (v, k)) z (sym (ap (λ (v : ℕ). pick (eqb v 0) (r .1) before) z) ∙ ap (λ (x : ℕ × ℕ). x .1) e)
+  pub planning-number : (question : Bytes) → planning plan question .0 ≡ questionVerdict question
+  unfolding planning
+  planning-number question = refl
 
-pub sizing-number : (question : Bytes) → sizing question .0 ≡ questionVerdict question
-unfolding sizing
-sizing-number question = refl
+  -- where nothing is refused
+  pub planned-is : (question : Bytes) (n : ℕ) → planning plan question ≡ (0, n) → (questionVerdict question ≡ 0) × (plan (readQuestion question) ≡ n)
+  planned-is question n e =
+      let wf : questionVerdict question ≡ 0 = sym (planning-number question) ∙ ap (λ (r : ℕ × ℕ). r .0) e in
+      (wf, sym (ap (λ (r : ℕ × ℕ). r .1) (planning-is question wf)) ∙ ap (λ (r : ℕ × ℕ). r .1) e)
+
+  -- .. for C
+  pub planning-C : (question : Bytes) (before n : ℕ) → planningC plan question before ≡ (0, n) → planning plan question ≡ (0, n)
+  unfolding planningC
+  planning-C question before n e =
+      let r : ℕ × ℕ = planning plan question in
+      let z : r .0 ≡ 0 = ap (λ (x : ℕ × ℕ). x .0) e in
+      ap₂ (λ (v k : ℕ). (v, k)) z (sym (ap (λ (v : ℕ). pick (eqb v 0) (r .1) before) z) ∙ ap (λ (x : ℕ × ℕ). x .1) e)
 
 -- ---- the question's root and salt are those that are lent
 

@@ -22,6 +22,7 @@ use Rattle.scheme.specs.Reply.{readReply}
 use Rattle.scheme.specs.Check.{checkVerdict, checkValues, checking}
 use Rattle.scheme.specs.Honest.{trueValues, Names, Replied}
 use Rattle.scheme.specs.Program.{inputLimit, headerVerdict, questionPart, replyPart, digits, valueLine, valueLines, text, printed}
+use Rattle.scheme.proofs.Work.{uncounted}
 use Rattle.scheme.proofs.Accepted.{question-numbers}
 use Rattle.scheme.proofs.Replies.{header-sizes}
 
@@ -108,7 +109,7 @@ printed-honest s l question buffer names r few =
     let n : ℕ = 1 * (u .sizes .w * u .m) in
     let z : ℕ = 0 in
     let e : n ≡ s .w * u .m = one (u .sizes .w * u .m) ∙ ap (λ (t : Sizes). t .w * u .m) (names .sizes) in
-    let h = left question (r .reply) n _ (r .checked (replicate n z) (length-replicate n z ∙ e)) in
+    let h = left question (r .reply) n _ (sym (uncounted question (r .reply) (replicate n z) _ _ _ (sym (r .checked (replicate n z) (length-replicate n z ∙ e))))) in
     printed-split question (r .reply) (names .well-formed) few
     ∙ ap₂ (λ (v : ℕ) (vs : List ℕ). text v (valueLines (u .m) (u .sizes .w) vs)) (h .0) (h .1)
     ∙ ap (λ (t : Sizes). text 0 (valueLines (u .m) (t .w) (trueValues s l (u .evaluationPoints)))) (names .sizes)

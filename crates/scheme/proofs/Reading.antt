@@ -22,8 +22,8 @@ use Rattle.tree.proofs.Missing.{Above, Missing, sibling, missing-of, missing-in
 use Rattle.scheme.specs.Sizes.{Sizes, arity, levels, nodePrefix, leaves, columns}
 use Rattle.scheme.specs.Matrix.{polynomial}
 use Rattle.scheme.specs.Layers.{Lent, column, rowPolynomials, heldPolynomial}
-use Rattle.scheme.specs.Question.{readQuestion, questionTests, questionVerdict}
-use Rattle.scheme.specs.Sizing.{sizingC}
+use Rattle.scheme.specs.Question.{Question, readQuestion, questionTests, questionVerdict}
+use Rattle.scheme.specs.Sizing.{planningC}
 use Rattle.scheme.specs.Commit.{commitTests, commitVerdict, committing, tableOf, leafRecord, leafDigests, treeOf, committedStrings, lastDigest}
 use Rattle.scheme.specs.Open.{openTests, openVerdict, opening, openingC}
 use Rattle.scheme.specs.Check.{replyTests, checkVerdict, checking, checkingC}
@@ -86,9 +86,9 @@ pub open-refused : (question : Bytes) (l : Lent) (table : List ℕ) (nodes buffe
 unfolding opening
 open-refused question l table nodes buffer n = kept _ _ buffer n
 
-pub size-refused-C : (question : Bytes) (before : ℕ) → sizingC question before .0 ≢ 0 → sizingC question before .1 ≡ before
-unfolding sizingC
-size-refused-C question before n = kept _ _ before n
+pub plan-refused-C : (plan : Question → ℕ) (question : Bytes) (before : ℕ) → planningC plan question before .0 ≢ 0 → planningC plan question before .1 ≡ before
+unfolding planningC
+plan-refused-C plan question before n = kept _ _ before n
 
 pub open-refused-C : (question : Bytes) (l : Lent) (table : List ℕ) (nodes buffer : Bytes) (before : ℕ) → openingC question l table nodes buffer before .0 ≢ 0
     → (openingC question l table nodes buffer before .1 ≡ before) × (openingC question l table nodes buffer before .2 ≡ buffer)

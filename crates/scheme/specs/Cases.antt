@@ -1,11 +1,14 @@
--- Small instances: a row holds what the definitions give and what the paper says. The starred ones, then those of lengths, versions, salts and blinding rows.
+-- Small instances: a row holds what the definitions give and what the paper says. The starred ones, then those of lengths, versions, salts, work and blinding rows.
 use mathlib.Core.List.{List, [], _∷_, _++_, map, flatten}
 use Prim.Native.Nat.{ℕ, _+_, _-_, _*_, _%_}
-use lib.ListN.{take, getD, replicate}
+use lib.ListN.{length, take, getD, replicate}
+use Rattle.lists.specs.Choice.{pick}
 use Rattle.lists.specs.Range.{upFrom}
 use Rattle.tree.specs.Sets.{Node, missing}
 use Rattle.tree.specs.Leaf.{leafString, saltLength}
 use Rattle.tree.specs.Tree.{nodeString}
+use Rattle.tree.specs.Ancestors.{nodesAbove}
+use Rattle.tree.specs.Work.{permutationsFor, work}
 use Rattle.algebra.specs.Prime.{q}
 use Rattle.algebra.specs.Inverse.{invN}
 use Rattle.algebra.specs.Numbers.{evalN, valuesAtN}
@@ -14,6 +17,7 @@ use Rattle.scheme.specs.Layers.{Lent, column, rowPolynomials, maskPolyno
 use Rattle.scheme.specs.Question.{Question, questionAt, questionLength, questionVerdict}
 use Rattle.scheme.specs.Reply.{replyLength}
 use Rattle.scheme.specs.Commit.{commitVerdict}
+use Rattle.scheme.specs.Work.{afterHashing, questionWork}
 use Rattle.scheme.specs.Interpolate.{interpolationVerdict}
 
 -- case P: h = 1, all other sizes 1; coefficient 5, tail 9, mask 7 + 2X, γ 10; the paper gives no nonces and no salt: zeros
@@ -116,6 +120,22 @@ verdictβ μ β = commitVerdict (record { h = 1; μ = μ; ν = 1; w = 1; ℓ = 1
 abbrev pub verdictI : List ℕ → List ℕ → ℕ → ℕ
 verdictI points values n = interpolationVerdict points values (replicate n 0)
 
+-- the work of checking, with h = 3, μ rows and one repetition, for some leaves: their strings have 4 μ + 71 bytes
+abbrev pub work3 : ℕ → List ℕ → ℕ
+work3 μ leaves = questionWork (record {
+  sizes = record { h = 3; μ = μ; ν = 1; w = 1; ℓ = length leaves; η = 1; β = 0 };
+  m = 1;
+  root = [];
+  salt = [];
+  challenges = [];
+  evaluationPoints = [];
+  indices = leaves;
+})
+
+-- the nodes above some of 8 leaves: level and number of each
+abbrev pub above8 : List ℕ → List ℕ
+above8 s = flatten (map (λ n. n .0 ∷ n .1 ∷ []) (nodesAbove 2 3 s))
+
 abbrev pub further : List (List ℕ × List ℕ)
 further =
     (questionLength sizesP 1 ∷ replyLength questionP ∷ [], 89 ∷ 88 ∷ [])
@@ -123,6 +143,11 @@ further =
     ∷ (namedIn (questionAt sizesP 1 (upFrom 0 89)), 15 ∷ 46 ∷ 47 ∷ 78 ∷ [])
     ∷ (verdictS 31 ∷ verdictS 32 ∷ verdictS 33 ∷ [], 2 ∷ 0 ∷ 2 ∷ [])
     ∷ (leafString (7 ∷ 8 ∷ []) 258 (9 ∷ []) ++ nodeString 2 (nodePrefix sizesP (7 ∷ 8 ∷ [])) (λ c. c ∷ []) 3, 0 ∷ 7 ∷ 8 ∷ 2 ∷ 1 ∷ 9 ∷ 1 ∷ 7 ∷ 8 ∷ 6 ∷ 7 ∷ [])
+    ∷ (map permutationsFor (0 ∷ 135 ∷ 136 ∷ 271 ∷ 272 ∷ 339 ∷ []) ++ (work (replicate 135 0 ∷ [] ∷ replicate 136 0 ∷ []) ∷ []), 1 ∷ 1 ∷ 2 ∷ 2 ∷ 3 ∷ 3 ∷ 4 ∷ [])
+    ∷ (map (λ v. pick (afterHashing v) 1 0) (upFrom 0 14), 1 ∷ 0 ∷ 0 ∷ 0 ∷ 0 ∷ 0 ∷ 0 ∷ 0 ∷ 1 ∷ 1 ∷ 1 ∷ 0 ∷ 0 ∷ 0 ∷ [])
+    ∷ (above8 (0 ∷ 1 ∷ []), 1 ∷ 0 ∷ 2 ∷ 0 ∷ 3 ∷ 0 ∷ [])
+    ∷ (above8 (1 ∷ 3 ∷ 7 ∷ []), 1 ∷ 0 ∷ 1 ∷ 1 ∷ 1 ∷ 3 ∷ 2 ∷ 0 ∷ 2 ∷ 1 ∷ 3 ∷ 0 ∷ [])
+    ∷ (questionWork questionP ∷ work3 16 (0 ∷ 1 ∷ []) ∷ work3 17 (0 ∷ 1 ∷ []) ∷ work3 17 (0 ∷ 7 ∷ []) ∷ work3 50 (5 ∷ []) ∷ work3 51 (5 ∷ []) ∷ [], 2 ∷ 5 ∷ 7 ∷ 9 ∷ 5 ∷ 6 ∷ [])
     ∷ (column sizes5 (lent5 (7 ∷ [])) 0 ++ column sizes5 (lent5 (7 ∷ [])) 1, 1 ∷ 2 ∷ 7 ∷ (q - 4) ∷ 4 ∷ 5 ∷ [])
     ∷ (columns5 10 ++ polynomialValues sizes5 10 (columns5 10), 721 ∷ 536 ∷ 54321 ∷ [])
     ∷ (columns5 0 ++ polynomialValues sizes5 0 (columns5 0), 1 ∷ (q - 4) ∷ 1 ∷ [])

@@ -15,7 +15,8 @@ use Rattle.scheme.specs.Reply.{replyLength}
 use Rattle.scheme.specs.Sizing.{sizing}
 use Rattle.scheme.specs.Commit.{lentOk, filledOk, lentElements, tableOf, treeOf, lastDigest, committing}
 use Rattle.scheme.specs.Open.{opening}
-use Rattle.scheme.specs.Check.{checking, checkingC}
+use Rattle.scheme.specs.Check.{checkingC}
+use Rattle.scheme.specs.Work.{checkingCounted, questionWork, counting}
 
 -- the values of the committed polynomials, point by point
 unfoldable pub trueValues : Sizes → Lent → List ℕ → List ℕ
@@ -34,13 +35,14 @@ pub record Names (s : Sizes) (l : Lent) (question : Bytes) : Type 0 where
   pub root : readQuestion question .root ≡ lastDigest (treeOf s l)
   pub salt : readQuestion question .salt ≡ l .salt
 
--- a reply of the length that sizing answers, that the opener makes, and that is accepted with the true values, by both entries
+-- a reply of the length that sizing answers, that the opener makes, and that is accepted with the true values, by both entries; the check's work is what a planner is told
 pub record Replied (s : Sizes) (l : Lent) (question buffer : Bytes) : Type 0 where
   pub reply : Bytes
   pub sized : sizing question ≡ (0, length reply)
+  pub counted : counting question ≡ (0, questionWork (readQuestion question))
   pub opened : opening question l (tableOf s l) (treeOf s l) buffer ≡ (0, length reply, reply)
   pub checked : (values : List ℕ) → length values ≡ s .w * readQuestion question .m
-      → checking question reply values ≡ (0, trueValues s l (readQuestion question .evaluationPoints))
+      → checkingCounted question reply values ≡ (0, questionWork (readQuestion question), trueValues s l (readQuestion question .evaluationPoints))
   pub checkedC : (values : Bytes) → length values ≡ 4 * (s .w * readQuestion question .m)
       → checkingC question reply values ≡ (0, bytesOf (trueValues s l (readQuestion question .evaluationPoints)))
 

@@ -7,6 +7,7 @@ pub mod Sizing
 pub mod Commit
 pub mod Open
 pub mod Check
+pub mod Work
 pub mod Interpolate
 pub mod Collect
 pub mod Lengths
