@@ -2,7 +2,8 @@
 ghost use mathlib.Core.Path.{_≡_};
 ghost use Rattle.lists.specs.Tests.{verdictOf};
 ghost use Rattle.scheme.specs.Question.{readQuestion};
-ghost use Rattle.scheme.specs.Check.{replyTests, checking};
+ghost use Rattle.scheme.specs.Check.{replyTests};
+ghost use Rattle.scheme.specs.Work.{workBy, checkingCounted};
 ghost use Rattle.question.specs.Questioned.{questioned};
 ghost use Rattle.question.specs.declared.Questioned.the-variants.{WellFormed};
 ghost use Rattle.checker.specs.Answered.{checkingReply};
@@ -18,13 +19,16 @@ use question::blank_points;
 use question::question_challenges;
 use question::question_indices;
 use question::question_points;
+use reply_tests::Checked;
 use reply_tests::reply_verdict;
+use reply_tests::say;
 use reply_values::fill_values;
 
 // The reply's tests, with the challenges, points, indices, root and salt of the question.
-fn asked_verdict(question: &[u8], s: Shape, m: u32, reply: &[u8]) -> u32
+fn asked_verdict(question: &[u8], s: Shape, m: u32, reply: &[u8]) -> Checked
     requires { ⌜ questioned (now question) ≡ WellFormed s m ⌝ }
-    ensures { λ r. ⌜ r ≡ verdictOf (replyTests (readQuestion (now (question .entry))) (now (reply .entry))) ⌝ }
+    ensures { λ r. ⌜ r .verdict ≡ verdictOf (replyTests (readQuestion (now (question .entry))) (now (reply .entry))) ⌝ }
+    ensures { λ r. ⌜ r .permutations ≡ workBy (readQuestion (now (question .entry))) (r .verdict) ⌝ }
 {
     let eta = s.eta as usize;
     let count = m as usize;
@@ -49,28 +53,32 @@ fn asked_verdict(question: &[u8], s: Shape, m: u32, reply: &[u8]) -> u32
     )
 }
 
+// The number of a value buffer of another length.
+const WRONG_BUFFER: u32 = 2;
+
 // The value buffer's test, 2, and the reply's; the values once none of them holds.
-pub fn check_reply(question: &[u8], s: Shape, m: u32, reply: &[u8], values: &mut [u32]) -> u32
+pub fn check_reply(question: &[u8], s: Shape, m: u32, reply: &[u8], values: &mut [u32]) -> Checked
     requires { ⌜ questioned (now question) ≡ WellFormed s m ⌝ }
-    ensures { λ r. ⌜ (r, now (values .exit)) ≡ checkingReply (readQuestion (now (question .entry))) (now (reply .entry)) (now (values .entry)) ⌝ }
+    ensures { λ r. ⌜ (r .verdict, now (values .exit)) ≡ checkingReply (readQuestion (now (question .entry))) (now (reply .entry)) (now (values .entry)) ⌝ }
+    ensures { λ r. ⌜ r .permutations ≡ workBy (readQuestion (now (question .entry))) (r .verdict) ⌝ }
 {
     if values.len() != s.w as usize * m as usize {
-        return 2;
+        return say(WRONG_BUFFER, 0);
     }
-    let verdict = asked_verdict(question, s, m, reply);
-    if verdict != 0 {
-        return verdict;
+    let answer = asked_verdict(question, s, m, reply);
+    if answer.verdict != 0 {
+        return answer;
     }
     fill_values(question, s, m, reply, values);
-    verdict
+    answer
 }
 
-// The check: its verdict; the values are written only with verdict 0.
-pub fn check(question: &[u8], reply: &[u8], values: &mut [u32]) -> u32
-    ensures { λ r. ⌜ (r, now (values .exit)) ≡ checking (now (question .entry)) (now (reply .entry)) (now (values .entry)) ⌝ }
+// The check: its verdict, and how many permutations were run; the values are written only with verdict 0.
+pub fn check(question: &[u8], reply: &[u8], values: &mut [u32]) -> Checked
+    ensures { λ r. ⌜ (r .verdict, r .permutations, now (values .exit)) ≡ checkingCounted (now (question .entry)) (now (reply .entry)) (now (values .entry)) ⌝ }
 {
     match ask(question) {
         Questioned::WellFormed(s, m) => check_reply(question, s, m, reply, values),
-        Questioned::Refused(v) => v,
+        Questioned::Refused(v) => say(v, 0),
     }
 }

@@ -12,7 +12,7 @@ use runs::sizes::Lengths;
 // Asks for the length of the reply to a question: prints the number, and with 0 the length. Returns the length, or 0.
 pub fn print_reply_length(question: &[u8]) -> usize {
     match reply_length(question) {
-        Planned::Length(n) => {
+        Planned::Number(n) => {
             print_number(b"size 0 ", n as u64);
             n
         }

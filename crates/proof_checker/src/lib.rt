@@ -119,7 +119,7 @@ fn unqualified_verdict(s: Shape, m: usize, indices: &[usize], reply: &[u8]) -> u
 
 // ---- the check
 
-// The conversation's check of the question drawn with these leaves.
+// The conversation's check of the question drawn with these leaves, without its count.
 fn check_drawn(
     question: &[u8],
     s: Shape,
@@ -134,7 +134,7 @@ fn check_drawn(
     let n = question_length(s, m as usize);
     let mut asked = blank_question();
     draw_question(question, s, m, indices, &mut asked[..n]);
-    check_reply(&asked[..n], s, m, reply, values)
+    check_reply(&asked[..n], s, m, reply, values).verdict
 }
 
 // The tests after those of lengths, where the draw is made: its leaves are found, and the counter decides which tests follow.

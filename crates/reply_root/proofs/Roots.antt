@@ -1,14 +1,15 @@
 -- The root from what the code hands on: the digests of the opened leaves, and the missing nodes.
 use mathlib.Core.Path.{_≡_, ap, ap₂, _∙_}
 use mathlib.Core.List.{List, _∷_, _++_}
-use Prim.Native.Nat.{ℕ, _+_, _-_, _*_}
-use native.Mathlib.Nat.{le-of-eq}
+use Prim.Native.Nat.{ℕ, _+_, _-_, _*_, _≤_}
+use native.Mathlib.Nat.{le-of-eq, add-mul, one-mul, mul-le-mul-left}
 use native.Mathlib.Omega.{arith}
 use lib.ListN.{length, getD, take, drop, length-drop}
 use lib.Seq.{take-all}
 use Rattle.sponge.specs.Digest.{digest, digest-length}
-use Rattle.tree.specs.Leaf.{leafString}
+use Rattle.tree.specs.Leaf.{leafString, recordStart, longestRecord}
 use Rattle.tree.specs.Tree.{parts, allParts, rootFrom}
+use Rattle.tree.specs.Work.{permutationsFor}
 use Rattle.lists.specs.Bytes.{Bytes}
 use Rattle.lists.specs.Rows.{rowsOf, rows-pieces}
 use Rattle.reply_root.specs.Root.{leafDigestAt, rootAt}
@@ -36,3 +37,13 @@ root-read salt h at size indices reply digests rest r e f =
     ∙ ap₂ (λ (ds : List Bytes) (x : Bytes). rootFrom digest 2 (1 ∷ salt) h indices ds (allParts x))
     (ap (parts (length indices)) e ∙ rows-pieces 32 (leafDigestAt salt at size indices reply) (length-leafDigestAt salt at size indices reply) (length indices) rest)
     (take-all (length reply - n) (drop n reply) (le-of-eq (length-drop n reply)))
+
+-- ---- permutations: one leaf's more, and at most three for a leaf
+
+pub leaf-more : (size a ran r : ℕ) → ran ≡ a * permutationsFor (recordStart + size) → r ≡ permutationsFor (recordStart + size) → ran + r ≡ (a + 1) * permutationsFor (recordStart + size)
+leaf-more size a ran r e f = omega (arith, e, f, add-mul a 1 (permutationsFor (recordStart + size)), one-mul (permutationsFor (recordStart + size)))
+
+pub leaves-countable : (size a ran r : ℕ) → size ≤ longestRecord → ran ≡ a * permutationsFor (recordStart + size) → r ≡ permutationsFor (recordStart + size) → ran + r ≤ 3 * a + 3
+leaves-countable size a ran r l e f =
+    let most : permutationsFor (recordStart + size) ≤ 3 = omega arith in
+    omega (arith, e, f, most, mul-le-mul-left a most)

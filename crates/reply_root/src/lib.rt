@@ -8,12 +8,16 @@ ghost use Rattle.lists.specs.Rows.{rowsOf};
 ghost use Rattle.tree.specs.Sets.{missing};
 ghost use Rattle.tree.specs.Clauses.{IndexSet};
 ghost use Rattle.reply_root.specs.Root.{leafDigestAt, rootAt};
-ghost use Rattle.tree.specs.Leaf.{saltLength, indexEnd, longestRecord};
+ghost use Rattle.tree.specs.Ancestors.{nodesAbove};
+ghost use Rattle.tree.specs.Leaf.{saltLength, prefixLength, recordStart, indexEnd, longestRecord};
+ghost use Rattle.tree.specs.Work.{permutationsFor};
+use digests::first_digest;
 use digests::leaf_digest;
 use node_sets::opened_index;
+use sponge::Hashed;
 use tree_root::root_of;
 
-// The digest of each opened leaf: its record is handed on as the part of the reply that holds it.
+// The digest of each opened leaf: its record is handed on as the part of the reply that holds it. Returns how many permutations were run.
 fn leaf_digests(
     salt: &[u8],
     at: usize,
@@ -21,22 +25,25 @@ fn leaf_digests(
     indices: &[usize],
     reply: &[u8],
     out: &mut [u8],
-)
+) -> usize
     requires { ⌜ (length (now salt) ≡ saltLength) × Below indexEnd (now indices) × (size ≤ longestRecord) × (at + size * length (now indices) ≤ length (now reply)) × (32 * length (now indices) ≤ length (now out)) ⌝ }
     ensures { λ _. ⌜ now (out .exit) ≡ rowsOf (leafDigestAt (now (salt .entry)) at size (now (indices .entry)) (now (reply .entry))) (length (now (indices .entry))) ++ drop (32 * length (now (indices .entry))) (now (out .entry)) ⌝ }
+    ensures { λ r. ⌜ r ≡ length (now (indices .entry)) * permutationsFor (recordStart + size) ⌝ }
 {
+    let mut ran = 0;
     for a in 0..indices.len() {
         let from = at + size * a;
         let to = from + size;
         let first = 32 * a;
         let last = first + 32;
-        leaf_digest(
+        ran += leaf_digest(
             salt,
             opened_index(indices, a),
             &reply[from..to],
             &mut out[first..last],
         );
     }
+    ran
 }
 
 // Room for the digests of 64 leaves.
@@ -44,7 +51,7 @@ fn blank_digests() -> [u8; 2048] {
     [0u8; 2048]
 }
 
-// The root that the opened leaves, whose records begin at `at`, and the missing nodes after them give.
+// The root that the opened leaves, whose records begin at `at`, and the missing nodes after them give, and how many permutations were run for it.
 pub fn reply_root(
     salt: &[u8],
     h: usize,
@@ -52,12 +59,18 @@ pub fn reply_root(
     size: usize,
     indices: &[usize],
     reply: &[u8],
-) -> [u8; 32]
+) -> Hashed
     requires { ⌜ (length (now salt) ≡ saltLength) × IndexSet h (now indices) × (size ≤ longestRecord) × (at + size * length (now indices) + 32 * length (missing 2 h (now indices)) ≤ length (now reply)) ⌝ }
-    ensures { λ r. ⌜ r ≡ rootAt (now (salt .entry)) h at size (now (indices .entry)) (now (reply .entry)) ⌝ }
+    ensures { λ r. ⌜ r .digest ≡ rootAt (now (salt .entry)) h at size (now (indices .entry)) (now (reply .entry)) ⌝ }
+    ensures { λ r. ⌜ r .permutations ≡ length (now (indices .entry)) * permutationsFor (recordStart + size) + length (nodesAbove 2 h (now (indices .entry))) * permutationsFor (prefixLength + 32 * 2) ⌝ }
 {
     let mut digests = blank_digests();
-    leaf_digests(salt, at, size, indices, reply, &mut digests);
-    let nodes = at + size * indices.len();
-    root_of(salt, h, indices, &digests, &reply[nodes..])
+    let leaves = leaf_digests(salt, at, size, indices, reply, &mut digests);
+    let from = at + size * indices.len();
+    let nodes = root_of(salt, h, indices, &mut digests, &reply[from..]);
+    let digest = first_digest(&digests);
+    Hashed {
+        digest,
+        permutations: leaves + nodes,
+    }
 }

@@ -13,7 +13,12 @@ use Rattle.tree.specs.Sets.{missing}
 use Rattle.tree.specs.Clauses.{IndexSet}
 use Rattle.lists.specs.All.{Below}
 use Rattle.lists.specs.Bytes.{Bytes, words, length-words}
+use Rattle.lists.specs.Choice.{pick}
 use Rattle.lists.specs.Tests.{Test, verdictOf, every, each, same, verdict-hit, verdict-miss}
+use Rattle.tree.specs.Ancestors.{nodesAbove}
+use Rattle.tree.specs.Leaf.{prefixLength, recordStart}
+use Rattle.tree.specs.Work.{permutationsFor}
+use Rattle.scheme.specs.Work.{afterHashing, questionWork, workBy}
 use Rattle.scheme.specs.Sizes.{Sizes, elements, leaves, rows, width, recordValues}
 use Rattle.scheme.specs.Question.{Question}
 use Rattle.scheme.specs.Reply.{Reply, readReply, answersAt, recordsAt, recordLength, nodesAt, replyLength}
@@ -58,6 +63,13 @@ module _ (a b c d : Bool) where
   unfolding verdictOf
   four-0 e f g h = rw (e, f, g, h)
 
+-- the work that is said with a verdict; none with one given before hashing
+pub said-work : (u : Question) {v w n k : ℕ} → w ≡ v → n ≡ k → k ≡ workBy u v → n ≡ workBy u w
+said-work u e f g = f ∙ g ∙ ap (workBy u) (sym e)
+
+pub no-work : (u : Question) (v : ℕ) → afterHashing v ≡ false → 0 ≡ workBy u v
+no-work u v h = sym (ap (λ (b : Bool). pick b (questionWork u) 0) h)
+
 module _ (s : Sizes) (root salt challenges points indices reply : List ℕ) (p : Posed s salt challenges points indices) where
   abbrev u : Question
   u = posed s root salt challenges points indices
@@ -100,6 +112,17 @@ module _ (s : Sizes) (root salt challenges points indices reply : List ℕ) (p :
   pub say-later : length reply ≡ replyLength u → verdictOf (laterTests u reply) ≡ verdictOf (replyTests u reply)
   unfolding replyTests laterTests
   say-later e = sym (verdict-miss 7 (not (eqb (length reply) (replyLength u))) (laterTests u reply) (ap not (eq-eqb (length reply) (replyLength u) e)))
+
+  -- ---- the work
+
+  -- what `reply_root` runs is the question's, with a verdict given after it
+  pub work-posed : (v : ℕ) → afterHashing v ≡ true → {size n : ℕ} → size ≡ recordLength s
+      → n ≡ length indices * permutationsFor (recordStart + size) + length (nodesAbove 2 (s .h) indices) * permutationsFor (prefixLength + 32 * 2) → n ≡ workBy u v
+  unfolding questionWork
+  work-posed v h e f =
+      f
+      ∙ ap₂ (λ (k j : ℕ). k * permutationsFor (recordStart + j) + length (nodesAbove 2 (s .h) indices) * permutationsFor (prefixLength + 32 * 2)) (p .opened) e
+      ∙ sym (ap (λ (b : Bool). pick b (questionWork u) 0) h)
 
   -- ---- what the steps ask
 

@@ -1,4 +1,4 @@
-// The tests of a reply, in their order: 7, 3, 8, 9, 10.
+// The tests of a reply, in their order: 7, 3, 8, 9, 10; and the permutations run.
 ghost use mathlib.Core.Path.{_≡_};
 ghost use Prim.Native.Nat.{_*_, _≤_};
 ghost use lib.ListN.{length};
@@ -6,6 +6,7 @@ ghost use Rattle.lists.specs.Tests.{verdictOf};
 ghost use Rattle.scheme.specs.Sizes.{width};
 ghost use Rattle.scheme.specs.Reply.{replyLength};
 ghost use Rattle.scheme.specs.Check.{replyTests};
+ghost use Rattle.scheme.specs.Work.{workBy};
 ghost use Rattle.commitment.specs.Shape.{sizesIn};
 ghost use Rattle.reply_tests.specs.Posed.{posed, Posed, Read, laterTests};
 use batching_test::batching_ok;
@@ -24,7 +25,22 @@ use planner::length_for;
 use reply_elements::elements_read;
 use reply_root::reply_root;
 
-// The tests after that of the reply's length: 3, 8, 9, 10. The answers come back weighed.
+// A verdict, and how many permutations were run before it was given.
+pub struct Checked {
+    pub verdict: u32,
+    pub permutations: usize,
+}
+
+pub fn say(verdict: u32, permutations: usize) -> Checked
+    ensures { λ r. ⌜ (r .verdict ≡ verdict) × (r .permutations ≡ permutations) ⌝ }
+{
+    Checked {
+        verdict,
+        permutations,
+    }
+}
+
+// The tests after that of the reply's length: 3, 8, 9, 10. All hashing stands between 3 and 8. The answers come back weighed.
 fn words_verdict(
     s: Shape,
     challenges: &[u32],
@@ -35,24 +51,27 @@ fn words_verdict(
     reply: &[u8],
     batching: &[u32],
     answers: &mut [u32],
-) -> u32
+) -> Checked
     requires { ⌜ Posed (sizesIn s) (now salt) (now challenges) (now points) (now indices) × Read (posed (sizesIn s) (now root) (now salt) (now challenges) (now points) (now indices)) (now reply) (now batching) (now answers) ⌝ }
-    ensures { λ r. ⌜ r ≡ verdictOf (laterTests (posed (sizesIn s) (now (root .entry)) (now (salt .entry)) (now (challenges .entry)) (now (points .entry)) (now (indices .entry))) (now (reply .entry))) ⌝ }
+    ensures { λ r. ⌜ r .verdict ≡ verdictOf (laterTests (posed (sizesIn s) (now (root .entry)) (now (salt .entry)) (now (challenges .entry)) (now (points .entry)) (now (indices .entry))) (now (reply .entry))) ⌝ }
+    ensures { λ r. ⌜ r .permutations ≡ workBy (posed (sizesIn s) (now (root .entry)) (now (salt .entry)) (now (challenges .entry)) (now (points .entry)) (now (indices .entry))) (r .verdict) ⌝ }
 {
     let at = records_at(s, points.len());
     let size = record_length(s);
     let n = record_values(s);
     if !elements_read(batching, answers, at, size, n, indices.len(), reply) {
-        return 3;
+        return say(3, 0);
     }
     let found = reply_root(salt, s.h as usize, at, size, indices, reply);
-    if !same_bytes(&found, root) {
-        return 8;
+    let digest = found.digest;
+    let ran = found.permutations;
+    if !same_bytes(&digest, root) {
+        return say(8, ran);
     }
     let width = row_width(s);
     let rows = row_count(s);
     if !batching_ok(width, rows, challenges, batching, indices, at, size, reply) {
-        return 9;
+        return say(9, ran);
     }
     let leaves = leaf_count(s.h);
     if !evaluation_ok(
@@ -66,9 +85,9 @@ fn words_verdict(
         size,
         reply,
     ) {
-        return 10;
+        return say(10, ran);
     }
-    0
+    say(0, ran)
 }
 
 // The tests after that of the reply's length; `batching` and `answers` are room for the words of its answers.
@@ -82,9 +101,10 @@ fn read_verdict(
     reply: &[u8],
     batching: &mut [u32],
     answers: &mut [u32],
-) -> u32
+) -> Checked
     requires { ⌜ Posed (sizesIn s) (now salt) (now challenges) (now points) (now indices) × (length (now reply) ≡ replyLength (posed (sizesIn s) (now root) (now salt) (now challenges) (now points) (now indices))) × (width (sizesIn s) * length (now challenges) ≤ length (now batching)) × (width (sizesIn s) * length (now points) ≤ length (now answers)) ⌝ }
-    ensures { λ r. ⌜ r ≡ verdictOf (laterTests (posed (sizesIn s) (now (root .entry)) (now (salt .entry)) (now (challenges .entry)) (now (points .entry)) (now (indices .entry))) (now (reply .entry))) ⌝ }
+    ensures { λ r. ⌜ r .verdict ≡ verdictOf (laterTests (posed (sizesIn s) (now (root .entry)) (now (salt .entry)) (now (challenges .entry)) (now (points .entry)) (now (indices .entry))) (now (reply .entry))) ⌝ }
+    ensures { λ r. ⌜ r .permutations ≡ workBy (posed (sizesIn s) (now (root .entry)) (now (salt .entry)) (now (challenges .entry)) (now (points .entry)) (now (indices .entry))) (r .verdict) ⌝ }
 {
     let width = row_width(s);
     let b = width * challenges.len();
@@ -131,12 +151,13 @@ pub fn reply_verdict(
     root: &[u8],
     salt: &[u8],
     reply: &[u8],
-) -> u32
+) -> Checked
     requires { ⌜ Posed (sizesIn s) (now salt) (now challenges) (now points) (now indices) ⌝ }
-    ensures { λ r. ⌜ r ≡ verdictOf (replyTests (posed (sizesIn s) (now (root .entry)) (now (salt .entry)) (now (challenges .entry)) (now (points .entry)) (now (indices .entry))) (now (reply .entry))) ⌝ }
+    ensures { λ r. ⌜ r .verdict ≡ verdictOf (replyTests (posed (sizesIn s) (now (root .entry)) (now (salt .entry)) (now (challenges .entry)) (now (points .entry)) (now (indices .entry))) (now (reply .entry))) ⌝ }
+    ensures { λ r. ⌜ r .permutations ≡ workBy (posed (sizesIn s) (now (root .entry)) (now (salt .entry)) (now (challenges .entry)) (now (points .entry)) (now (indices .entry))) (r .verdict) ⌝ }
 {
     if reply.len() != length_for(s, points.len(), indices) {
-        return 7;
+        return say(7, 0);
     }
     if row_width(s) <= 32 {
         let mut batching = blank_short_batching();

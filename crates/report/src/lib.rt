@@ -111,8 +111,8 @@ fn put_checked(
     requires { ⌜ (m ≤ mostPoints) × (w ≤ 256) × (length (now values) ≡ w * m) × (length (now out) ≡ inputLimit) ⌝ }
     ensures { λ r. ⌜ (r, now (out .exit)) ≡ written (now (out .entry)) 0 (checkedText (now (question .entry)) (now (reply .entry)) m w (now (values .entry))) ⌝ }
 {
-    let verdict = check(question, reply, values);
-    put_text(out, verdict, m, w, values)
+    let checked = check(question, reply, values);
+    put_text(out, checked.verdict, m, w, values)
 }
 
 // How many bytes of the input are the question: as many as the header gives, or all.

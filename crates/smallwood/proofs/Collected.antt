@@ -8,6 +8,7 @@ use denote.Triple.Clauses.{AtExit}
 use borrow.Fn.Kinds.{Dens, resT, endedOf}
 use Rattle.lists.specs.Bytes.{Bytes}
 use Rattle.scheme.specs.Collect.{forRust, forC, Call, Answered, NoCollision, Covered, Extracted}
+use Rattle.scheme.proofs.Work.{uncounted}
 use Rattle.fiat_shamir.specs.CollectProofs.{ProofCall, ProofAnswered, AnyCall, conversation, alone, AnyAnswered, joined}
 use Rattle.fiat_shamir.proofs.Joined.{collected-proofs}
 use Rattle.checker.proofs.check.Kinds as check-kinds
@@ -23,11 +24,11 @@ use Rattle.smallwood.proofs.smallwood_check.Reads as smallwood-check
 
 module _ (κs : Lfts 3) (a : Dens κs check-kinds.ps) (r : resT check-kinds.r κs .Denot) (e : AtExit (endedOf 3 check-kinds.ps check-kinds.r) κs) where
   abbrev pub callRust : Call
-  callRust = record { entry = forRust; question = now (a .0); reply = now (a .1 .0); before = now (a .1 .1 .0); verdict = r; after = now (e .1 .1 .0) }
+  callRust = record { entry = forRust; question = now (a .0); reply = now (a .1 .0); before = now (a .1 .1 .0); verdict = r .verdict; after = now (e .1 .1 .0) }
 
-  -- the contract of `check` is what the theorem asks of a call
+  -- the contract of `check`, but for the count, is what the theorem asks of a call
   answered-rust : check.Learnt κs a r e → Answered callRust
-  answered-rust h = record { outcome = h }
+  answered-rust h = record { outcome = uncounted (now (a .0)) (now (a .1 .0)) (now (a .1 .1 .0)) (r .verdict) (r .permutations) (now (e .1 .1 .0)) h }
 
 module _ (κs : Lfts 3) (a : Dens κs smallwood-check-kinds.ps) (r : resT smallwood-check-kinds.r κs .Denot) (e : AtExit (endedOf 3 smallwood-check-kinds.ps smallwood-check-kinds.r) κs) where
   abbrev pub callC : Call

@@ -17,13 +17,14 @@ use Rattle.scheme.specs.Layers.{Lent, lentOf}
 use Rattle.scheme.specs.Question.{readQuestion}
 use Rattle.scheme.specs.Reply.{replyLength}
 use Rattle.scheme.specs.Commit.{filledOk, tableOf, treeOf, committing}
-use Rattle.scheme.specs.Sizing.{sizing, sizingC}
+use Rattle.scheme.specs.Sizing.{planningC, sizing, sizingC}
 use Rattle.scheme.specs.Open.{opening, openingC}
-use Rattle.scheme.specs.Check.{checking, checkingC}
+use Rattle.scheme.specs.Check.{checkingC}
+use Rattle.scheme.specs.Work.{checkingCounted, questionWork}
 use Rattle.scheme.specs.Honest.{WellLent, Names, Replied, trueValues}
-use Rattle.scheme.proofs.Opening.{sizing-is}
+use Rattle.scheme.proofs.Opening.{planning-is}
 use Rattle.scheme.proofs.Complete.{completeness}
-use Rattle.planner.specs.Planned.{numberOf as sizeNumber, lengthOf as sizeLength}
+use Rattle.planner.specs.Planned.{verdictIn, numberIn}
 use Rattle.opener.specs.Opened.{numberOf as openNumber, lengthOf as openLength}
 use Rattle.committer.proofs.commit.Kinds as commit-kinds
 use Rattle.committer.proofs.commit.Reads as commit
@@ -61,12 +62,12 @@ module _ (s : Sizes) (l : Lent) (right : WellLent s l) where
   -- a question that names the commitment
   module _ (question : Bytes) (names : Names s l question) where
     sized : (v n : ℕ) → (v, n) ≡ sizing question → (v ≡ 0) × (n ≡ replyLength (readQuestion question))
-    sized v n h = let e = h ∙ sizing-is question (names .well-formed) in (first e, rest e)
+    sized v n h = let e = h ∙ planning-is replyLength question (names .well-formed) in (first e, rest e)
 
     sizedC : (before v n : ℕ) → (v, n) ≡ sizingC question before → (v ≡ 0) × (n ≡ replyLength (readQuestion question))
-    unfolding sizingC
+    unfolding planningC
     sizedC before v n h =
-        let e = h ∙ ap (λ (r : ℕ × ℕ). (r .0, pick (eqb (r .0) 0) (r .1) before)) (sizing-is question (names .well-formed)) in
+        let e = h ∙ ap (λ (r : ℕ × ℕ). (r .0, pick (eqb (r .0) 0) (r .1) before)) (planning-is replyLength question (names .well-formed)) in
         (first e, rest e)
 
     -- a buffer of the length that sizing gave, with the table and the tree that committing left
@@ -91,9 +92,12 @@ module _ (s : Sizes) (l : Lent) (right : WellLent s l) where
           (ap (λ (z : ℕ × ℕ × Bytes). z .0) e, ap (λ (z : ℕ × ℕ × Bytes). z .1) e ∙ ap length (sym r), r)
 
       -- the reply that opening left, and a value buffer of the right length
-      checked : (reply : Bytes) → reply ≡ made .reply → (values : List ℕ) → length values ≡ s .w * readQuestion question .m → (v : ℕ) (out : List ℕ) → (v, out) ≡ checking question reply values
-          → (v ≡ 0) × (out ≡ trueValues s l (readQuestion question .evaluationPoints))
-      checked reply er values fit v out h = let e = h ∙ ap (λ (x : Bytes). checking question x values) er ∙ made .checked values fit in (first e, rest e)
+      checked : (reply : Bytes) → reply ≡ made .reply → (values : List ℕ) → length values ≡ s .w * readQuestion question .m → (v n : ℕ) (out : List ℕ) → (v, n, out) ≡ checkingCounted question reply values
+          → (v ≡ 0) × (n ≡ questionWork (readQuestion question)) × (out ≡ trueValues s l (readQuestion question .evaluationPoints))
+      checked reply er values fit v n out h =
+          let e : _≡_ {A = ℕ × ℕ × List ℕ} (v, n, out) (0, questionWork (readQuestion question), trueValues s l (readQuestion question .evaluationPoints)) =
+          h ∙ ap (λ (x : Bytes). checkingCounted question x values) er ∙ made .checked values fit in
+          (ap (λ (z : ℕ × ℕ × List ℕ). z .0) e, ap (λ (z : ℕ × ℕ × List ℕ). z .1) e, ap (λ (z : ℕ × ℕ × List ℕ). z .2) e)
 
       checkedC : (reply : Bytes) → reply ≡ made .reply → (values : Bytes) → length values ≡ 4 * (s .w * readQuestion question .m) → (v : ℕ) (out : Bytes) → (v, out) ≡ checkingC question reply values
           → (v ≡ 0) × (out ≡ bytesOf (trueValues s l (readQuestion question .evaluationPoints)))
@@ -119,7 +123,7 @@ module _
   asked = now (a₂ .0)
 
   abbrev planned : ℕ
-  planned = sizeLength r₂
+  planned = numberIn r₂
 
   -- the calls belong together: each is lent what those before it left
   pub record Chained : Type 0 where
@@ -137,13 +141,13 @@ module _
     pub checked-reply : now (a₄ .1 .0) ≡ now (e₃ .1 .1 .1 .1 .1 .1 .1 .1 .1 .0)
     pub values : length (now (a₄ .1 .1 .0)) ≡ sizesGiven .w * readQuestion asked .m
 
-  -- then none of them refuses, and the values are the true ones
-  pub completed : Chained → (r₁ ≡ 0) × (sizeNumber r₂ ≡ 0) × (openNumber r₃ ≡ 0) × (r₄ ≡ 0)
+  -- then none of them refuses, the work is the question's, and the values are the true ones
+  pub completed : Chained → (r₁ ≡ 0) × (verdictIn r₂ ≡ 0) × (openNumber r₃ ≡ 0) × (r₄ .verdict ≡ 0) × (r₄ .permutations ≡ questionWork (readQuestion asked))
       × (now (e₄ .1 .1 .0) ≡ trueValues sizesGiven lentGiven (readQuestion asked .evaluationPoints))
   completed c =
       let one = committed sizesGiven lentGiven (c .right) (now (a₁ .1 .1 .1 .1 .1 .1 .1 .1 .1 .1 .1 .1 .1 .0)) (now (a₁ .1 .1 .1 .1 .1 .1 .1 .1 .1 .1 .1 .1 .1 .1 .0)) (c .room) r₁ (now (e₁ .1 .1 .1 .1 .1 .1 .1 .1 .1 .1 .1 .1 .1 .0))
       (now (e₁ .1 .1 .1 .1 .1 .1 .1 .1 .1 .1 .1 .1 .1 .1 .0)) h₁ in
-      let two = sized sizesGiven lentGiven (c .right) asked (c .names) (sizeNumber r₂) planned h₂ in
+      let two = sized sizesGiven lentGiven (c .right) asked (c .names) (verdictIn r₂) planned h₂ in
       let table : List ℕ = now (a₃ .1 .1 .1 .1 .1 .0) in
       let tree : Bytes = now (a₃ .1 .1 .1 .1 .1 .1 .1 .1 .0) in
       let buffer : Bytes = now (a₃ .1 .1 .1 .1 .1 .1 .1 .1 .1 .0) in
@@ -152,9 +156,9 @@ module _
       let fits : length buffer ≡ replyLength (readQuestion asked) = c .buffer ∙ two .1 in
       let three = opened sizesGiven lentGiven (c .right) asked (c .names) table tree et en buffer fits (openNumber r₃) (openLength r₃) (now (e₃ .1 .1 .1 .1 .1 .1 .1 .1 .1 .0))
       (h₃ ∙ ap₂ (λ (q : Bytes) (x : Lent). opening q x table tree buffer) (c .opened-question) (c .opened-lent)) in
-      let four = checked sizesGiven lentGiven (c .right) asked (c .names) table tree et en buffer fits (now (a₄ .1 .0)) (c .checked-reply ∙ three .2) (now (a₄ .1 .1 .0)) (c .values) r₄ (now (e₄ .1 .1 .0))
-      (h₄ ∙ ap (λ (q : Bytes). checking q (now (a₄ .1 .0)) (now (a₄ .1 .1 .0))) (c .checked-question)) in
-      (one .0, two .0, three .0, four .0, four .1)
+      let four = checked sizesGiven lentGiven (c .right) asked (c .names) table tree et en buffer fits (now (a₄ .1 .0)) (c .checked-reply ∙ three .2) (now (a₄ .1 .1 .0)) (c .values) (r₄ .verdict) (r₄ .permutations) (now (e₄ .1 .1 .0))
+      (h₄ ∙ ap (λ (q : Bytes). checkingCounted q (now (a₄ .1 .0)) (now (a₄ .1 .1 .0))) (c .checked-question)) in
+      (one .0, two .0, three .0, four .0, four .1, four .2)
 
 -- ---- the entries for C
 

@@ -10,13 +10,14 @@ use denote.Triple.Clauses.{AtExit}
 use borrow.Fn.Kinds.{Dens, resT, endedOf}
 use lib.ListN.{length}
 use Rattle.lists.specs.Bytes.{Bytes}
+use Rattle.scheme.specs.Reply.{replyLength}
 use Rattle.scheme.specs.Layers.{Lent, lentOf}
 use Rattle.scheme.specs.Sizing.{sizingC}
 use Rattle.scheme.specs.Open.{opening, openingC}
 use Rattle.scheme.specs.Check.{checkingC}
 use Rattle.scheme.specs.Collect.{forC}
 use Rattle.scheme.specs.Lengths.{valuesLength, Agreed}
-use Rattle.scheme.proofs.Opening.{sizing-C, opening-C}
+use Rattle.scheme.proofs.Opening.{planning-C, opening-C}
 use Rattle.scheme.proofs.Lengths.{one-length}
 use Rattle.smallwood.proofs.smallwood_reply_length.Kinds as size-kinds
 use Rattle.smallwood.proofs.smallwood_reply_length.Reads as size
@@ -27,7 +28,7 @@ use Rattle.smallwood.proofs.smallwood_check.Reads as check
 
 -- the definitions for C
 sized : (question : Bytes) (before v n : ℕ) → (v, n) ≡ sizingC question before → v ≡ 0 → Agreed question n
-sized question before v n h z = one-length question .0 n (sizing-C question before n (sym h ∙ ap (λ (k : ℕ). (k, n)) z))
+sized question before v n h z = one-length question .0 n (planning-C replyLength question before n (sym h ∙ ap (λ (k : ℕ). (k, n)) z))
 
 -- a call of `smallwood_reply_length` that returned 0
 module _ (κs : Lfts 2) (a : Dens κs size-kinds.ps) (r : resT size-kinds.r κs .Denot) (e : AtExit (endedOf 2 size-kinds.ps size-kinds.r) κs)

@@ -6,12 +6,14 @@ ghost use Rattle.scheme.specs.Sizes.{sizesOf};
 ghost use Rattle.scheme.specs.Layers.{lentOf};
 ghost use Rattle.scheme.specs.Commit.{committing};
 ghost use Rattle.scheme.specs.Sizing.{sizingC};
+ghost use Rattle.scheme.specs.Work.{countingC};
 ghost use Rattle.scheme.specs.Open.{openingC};
 ghost use Rattle.scheme.specs.Check.{checking, checkingC};
 ghost use Rattle.scheme.specs.Interpolate.{interpolating};
 ghost use Rattle.fiat_shamir.specs.Prove.{provingC};
 ghost use Rattle.fiat_shamir.specs.CheckProof.{checkingProof, checkingProofC};
 ghost use Rattle.smallwood.specs.InBytes.{inBytes};
+ghost use Rattle.smallwood.specs.Told.{told};
 use codec::put_words;
 use offline_question::ask_offline;
 use opener::Opened;
@@ -60,19 +62,33 @@ pub extern "C" fn smallwood_commit(
     )
 }
 
+// Hands on a planner's answer: writes the number, or returns that of a refusal and leaves the number as it was.
+fn put_planned(answer: Planned, number: &mut u64) -> u32
+    ensures { λ r. ⌜ (r, now (number .exit)) ≡ told answer (now (number .entry)) ⌝ }
+{
+    match answer {
+        Planned::Number(n) => {
+            *number = n as u64;
+            0
+        }
+        Planned::Refused(v) => v,
+    }
+}
+
 // Sizes: writes the exact length of the reply to a question, or returns the number of a refusal and leaves the length as it was.
 #[no_mangle]
 pub extern "C" fn smallwood_reply_length(question: &[u8], length: &mut u64) -> u32
     ensures { λ r. ⌜ (r, now (length .exit)) ≡ sizingC (now (question .entry)) (now (length .entry)) ⌝ }
 {
-    let answer = planner::reply_length(question);
-    match answer {
-        Planned::Length(n) => {
-            *length = n as u64;
-            0
-        }
-        Planned::Refused(v) => v,
-    }
+    put_planned(planner::reply_length(question), length)
+}
+
+// Counts: writes how many permutations the check of a reply to a question runs where it comes to hashing, or returns the number of a refusal and leaves the count as it was.
+#[no_mangle]
+pub extern "C" fn smallwood_permutations(question: &[u8], count: &mut u64) -> u32
+    ensures { λ r. ⌜ (r, now (count .exit)) ≡ countingC (now (question .entry)) (now (count .entry)) ⌝ }
+{
+    put_planned(planner::permutations(question), count)
 }
 
 // Opens: fills the reply and writes its length, or returns the number of a refusal and leaves both as they were.
@@ -142,8 +158,8 @@ fn check_into(question: &[u8], reply: &[u8], words: &mut [u32], values: &mut [u8
     requires { ⌜ length (now values) ≡ 4 * length (now words) ⌝ }
     ensures { λ r. ⌜ (r, now (values .exit)) ≡ inBytes (checking (now (question .entry)) (now (reply .entry)) (now (words .entry))) (now (values .entry)) ⌝ }
 {
-    let verdict = checker::check(question, reply, words);
-    put_values(verdict, words, values)
+    let checked = checker::check(question, reply, words);
+    put_values(checked.verdict, words, values)
 }
 
 // Checks: writes the values, four bytes each, or returns the number of a refusal and leaves them as they were. Few values take a small array, since arrays are cleared.

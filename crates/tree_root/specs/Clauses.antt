@@ -6,8 +6,10 @@ use lib.ListN.{length, take, drop}
 use Rattle.sponge.specs.Digest.{digest}
 use Rattle.lists.specs.All.{Below}
 use Rattle.lists.specs.Bytes.{Bytes}
+use Rattle.tree.specs.Ancestors.{nodesAbove}
 use Rattle.tree.specs.Sets.{parents, siblings, missing}
 use Rattle.tree.specs.Tree.{parts, strings}
+use Rattle.tree.specs.Work.{permutationsFor}
 use Rattle.tree.specs.Walk.{fill, used}
 use Rattle.node_sets.specs.Clauses.{NodeSet}
 
@@ -25,19 +27,20 @@ pub record Gathered (first b : ℕ) (s : List ℕ) (ds ns : List Bytes) (pre buf
   pub own : a′ ≡ a + used first b (drop a s)
   pub listed : t′ ≡ t + (b - used first b (drop a s))
 
--- `hash_parents`: dig has the set's digests, and nodes has the level's missing ones from place t on
+-- `hash_parents`: dig has the set's digests, nodes has the level's missing ones from place t on, and the permutations can be counted
 pub record CanHashParents (b : ℕ) (idx : List ℕ) (n : ℕ) (dig nodes : Bytes) (t : ℕ) (buf : Bytes) (off : ℕ) : Type 0 where
   pub set : NodeSet b idx n
   pub digests : 32 * n ≤ length dig
   pub room : off + 32 * b ≡ length buf
   pub listed : t + length (siblings b (take n idx)) ≤ length nodes / 32
+  pub countable : length (parents b (take n idx)) * permutationsFor (length buf) < 2 ^ 64
 
 -- the digests of the set's parents stand in front of dig, and the level's missing nodes are used
 pub record ParentsHashed (b : ℕ) (pre : Bytes) (s : List ℕ) (ds ns : List Bytes) (t : ℕ) (dig′ : Bytes) (t′ : ℕ) : Type 0 where
   pub digests : parts (length (parents b s)) dig′ ≡ map digest (strings digest b pre s ds (drop t ns))
   pub spent : t′ ≡ t + length (siblings b s)
 
--- `root_from`: a set of leaves below b ^ h, its digests, and at least as many nodes as are missing
+-- `root_from`: a set of leaves below b ^ h, its digests, at least as many nodes as are missing, and permutations that can be counted
 pub record CanRoot (b h : ℕ) (idx : List ℕ) (n : ℕ) (dig nodes : Bytes) (buf : Bytes) (off : ℕ) : Type 0 where
   pub set : NodeSet b idx n
   pub some : zero < n
@@ -45,3 +48,4 @@ pub record CanRoot (b h : ℕ) (idx : List ℕ) (n : ℕ) (dig nodes : Bytes) (b
   pub leaves : Below (b ^ h) (take n idx)
   pub room : off + 32 * b ≡ length buf
   pub listed : length (missing b h (take n idx)) ≤ length nodes / 32
+  pub countable : length (nodesAbove b h (take n idx)) * permutationsFor (length buf) < 2 ^ 64

@@ -5,6 +5,7 @@ use Prim.Native.Nat.{ℕ, _-_}
 use lib.ListN.{length, take, drop}
 use Rattle.lists.specs.Tests.{verdictOf}
 use Rattle.scheme.specs.Question.{Question}
+use Rattle.scheme.specs.Work.{workBy}
 use Rattle.scheme.specs.Check.{replyTests}
 use Rattle.scheme.proofs.Accepted.{sizes-in-order}
 use Rattle.commitment.specs.Shape.{sizesIn}
@@ -163,13 +164,13 @@ returns c =
     let challenges′ = c .before .before .before .before .before .before .before .before .before .before .before .before .before .before .before .before .before .before .question-challenges in
     let points′ = c .before .before .before .before .before .before .before .before .before .before .before .before .before .before .question-points in
     let indices′ = c .before .before .before .before .before .before .before .before .before .before .question-indices in
-    c .reply-verdict .ensures
-    ∙ ap (λ (u : Question). verdictOf (replyTests u (a .reply .now)))
-    (posed-is q (a .s) (a .m) (take (saltAt′ .result - rootAt′ .result) (drop (rootAt′ .result) q)) (take (challengesAt′ .result - saltAt′ .result) (drop (saltAt′ .result) q))
+    let same =
+    posed-is q (a .s) (a .m) (take (saltAt′ .result - rootAt′ .result) (drop (rootAt′ .result) q)) (take (challengesAt′ .result - saltAt′ .result) (drop (saltAt′ .result) q))
     (take (a .s .eta) (challenges′ .last .1 .1 .1 .0)) (take (a .m) (points′ .last .1 .1 .1 .0)) (take (a .s .l) (indices′ .last .1 .1 .1 .0)) (s .pre)
     (ap₂ (λ (to from : ℕ). take (to - from) (drop from q)) (saltAt′ .ensures) (rootAt′ .ensures))
     (ap₂ (λ (to from : ℕ). take (to - from) (drop from q)) (challengesAt′ .ensures) (saltAt′ .ensures))
-    (challenges′ .ensures) (points′ .ensures) (indices′ .ensures))
+    (challenges′ .ensures) (points′ .ensures) (indices′ .ensures) in
+    (c .reply-verdict .ensures .0 ∙ ap (λ (u : Question). verdictOf (replyTests u (a .reply .now))) same, c .reply-verdict .ensures .1 ∙ ap (λ (u : Question). workBy u (c .reply-verdict .result .verdict)) same)
 
 pub asked-verdict-spec : {M : Type 1} → statement M
 asked-verdict-spec =

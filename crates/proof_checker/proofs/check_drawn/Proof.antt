@@ -102,7 +102,7 @@ returns c =
     let room : question-length .result ≤ length (blank-question .result) = omega (arith, n, question-length .ensures, question-high (s .question .now) (s .s) (s .m) (start .pre .0)) in
     let as-drawn = lent-front (question-length .result) (draw-question .last .1 .1 .1 .1 .0) (blank-question .result) room (draw-question .kept .1 .1 .1 .1 .0)
     ∙ draw-question .ensures in
-    check-reply .ensures
+    check-reply .ensures .0
     ∙ checked _ (s .reply .now) (s .values .now) (s .s) (s .m) (asked-drawn (s .question .now) (s .s) (s .m) (start .pre .0) (s .indices .now) (start .pre .1) (start .pre .2) _ as-drawn)
     ∙ ap (λ (D : Bytes). checking D (s .reply .now) (s .values .now)) as-drawn
 

@@ -5,10 +5,11 @@ use native.Mathlib.Nat.{mul-le-mul}
 use lib.ListN.{length}
 use Rattle.scheme.specs.Sizes.{width}
 use Rattle.scheme.specs.Reply.{replyLength}
+use Rattle.scheme.proofs.Work.{before-hashing}
 use Rattle.commitment.specs.Shape.{sizesIn}
 use Rattle.commitment.proofs.Places.{width-high}
 use Rattle.reply_tests.specs.Posed.{posed}
-use Rattle.reply_tests.proofs.Verdicts.{say-7, say-later, index-set}
+use Rattle.reply_tests.proofs.Verdicts.{said-work, no-work, say-7, say-later, index-set}
 use borrow.Author.Needs.{needs}
 use native.Mathlib.Omega.{arith}
 use Rattle.reply_tests.proofs.reply_verdict.Statement.{statement}
@@ -24,12 +25,17 @@ length-for-requires c κs =
           (s .reply .now) (start .pre),
     )
 
+say-requires : tie.Need-say-requires
+say-requires c κs = search needs
+
 returns : tie.Need-returns
 returns c =
-    let start = c .before .before .before .before .before .before .before .before in
+    let start = c .before .before .before .before .before .before .before .before .before in
     let s = start .args in
-    say-7 (sizesIn (s .s)) (s .root .now) (s .salt .now) (s .challenges .now) (s .points .now) (s .indices .now) (s .reply .now) (start .pre) (c .before .length-for .result)
-    (c .before .length-for .ensures) (c .if1 .taken)
+    let u = posed (sizesIn (s .s)) (s .root .now) (s .salt .now) (s .challenges .now) (s .points .now) (s .indices .now) in (
+      c .say .ensures .0 ∙ say-7 (sizesIn (s .s)) (s .root .now) (s .salt .now) (s .challenges .now) (s .points .now) (s .indices .now) (s .reply .now) (start .pre) (c .before .before .length-for .result) (c .before .before .length-for .ensures) (c .before .if1 .taken),
+      said-work u (c .say .ensures .0) (c .say .ensures .1) (no-work u 7 (before-hashing .1 .1 .1 .1 .1 .1 .0)),
+    )
 
 row-width-requires : tie.Need-row-width-requires
 row-width-requires c κs = search needs
@@ -100,7 +106,7 @@ returns-2 c =
     let s = start .args in
     let whole : length (s .reply .now) ≡ replyLength (posed (sizesIn (s .s)) (s .root .now) (s .salt .now) (s .challenges .now) (s .points .now) (s .indices .now)) =
     c .before .before .before .before .before .before .before .before .before .if1 .left ∙ c .before .before .before .before .before .before .before .before .before .before .length-for .ensures in
-    c .before .before .read-verdict .ensures ∙ say-later (sizesIn (s .s)) (s .root .now) (s .salt .now) (s .challenges .now) (s .points .now) (s .indices .now) (s .reply .now) (start .pre) whole
+    (c .before .before .read-verdict .ensures .0 ∙ say-later (sizesIn (s .s)) (s .root .now) (s .salt .now) (s .challenges .now) (s .points .now) (s .indices .now) (s .reply .now) (start .pre) whole, c .before .before .read-verdict .ensures .1)
 
 returns-3 : tie.Need-returns-3
 returns-3 c =
@@ -108,13 +114,14 @@ returns-3 c =
     let s = start .args in
     let whole : length (s .reply .now) ≡ replyLength (posed (sizesIn (s .s)) (s .root .now) (s .salt .now) (s .challenges .now) (s .points .now) (s .indices .now)) =
     c .before .before .before .before .before .before .before .before .before .if1 .left ∙ c .before .before .before .before .before .before .before .before .before .before .length-for .ensures in
-    c .before .before .read-verdict2 .ensures ∙ say-later (sizesIn (s .s)) (s .root .now) (s .salt .now) (s .challenges .now) (s .points .now) (s .indices .now) (s .reply .now) (start .pre) whole
+    (c .before .before .read-verdict2 .ensures .0 ∙ say-later (sizesIn (s .s)) (s .root .now) (s .salt .now) (s .challenges .now) (s .points .now) (s .indices .now) (s .reply .now) (start .pre) whole, c .before .before .read-verdict2 .ensures .1)
 
 pub reply-verdict-spec : {M : Type 1} → statement M
 reply-verdict-spec =
     tie.close
     (tie.spec
     length-for-requires
+    say-requires
     returns
     row-width-requires
     blank-short-batching-requires

@@ -1,4 +1,5 @@
 -- `report::put_checked` meets its contract: the text of what the check returned and left.
+use Rattle.scheme.proofs.Work.{uncounted}
 use Rattle.report.proofs.Split.{text-checked}
 use borrow.Author.Needs.{needs}
 use Rattle.report.proofs.put_checked.Statement.{statement}
@@ -19,8 +20,9 @@ same-length-2 c = search needs
 returns : tie.Need-returns
 returns c =
     let s = c .before .before .before .before .before .before .before .before .before .before .before .before .before .args in
-    text-checked (s .out .now) (s .question .now) (s .reply .now) (s .m) (s .w) (s .values .now) (c .before .before .before .before .before .before .before .check .result)
-    (c .before .before .before .before .before .before .before .check .last .1 .1 .0) _ (c .before .before .before .before .before .before .before .check .ensures) (c .before .before .put-text .ensures)
+    text-checked (s .out .now) (s .question .now) (s .reply .now) (s .m) (s .w) (s .values .now) (c .before .before .before .before .before .before .before .check .result .verdict)
+    (c .before .before .before .before .before .before .before .check .last .1 .1 .0) _
+    (uncounted (s .question .now) (s .reply .now) (s .values .now) _ _ _ (c .before .before .before .before .before .before .before .check .ensures)) (c .before .before .put-text .ensures)
 
 pub put-checked-spec : {M : Type 1} → statement M
 put-checked-spec =

@@ -1,6 +1,7 @@
 -- `smallwood::check_into` meets its contract.
 use mathlib.Core.Path.{_∙_, ap, sym}
 use mathlib.Core.List.{List}
+use Rattle.scheme.proofs.Work.{uncounted}
 use Rattle.smallwood.specs.InBytes.{inBytes}
 use Prim.Native.Nat.{_*_, ℕ}
 use borrow.Author.Needs.{needs}
@@ -22,8 +23,9 @@ same-length-2 c = search needs
 
 returns : tie.Need-returns
 returns c =
-    c .before .before .put-values .ensures ∙ ap (λ (z : ℕ × List ℕ). inBytes z (c .before .before .before .before .before .before .before .before .before .before .before .before .before .args .values .now))
-    (c .before .before .before .before .before .before .before .check .ensures)
+    let s = c .before .before .before .before .before .before .before .before .before .before .before .before .before .args in
+    c .before .before .put-values .ensures ∙ ap (λ (z : ℕ × List ℕ). inBytes z (s .values .now))
+    (uncounted (s .question .now) (s .reply .now) (s .words .now) _ _ _ (c .before .before .before .before .before .before .before .check .ensures))
 
 pub check-into-spec : {M : Type 1} → statement M
 check-into-spec =
