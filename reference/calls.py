@@ -1,4 +1,4 @@
-"""Calls of the committer, the opener and the reply's length, with every lent slice before and after.
+"""Calls of the committer, the opener and the two planners' entries, with every lent slice before and after.
 
 As in cases.py, what the construction of a call tells is asserted while the call is made.
 """
@@ -29,6 +29,9 @@ OpenCall = namedtuple(
 
 # The reply's length of a question; length is None after a refusal.
 LengthCall = namedtuple("LengthCall", "label question number length")
+
+# The permutations that a check of a reply to the question runs; count is None after a refusal.
+PermutationsCall = namedtuple("PermutationsCall", "label question number count")
 
 WORDS = ("coefficients", "tails", "blinds", "masks")
 COMMIT_SIZES = ("h", "mu", "nu", "w", "l", "eta", "beta")
@@ -285,7 +288,8 @@ def accepted_open(label, c, q):
     label, question = "%s [%s]" % (label, name(q.sizes)), S.write_question(q)
     call = open_call(label, question, c.lent, c.table, c.tree, reply_buffer(question), 0)
     values = [0] * (q.sizes.w * q.sizes.m)
-    assert S.check(question, call.buffer_after, values) == (0, true_values(c, q)), label
+    number, _, found = S.check(question, call.buffer_after, values)
+    assert (number, found) == (0, true_values(c, q)), label
     return call
 
 
@@ -501,81 +505,124 @@ def refused_opens(s):
             yield faulty_open(c, q, pair, v + 5 * step)
 
 
-# ---- The reply's length -----------------------------------------------------------------------------
+# ---- Questions for planners: the reply's length, and the check's permutations --------------------------
 
 
-def length_call(label, question, number=None):
-    """A call; number is what its construction tells, None where the reference decides."""
-    found, length = S.reply_length(question)
-    assert number is None or found == number, (label, found, number)
-    assert (length is None) == (found != 0), label
-    return LengthCall("length: " + label, question, found, length)
-
-
-def good_length(label, q, reply_bytes=None):
-    """A call for a good question, with its reply's length where a reply has been made."""
-    call = length_call("%s [%s]" % (label, name(q.sizes)), S.write_question(q), 0)
-    assert reply_bytes is None or call.length == reply_bytes, label
-    return call
-
-
-def good_lengths():
+def good_questions():
+    """(label, question, its reply's bytes where one has been made)"""
     for d in small_drafts():
-        yield good_length("honest reply", d.parts()[0], len(d.reply()))
+        yield "honest reply", d.parts()[0], len(d.reply())
     for n in range(200):
         src = Source("length %d" % n)
         s = src.sizes(12, 64, 320)
         q = drawn_question(src, s, src.bytes(32), src.bytes(32), challenges=src.edgy(s.eta), points=src.edgy(s.m))
-        yield good_length("drawn %d" % n, q)
+        yield "drawn %d" % n, q, None
     src = Source("lengths")
     for l in range(1, 8):  # every set that can be opened of 8 leaves
         for indices in combinations(range(8), l):
             q = drawn_question(src, Sizes(3, 1, 1, 1, l, 1, 1, l % 2), bytes(32), bytes(32), indices=list(indices))
-            yield good_length("leaves %s" % (indices,), q)
+            yield "leaves %s" % (indices,), q, None
     for h in range(1, 13):
         for l in sorted({min(l, 2**h - 1) for l in (1, 2, 3, 64)}):
             s = Sizes(h, 64 - h, 1, 1, l, 4, 8, h)
-            spread = [s.leaves // l * b for b in range(l)]
-            last = list(range(s.leaves - l, s.leaves))
-            for label, indices in (("first", list(range(l))), ("last", last), ("spread", spread)):
+            for label, indices in placed_leaves(s):
                 q = drawn_question(src, s, b"\xff" * 32, b"\xff" * 32, indices=indices)
-                yield good_length("%s leaves" % label, q)
+                yield "%s leaves" % label, q, None
+    for s in filter(allowed, dict.fromkeys(border_sizes())):
+        yield "sizes", drawn_question(src, s, src.bytes(32), src.bytes(32)), None
 
 
-def refused_lengths():
-    src = Source("refused lengths")
+def placed_leaves(s):
+    """(label, indices) of leaves with the most nodes above in common, at both ends, and with the fewest."""
+    yield "first", list(range(s.l))
+    yield "last", list(range(s.leaves - s.l, s.leaves))
+    yield "spread", [s.leaves // s.l * b for b in range(s.l)]
+
+
+def altered_questions():
+    """(label, bytes, the number that their construction tells, None where the reference decides): most are refused."""
     for s in dict.fromkeys(border_sizes()):
         label = "sizes [%s]" % name(s)
         if allowed(s):
-            yield good_length("sizes", drawn_question(src, s, src.bytes(32), src.bytes(32)))
-            yield length_call(label + ", header alone", S.write_header(s), 6)
+            yield label + ", header alone", S.write_header(s), 6
         else:
-            yield length_call(label, S.write_header(s) + bytes(S.question_bytes(s) - S.HEADER_BYTES), 1)
-            yield length_call(label + ", header alone", S.write_header(s), 1)
+            yield label, S.write_header(s) + bytes(S.question_bytes(s) - S.HEADER_BYTES), 1
+            yield label + ", header alone", S.write_header(s), 1
     for d in small_drafts():
         question, shown = d.question(), name(d.sizes)
         for cut in range(len(question)):
-            yield length_call("question of %d bytes [%s]" % (cut, shown), question[:cut], 6)
+            yield "question of %d bytes [%s]" % (cut, shown), question[:cut], 6
         for more in (1, 2, 4, 32, len(question)):
-            yield length_call("%d bytes more [%s]" % (more, shown), question + question[:more], 6)
+            yield "%d bytes more [%s]" % (more, shown), question + question[:more], 6
         for at in range(len(question)):
-            yield length_call("byte %d changed [%s]" % (at, shown), spoil(question, at))
+            yield "byte %d changed [%s]" % (at, shown), spoil(question, at), None
         for older in (version_1, version_2):
-            yield length_call("%s as it was [%s]" % (older.__name__, shown), older(question), 5)
+            yield "%s as it was [%s]" % (older.__name__, shown), older(question), 5
         for version in (1, 2, 4):
-            yield length_call("version %d [%s]" % (version, shown), with_version(question, version), 5)
-        yield length_call("without its salt [%s]" % shown, without_salt(question), 6)
-        yield length_call("salt before root [%s]" % shown, exchanged_salt(question), 0)
-        yield length_call("without byte 14 [%s]" % shown, question[:14] + question[15:])
+            yield "version %d [%s]" % (version, shown), with_version(question, version), 5
+        yield "without its salt [%s]" % shown, without_salt(question), 6
+        yield "salt before root [%s]" % shown, exchanged_salt(question), 0
+        yield "without byte 14 [%s]" % shown, question[:14] + question[15:], None
     for d in (case_p(), small_drafts()[4]):
         for count in range(1, len(QUESTION_STAGES) + 1):
             for chosen in combinations(QUESTION_STAGES, count):
                 faults, number = [stage for stage, _ in chosen], chosen[0][1]
                 for v in range(len(BAD_SIZES) if count == 1 else 4):
                     label = "faults: %s; variant %d [%s]" % (", ".join(faults), v, name(d.sizes))
-                    yield length_call(label, faulty_question(d.parts()[0], faults, v), number)
+                    yield label, faulty_question(d.parts()[0], faults, v), number
+
+
+def length_call(label, question, number=None):
+    found, length = S.reply_length(question)
+    assert number is None or found == number, (label, found, number)
+    assert (length is None) == (found != 0), label
+    return LengthCall("length: " + label, question, found, length)
 
 
 def length_calls():
-    yield from good_lengths()
-    yield from refused_lengths()
+    for label, q, reply_bytes in good_questions():
+        call = length_call("%s [%s]" % (label, name(q.sizes)), S.write_question(q), 0)
+        assert reply_bytes is None or call.length == reply_bytes, label
+        yield call
+    for altered in altered_questions():
+        yield length_call(*altered)
+
+
+def permutations_call(label, question, number=None):
+    found, count = S.permutations(question)
+    assert number is None or found == number, (label, found, number)
+    assert (count is None) == (found != 0), label
+    return PermutationsCall("permutations: " + label, question, found, count)
+
+
+def good_permutations(label, q):
+    """A call for a good question. The bound is met where one leaf, of three blocks, is opened, and nowhere else."""
+    s = q.sizes
+    call = permutations_call("%s [%s]" % (label, name(s)), S.write_question(q), 0)
+    bound, met = s.l * (3 + s.h), s.l == 1 and s.record >= 52
+    assert call.count == bound if met else call.count < bound, label
+    return call
+
+
+# Numbers of values at which a leaf's string gets a block more, with the blocks before and from there on.
+LEAF_BLOCKS = ((18, 1, 2), (52, 2, 3))
+
+
+def permutations_calls():
+    for label, q, _ in good_questions():
+        yield good_permutations(label, q)
+    src = Source("permutations")
+    for s in leaf_sizes():
+        q = drawn_question(src, s, src.bytes(32), src.bytes(32))
+        yield good_permutations("leaf of %d values" % s.record, q)
+    for values, *blocks in LEAF_BLOCKS:
+        for t, each in zip((values - 1, values), blocks):
+            for h, l, beta in ((1, 1, 0), (1, 1, 5), (6, 63, 0), (7, 2, 3), (12, 1, 6), (12, 64, 5)):
+                s = Sizes(h, t - 4 - beta, 1, 1, l, 4, 1, beta)
+                for label, indices in placed_leaves(s):
+                    q = drawn_question(src, s, src.bytes(32), src.bytes(32), indices=indices)
+                    call = good_permutations("%s leaves of %d values" % (label, t), q)
+                    assert call.count == l * each + len(S.missing_nodes(h, indices)) + l - 1, call.label
+                    yield call
+    for altered in altered_questions():
+        yield permutations_call(*altered)

@@ -16,8 +16,8 @@ from itertools import combinations
 
 import smallwood as S
 from calls import (
-    SALT_LENGTHS, blinded_sizes, commit_calls, exchanged_salt, length_calls, open_calls, other_salts, salt_of,
-    version_1, version_2, with_version, without_salt,
+    SALT_LENGTHS, blinded_sizes, commit_calls, exchanged_salt, length_calls, open_calls, other_salts,
+    permutations_calls, salt_of, version_1, version_2, with_version, without_salt,
 )  # fmt: skip
 from drafts import (
     LAST_WORD, Lent, Source, allowed, ask, border_sizes, case_p, committed, ends, honest, large_drafts,
@@ -32,8 +32,10 @@ from proofs import PROOF_GROUPS, prove_calls
 from smallwood import Q, Sizes
 
 # The value buffer is given in bytes, before and after the call. The check's entry on words is meant too
-# whenever 4 divides its length; otherwise the case is for the entry for C alone.
-CheckCase = namedtuple("CheckCase", "label question reply buffer number after")
+# whenever 4 divides its length; otherwise the case is for the entry for C alone. That one returns no permutations.
+CheckCase = namedtuple("CheckCase", "label question reply buffer number permutations after")
+
+HASHED = (0, 8, 9, 10)  # the verdicts after hashing
 
 ProgramCase = namedtuple("ProgramCase", "label input output")
 
@@ -51,7 +53,12 @@ def check_case(label, question, reply, number=None, values=None, size=None):
     assert number is None or found == number, (label, found, number)
     assert values is None or after == S.to_bytes(values), label
     assert found == 0 or after == before, label
-    return CheckCase(label, question, reply, before, found, after)
+    count = 0
+    if len(before) % 4 == 0:
+        *outcome, words = S.check(question, reply, S.to_words(before))
+        count = S.permutations(question)[1] if found in HASHED else 0
+        assert (outcome, S.to_bytes(words)) == ([found, count], after), (label, outcome, count)
+    return CheckCase(label, question, reply, before, found, count, after)
 
 
 def draft_case(label, draft, number=None):
@@ -686,12 +693,13 @@ def main():
             if isinstance(case, CheckCase):
                 checks.append(case)
         shown = " ".join("%d:%d" % pair for pair in sorted(outcomes.items()))
-        print("%-14s %5d in %5.1f s   %s" % (label, count, time.time() - start, shown), flush=True)
+        print("%-18s %5d in %5.1f s   %s" % (label, count, time.time() - start, shown), flush=True)
 
     for group in CHECK_GROUPS:
         counted(group.__name__, group(), lambda case: case.number)
     counted("program_cases", program_cases(checks), lambda case: int(case.output.split()[1]))
-    for group in (commit_calls, open_calls, length_calls, interpolate_calls, prove_calls) + PROOF_GROUPS:
+    others = commit_calls, open_calls, length_calls, permutations_calls, interpolate_calls, prove_calls
+    for group in others + PROOF_GROUPS:
         counted(group.__name__, group(), lambda call: call.number)
     print("digest of all cases", total.hexdigest(16))
     return 0

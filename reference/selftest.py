@@ -90,6 +90,11 @@ def naive_length(s, nodes):
     return s.eta * answer + s.m * answer + s.l * (4 * (s.mu + s.beta) + 4 * s.eta + 32) + 32 * nodes
 
 
+def naive_permutations(strings):
+    """Of the digests of these strings, block by block: each has bytes of the padding in its last block."""
+    return sum(1 for string in strings for _ in range(0, len(string) + 1, 136))
+
+
 def naive_leaf(salt, index, values, nonce):
     """A leaf's digest, byte by byte."""
     words = b"".join(value.to_bytes(4, "little") for value in values)
@@ -223,6 +228,12 @@ def true_values(s, coefficients, points):
     return [naive_polynomial(coefficients[i * each : (i + 1) * each], z) for z in points for i in range(s.w)]
 
 
+def verdict_of(question, reply, values):
+    """The check's number and values, without its permutations."""
+    number, _, after = S.check(question, reply, values)
+    return number, after
+
+
 def commit_number(s, fill=lambda count: [0] * count):
     return S.commit(*committing(s), *lend(s, fill), bytes(32 * 2**s.h), bytes(32), *empty_outputs(s))[0]
 
@@ -312,14 +323,16 @@ def test_case_p():
         expect("question of case P", question, b"".join(parts))
         words = [4294967268, 42, 5, 9, 1, 9]
         expect("reply of case P", reply, S.to_bytes(words) + nonces[32:] + digests[0])
-        expect("check of case P", S.check(question, reply, [77]), (0, [5]))
+        work = (75 // 136 + 1) + (97 // 136 + 1)
+        expect("check of case P", S.check(question, reply, [77]), (0, work, [5]))
+        expect("permutations of case P", S.permutations(question), (0, 2))
         expect("C check of case P", S.check_c(question, reply, b"abcd"), (0, b"\x05\0\0\0"))
         expect("output of case P", S.program(question + reply), b"verdict 0\n1 1 5\n")
         for other in (reply[:-1], reply + b"\0"):
-            expect("reply of %d bytes" % len(other), S.check(question, other, [77]), (7, [77]))
+            expect("reply of %d bytes" % len(other), S.check(question, other, [77]), (7, 0, [77]))
             expect("the same as a program", S.program(question + other), b"verdict 7\n")
         for words, size in ((0, 0), (2, 8)):
-            expect("%d words" % words, S.check(question, reply, [7] * words), (2, [7] * words))
+            expect("%d words" % words, S.check(question, reply, [7] * words), (2, 0, [7] * words))
             expect("%d bytes" % size, S.check_c(question, reply, bytes(size)), (2, bytes(size)))
         for size in (1, 3, 5, 7):
             expect("%d bytes" % size, S.check_c(question, reply, bytes(size)), (2, bytes(size)))
@@ -501,8 +514,9 @@ def hashed_in_all(s, lent, q, kappa):
     room = bytes(S.reply_length(question)[1])
     (number, _, reply), strings["open"] = hashed(S.open_reply, question, *lent, table, tree, room)
     expect("opened", number, 0)
-    (number, _), strings["check"] = hashed(S.check, question, reply, [0] * (s.w * s.m))
+    (number, count, _), strings["check"] = hashed(S.check, question, reply, [0] * (s.w * s.m))
     expect("checked", number, 0)
+    expect("its permutations", count, naive_permutations(strings["check"]))
     arguments = asked, kappa, 2**32 - 1, *lent, table, tree, bytes(S.proof_bound(s))
     (number, length, proof), strings["prove"] = hashed(S.prove, *arguments)
     expect("proved", number, 0)
@@ -582,6 +596,7 @@ def test_salts(rng):
         expect("root and salt in a question", question[15:79], tree[-32:] + salt)
         expect("root and salt in a proof's question", asked[15:79], tree[-32:] + salt)
         room, bound = rng.randbytes(S.reply_length(question)[1]), rng.randbytes(S.proof_bound(s))
+        work = S.permutations(question)[1]
 
         def opened(question=question, salt=salt, tree=tree):
             return S.open_reply(question, *words, nonces, salt, table, tree, room)
@@ -610,7 +625,7 @@ def test_salts(rng):
             expect("prove, asked" + label, proved(asked=named_proof), (8, None, bound))
             expect("prove, lent" + label, proved(salt=other), (8, None, bound))
             expect("length" + label, S.reply_length(named), S.reply_length(question))
-            expect("check" + label, S.check(named, reply, values), (8, values))
+            expect("check" + label, S.check(named, reply, values), (8, work, values))
             spoilt = tree[:-1] + bytes([tree[-1] ^ 1])
             expect("open, root too" + label, opened(question=named, tree=spoilt), (8, None, room))
             expect("prove, root too" + label, proved(asked=named_proof, tree=spoilt), (8, None, bound))
@@ -627,23 +642,23 @@ def test_salts(rng):
         exchanged = question[:15] + salt + tree[-32:] + question[79:]
         expect("salt before root", opened(question=exchanged), (8, None, room))
         expect("salt before root, and so lent", opened(question=exchanged, salt=tree[-32:]), (8, None, room))
-        expect("check, salt before root", S.check(exchanged, reply, values), (8, values))
+        expect("check, salt before root", S.check(exchanged, reply, values), (8, work, values))
         for cut in (question[:47] + question[79:], question[:78] + question[79:], question + b"\0", question[:79]):
-            expect("question of %d bytes" % len(cut), S.check(cut, reply, values), (6, values))
+            expect("question of %d bytes" % len(cut), S.check(cut, reply, values), (6, 0, values))
             expect("open, question of %d bytes" % len(cut), opened(question=cut), (6, None, room))
         for cut in (asked[:47] + asked[79:], asked[:78] + asked[79:], asked + b"\0", asked[:79]):
             expect("proof's question of %d bytes" % len(cut), S.check_proof(cut, 1, proof, values), (6, values))
             expect("prove, question of %d bytes" % len(cut), proved(asked=cut), (6, None, bound))
         for version in (0, 1, 2, 4, 5, 255, 256, 258, 259, 512, 768, 65535):
             other, other_proof = with_version(question, version), with_version(asked, version)
-            expect("version %d" % version, S.check(other, reply, values), (5, values))
+            expect("version %d" % version, S.check(other, reply, values), (5, 0, values))
             expect("length, version %d" % version, S.reply_length(other), (5, None))
             expect("open, version %d" % version, opened(question=other), (5, None, room))
             expect("prove, version %d" % version, proved(asked=other_proof), (5, None, bound))
             expect("proof, version %d" % version, S.check_proof(other_proof, 1, proof, values), (5, values))
         for version in (1, 2):
             older = before_question(question, version)
-            expect("question as of version %d" % version, S.check(older, reply, values), (5, values))
+            expect("question as of version %d" % version, S.check(older, reply, values), (5, 0, values))
             expect("open, question as of version %d" % version, opened(question=older), (5, None, room))
 
 
@@ -766,7 +781,7 @@ def test_before(rng, path):
         for _ in range(5):  # the same damage to a reply with a salt and to that without
             values, at, bits = [7] * (s.w * s.m), rng.randrange(len(reply)), rng.randrange(256)
             spoilt, older_spoilt = [r[:at] + bytes([r[at] ^ bits]) + r[at + 1 :] for r in (reply, opened[2])]
-            expect("check", S.check(question, spoilt, values), before.check(older, older_spoilt, values))
+            expect("check", verdict_of(question, spoilt, values), before.check(older, older_spoilt, values))
 
 
 def test_missing(rng):
@@ -792,8 +807,9 @@ def expect_length(s, indices):
     if s.l == 1:
         expect("h nodes, " + label, nodes, s.h)
     for step in (-32, -1, 0, 1, 32):  # the root of zeros is that of no reply
-        number = S.check(question, bytes(length + step), [3] * (s.w * s.m))[0]
-        expect("reply of %d bytes, %s" % (length + step, label), number, 7 if step else 8)
+        outcome = S.check(question, bytes(length + step), [3] * (s.w * s.m))[:2]
+        wanted = (7, 0) if step else (8, S.permutations(question)[1])
+        expect("reply of %d bytes, %s" % (length + step, label), outcome, wanted)
 
 
 def test_reply_length(rng):
@@ -813,7 +829,7 @@ def test_reply_length(rng):
         expect_length(s, [2**s.h // l * b for b in range(l)])
 
 
-def test_reply_length_refused():
+def test_question_refused():
     """Each test of the question, then two at once: the earlier one decides."""
     s = Sizes(3, 2, 1, 2, 2, 1, 1)
     good = Question(s, bytes(32), bytes(32), [1], [2], [3, 5])
@@ -850,8 +866,161 @@ def test_reply_length_refused():
         ("index N", changed(indices=[3, 8]), 4),
     ):
         expect("reply length, " + label, S.reply_length(data), (number, None))
-        expect("check, " + label, S.check(data, b"", [])[0], number)
+        expect("permutations, " + label, S.permutations(data), (number, None))
+        expect("check, " + label, S.check(data, b"", []), (number, 0, []))
     expect_length(s, good.indices)
+
+
+# ---- The work of a check ----------------------------------------------------------------------------
+
+
+def above_or_in(h, indices):
+    """(level, node) of every node of the tree that is an opened leaf or above one."""
+    nodes = [(level, node) for level in range(h + 1) for node in range(2 ** (h - level))]
+    return [(level, node) for level, node in nodes if any(i >> level == node for i in indices)]
+
+
+def naive_strings(q, r):
+    """(level, node): its string, of all that a check hashes, from the root down."""
+    known, leaves, strings = dict(zip(naive_missing(q.sizes.h, q.indices), r.nodes)), dict(zip(q.indices, r.leaves)), {}
+
+    def digest_of(level, node):
+        if (level, node) in known:
+            return known[level, node]
+        if level == 0:
+            values, nonce = leaves[node]
+            words = b"".join(value.to_bytes(4, "little") for value in values)
+            string = b"\x00" + q.salt + node.to_bytes(2, "little") + words + nonce
+        else:
+            string = b"\x01" + q.salt + digest_of(level - 1, 2 * node) + digest_of(level - 1, 2 * node + 1)
+        strings[level, node] = string
+        return hashlib.shake_256(string).digest(32)
+
+    digest_of(q.sizes.h, 0)
+    return strings
+
+
+def drawn_reply(rng, s, indices):
+    """Question and reply in parts, of the right lengths and of elements: the root is that of no reply."""
+    q = Question(s, rng.randbytes(32), rng.randbytes(32), by_rule(5, s.eta), by_rule(6, s.m), indices)
+    lines = [[0] * (s.w * s.nu + s.l) for _ in range(s.eta + s.m)]
+    leaves = [([rng.randrange(Q) for _ in range(s.mu + s.beta + s.eta)], rng.randbytes(32)) for _ in indices]
+    nodes = [rng.randbytes(32) for _ in range(counted_missing(s.h, indices))]
+    return q, S.Reply(lines[: s.eta], lines[s.eta :], leaves, nodes)
+
+
+def expect_work(rng, s, indices):
+    """What a check of drawn bytes hashes: every opened leaf and node above one, the root too, and each once."""
+    q, r = drawn_reply(rng, s, indices)
+    question, label = S.write_question(q), "work of %s %s, " % (s, indices)
+    (number, count, _), strings = hashed(S.check, question, S.write_reply(r), [0] * (s.w * s.m))
+    wanted, nodes = naive_strings(q, r), above_or_in(s.h, indices)
+    expect(label + "nodes", (sorted(wanted), len(r.nodes)), (nodes, len(nodes) - 2 * s.l + 1))
+    expect(label + "strings", sorted(strings), sorted(wanted.values()))
+    leaf, node = 67 + 4 * (s.mu + s.beta + s.eta), 97
+    each = (leaf // 136 + 1) * s.l + (node // 136 + 1) * (len(nodes) - s.l)
+    expect(label + "count", (number, count, naive_permutations(strings)), (8, each, each))
+    expect(label + "count asked for", S.permutations(question), (0, each))
+    reached = s.l == 1 and s.mu + s.beta + s.eta >= 52
+    expect(label + "bound", count == s.l * (3 + s.h) if reached else count < s.l * (3 + s.h), True)
+
+
+def test_work_of_sets(rng):
+    """Every set of leaves that can be opened of up to 16: one place at least is a column's."""
+    for h in (1, 2, 3, 4):
+        for chosen in range(1, 2 ** 2**h - 1):
+            indices = [i for i in range(2**h) if chosen >> i & 1]
+            expect_work(rng, Sizes(h, 1, 1, 1, len(indices), 1, 1), indices)
+
+
+def test_work_of_sizes(rng):
+    for _ in range(200):
+        s = random_sizes(rng)
+        expect_work(rng, s, sorted(rng.sample(range(2**s.h), s.l)))
+    for h in range(1, 11):
+        for l in (1, 2, 5, 33, 63, 64):
+            if l < 2**h:
+                beta = rng.randrange(17)
+                s = Sizes(h, rng.randrange(max(beta, 1), 65 - beta), 1, 1, l, rng.randrange(1, 5), 1, beta)
+                for indices in (range(l), range(2**h - l, 2**h), range(0, 2**h // l * l, 2**h // l)):
+                    expect_work(rng, s, list(indices))
+    for mu in range(1, 65):
+        for beta in {0, 1, min(mu, 16, 64 - mu)}:
+            if mu + beta <= 64:
+                expect_work(rng, Sizes(2, mu, 1, 1, 1, rng.randrange(1, 5), 1, beta), [rng.randrange(4)])
+
+
+def work_of(h, values, indices):
+    """By the entry for planners, with so many values in a leaf."""
+    beta = min(16, (values - 4) // 2)
+    s = Sizes(h, values - 4 - beta, 1, 1, len(indices), 4, 1, beta)
+    return S.permutations(S.write_question(Question(s, bytes(32), bytes(32), [1] * 4, [2], indices)))
+
+
+def test_work_by_hand():
+    for values, leaf, blocks in ((17, 135, 1), (18, 139, 2), (51, 271, 2), (52, 275, 3), (68, 339, 3)):
+        string = S.leaf_string(bytes(32), 0, [0] * values, bytes(32))
+        expect("leaf string of %d values" % values, (len(string), naive_permutations([string])), (leaf, blocks))
+        expect("%d values, h 1" % values, work_of(1, values, [1]), (0, blocks + 1))
+        expect("%d values, h 12" % values, work_of(12, values, [4095]), (0, blocks + 12))
+        expect("%d values, a pair" % values, work_of(3, values, [6, 7]), (0, 2 * blocks + 1 + 1 + 1))
+        expect("%d values, far apart" % values, work_of(3, values, [0, 7]), (0, 2 * blocks + 2 + 2 + 1))
+        expect("%d values, four" % values, work_of(3, values, [0, 1, 2, 3]), (0, 4 * blocks + 2 + 1 + 1))
+        expect("%d values, 64 leaves" % values, work_of(12, values, list(range(64))), (0, 64 * blocks + 63 + 6))
+        spread = list(range(0, 4096, 64))
+        expect("%d values, 64 far apart" % values, work_of(12, values, spread), (0, 64 * blocks + 64 * 6 + 63))
+
+
+def test_work_of_verdicts(rng):
+    """Of one question: the same for every verdict after hashing, none and no string before it."""
+    for s in [random_sizes(rng) for _ in range(40)] + [Sizes(4, 48, 1, 2, 3, 4, 2, 16), P_SIZES]:
+        words = lend(s, lambda count: [rng.randrange(Q) for _ in range(count)])
+        lent = *words, rng.randbytes(32 * 2**s.h), rng.randbytes(32)
+        _, table, tree = S.commit(*committing(s), *lent, *empty_outputs(s))
+        indices = sorted(rng.sample(range(1, 2**s.h), s.l))  # leaf 0 would see of R a constant alone
+        q = Question(s, tree[-32:], lent[-1], [1] * s.eta, [2] * s.m, indices)
+        question = S.write_question(q)
+        reply = S.open_reply(question, *lent, table, tree, bytes(S.reply_length(question)[1]))[2]
+        answers, records = 4 * s.eta * (s.w * s.nu + s.l), 4 * (s.eta + s.m) * (s.w * s.nu + s.l)
+        values, count = [7] * (s.w * s.m), naive_permutations(naive_strings(q, S.read_reply(s, reply)).values())
+
+        def with_word(at, word):
+            return reply[:at] + word.to_bytes(4, "little") + reply[at + 4 :]
+
+        def lower(at):
+            """Another element at this place."""
+            word = int.from_bytes(reply[at : at + 4], "little")
+            return with_word(at, word - 1 if word else 1)
+
+        for label, number, other, buffer in (
+            ("honest", 0, reply, values),
+            ("node", 8, reply[:-1] + bytes([reply[-1] ^ 1]), values),
+            ("leaf", 8, lower(records), values),
+            ("R", 9, lower(0), values),
+            ("R and T", 9, lower(0)[:answers] + lower(answers)[answers:], values),
+            ("T", 10, lower(answers), values),
+            ("element in R", 3, with_word(0, Q), values),
+            ("element in the last leaf", 3, with_word(records + (4 * s.record + 32) * s.l - 36, Q), values),
+            ("shorter", 7, reply[:-1], values),
+            ("longer", 7, reply + b"\0", values),
+            ("no reply", 7, b"", values),
+            ("no buffer", 2, reply, []),
+            ("longer buffer", 2, b"", values + [7]),
+        ):
+            (found, work, _), strings = hashed(S.check, question, other, buffer)
+            hashing = number in (0, 8, 9, 10)
+            expect("work, %s" % label, (found, work), (number, count if hashing else 0))
+            expect("strings, %s" % label, naive_permutations(strings), count if hashing else 0)
+            expect("for C, %s" % label, S.check_c(question, other, bytes(4 * len(buffer)))[0], number)
+        for number, bad in (
+            (6, question[:-1]),
+            (5, b"swq" + question[3:]),
+            (1, question[:5] + b"\0" + question[6:]),
+            (3, question[:79] + b"\xff" * 4 + question[83:]),
+            (4, question[:-2] + b"\xff" * 2),
+        ):
+            (found, work, _), strings = hashed(S.check, bad, reply, values)
+            expect("work of a refused question", (found, work, strings), (number, 0, []))
 
 
 def random_sizes(rng):
@@ -898,13 +1067,13 @@ def test_completeness(rng, rounds):
         expect("leaf values", [values for values, _ in r.leaves], opened)
         expect("nodes", r.nodes, [naive_node(salt, digests, level, i) for level, i in nodes])
         values = true_values(s, words[0], points)
-        expect("check", S.check(question, reply, [1] * (s.w * s.m)), (0, values))
+        expect("check", verdict_of(question, reply, [1] * (s.w * s.m)), (0, values))
         expect("check for C", S.check_c(question, reply, bytes(4 * s.w * s.m)), (0, S.to_bytes(values)))
         shown = "".join("%d %d %d\n" % (a // s.w + 1, a % s.w + 1, v) for a, v in enumerate(values))
         expect("program", S.program(question + reply), b"verdict 0\n" + shown.encode())
         spoilt = bytes([reply[0] ^ 1]) + reply[1:]
         wanted = 9 if S.elements(S.to_words(spoilt[:4])) else 3
-        expect("spoilt", S.check(question, spoilt, [1] * (s.w * s.m)), (wanted, [1] * (s.w * s.m)))
+        expect("spoilt", verdict_of(question, spoilt, [1] * (s.w * s.m)), (wanted, [1] * (s.w * s.m)))
 
 
 # ---- Proofs -----------------------------------------------------------------------------------------
@@ -977,7 +1146,7 @@ def expect_proof(rng, s, lent, table, tree, points, kappa):
     expect(label + "counter, then the reply", opened, (0, length - 4, proof[4:]))
     values = true_values(s, lent[0], points)
     blank = [7] * (s.w * s.m)
-    expect(label + "conversation", S.check(drawn, proof[4:], blank), (0, values))
+    expect(label + "conversation", verdict_of(drawn, proof[4:], blank), (0, values))
     expect(label + "values", S.check_proof(question, kappa, proof, blank), (0, values))
     found = S.check_proof_c(question, kappa, proof, bytes(4 * s.w * s.m))
     expect(label + "values for C", found, (0, S.to_bytes(values)))
@@ -1166,7 +1335,11 @@ def main():
     test_stored_before()
     test_missing(rng)
     test_reply_length(rng)
-    test_reply_length_refused()
+    test_question_refused()
+    test_work_by_hand()
+    test_work_of_sets(rng)
+    test_work_of_sizes(rng)
+    test_work_of_verdicts(rng)
     test_completeness(rng, 150)
     test_choosing(rng)
     test_qualifying()

@@ -22,6 +22,8 @@ HEADER_BYTES = 15
 DIGEST_BYTES = 32
 NONCE_BYTES = 32
 SALT_BYTES = 32
+RATE_BYTES = 136  # that SHAKE256 takes in before each permutation
+NODE_STRING_BYTES = 1 + SALT_BYTES + 2 * DIGEST_BYTES  # a node's string: its first byte, salt, two digests
 SALT_AT = HEADER_BYTES + DIGEST_BYTES  # where a question's salt begins, after header and root
 AFTER_SALT = SALT_AT + SALT_BYTES  # where its challenges begin, or a proof's points
 COUNTER_BYTES = 4
@@ -256,6 +258,22 @@ def digest(string):
     return shake_256(string).digest(DIGEST_BYTES)
 
 
+def permutations_for(length):
+    """Permutations that the digest of a string of so many bytes takes: padding adds at least one byte."""
+    return length // RATE_BYTES + 1
+
+
+class CountedDigest:
+    """The digest, and the permutations for all strings that were given to it."""
+
+    def __init__(self):
+        self.permutations = 0
+
+    def __call__(self, string):
+        self.permutations += permutations_for(len(string))
+        return digest(string)
+
+
 def leaf_string(salt, index, values, nonce):
     return b"\x00" + salt + struct.pack("<H", index) + to_bytes(values) + nonce
 
@@ -290,15 +308,20 @@ def missing_nodes(h, indices):
     return missing
 
 
-def root_of(h, salt, indices, leaf_digests, nodes):
+def root_of(h, salt, indices, leaf_digests, nodes, digest_of=digest):
     """The root, from the opened leaves' digests and the missing nodes."""
     known = {(0, i): leaf for i, leaf in zip(indices, leaf_digests)}
     known.update(zip(missing_nodes(h, indices), nodes))
     for level in range(1, h + 1):
         for i in {index >> level for index in indices}:
             pair = known[level - 1, 2 * i], known[level - 1, 2 * i + 1]
-            known[level, i] = digest(node_string(salt, *pair))
+            known[level, i] = digest_of(node_string(salt, *pair))
     return known[h, 0]
+
+
+def nodes_above(h, indices):
+    """(level, index) of the nodes above these leaves, the root too, each once."""
+    return {(level, index >> level) for index in indices for level in range(1, h + 1)}
 
 
 # ---- Byte forms -------------------------------------------------------------------------------------
@@ -354,6 +377,17 @@ def proof_bound(s):
 def reply_bytes_to(q):
     """Length of the reply to a question: its nodes are the missing ones."""
     return reply_bytes(q.sizes, len(missing_nodes(q.sizes.h, q.indices)))
+
+
+def leaf_string_bytes(s):
+    """Length of a leaf's string: its first byte, salt, index, values, nonce."""
+    return 1 + SALT_BYTES + 2 + 4 * s.record + NONCE_BYTES
+
+
+def permutations_to(q):
+    """Permutations of a check that hashes, by the sizes and indices of its question alone."""
+    each_leaf, each_node = permutations_for(leaf_string_bytes(q.sizes)), permutations_for(NODE_STRING_BYTES)
+    return each_leaf * len(q.indices) + each_node * len(nodes_above(q.sizes.h, q.indices))
 
 
 def write_header(s):
@@ -557,6 +591,15 @@ def reply_length(question):
     return (number, None) if number else (0, reply_bytes_to(q))
 
 
+def permutations(question):
+    """The permutations of a check that hashes: returns (number, count); None after a refusal.
+
+    Tests 6 5 1 6 3 4. No reply is needed: whatever the leaves and nodes are, the strings have the same lengths.
+    """
+    number, q = read_question(question)
+    return (number, None) if number else (0, permutations_to(q))
+
+
 def answers_to(s, challenges, points, coefficients, tails, blinds, masks):
     """Batching answers and evaluation answers; they do not depend on the indices."""
     lines = lines_of(s, coefficients, tails, blinds)
@@ -622,10 +665,17 @@ def prove(question, kappa, limit, coefficients, tails, blinds, masks, nonces, sa
 
 
 def verify(q, r):
-    """The tests that are left for a reply of its length and of elements: (8, 9 or 10, None), or (0, the values)."""
+    """The tests that are left for a reply of its length and of elements: (number, permutations, values or None)."""
+    counted = CountedDigest()
+    number, values = verify_with(counted, q, r)
+    return number, counted.permutations, values
+
+
+def verify_with(digest_of, q, r):
+    """These tests, with digests by that function: (8, 9 or 10, None), or (0, the values)."""
     s = q.sizes
     strings = [leaf_string(q.salt, i, values, nonce) for i, (values, nonce) in zip(q.indices, r.leaves)]
-    if root_of(s.h, q.salt, q.indices, [digest(string) for string in strings], r.nodes) != q.root:
+    if root_of(s.h, q.salt, q.indices, [digest_of(string) for string in strings], r.nodes, digest_of) != q.root:
         return 8, None
     for k in range(s.eta):
         for i, (values, _) in zip(q.indices, r.leaves):
@@ -648,31 +698,31 @@ def reply_elements(r):
 
 
 def judge(question, reply, buffer_bytes):
-    """The check's verdict for a value buffer of this many bytes: (number, values or None).
+    """The check's verdict for a value buffer of this many bytes: (number, permutations, values or None).
 
-    Tests 6 5 1 6 3 4, then 2, 7, 3 over the reply, 8, 9, 10.
+    Tests 6 5 1 6 3 4, then 2, 7, 3 over the reply, 8, 9, 10. Nothing is hashed before test 8.
     """
     number, q = read_question(question)
     if number:
-        return number, None
+        return number, 0, None
     s = q.sizes
     if buffer_bytes != 4 * s.w * s.m:
-        return 2, None
+        return 2, 0, None
     if len(reply) != reply_bytes_to(q):
-        return 7, None
+        return 7, 0, None
     r = read_reply(s, reply)
-    return verify(q, r) if reply_elements(r) else (3, None)
+    return verify(q, r) if reply_elements(r) else (3, 0, None)
 
 
 def check(question, reply, values):
-    """Check: returns (number, values); the value buffer has w m words, point by point."""
-    number, found = judge(question, reply, 4 * len(values))
-    return number, values if number else found
+    """Check: returns (number, permutations, values); the value buffer has w m words, point by point."""
+    number, count, found = judge(question, reply, 4 * len(values))
+    return number, count, values if number else found
 
 
 def check_c(question, reply, value_bytes):
-    """The check's entry for C: the value buffer has 4 w m bytes. Returns (number, value_bytes)."""
-    number, found = judge(question, reply, len(value_bytes))
+    """The check's entry for C: the value buffer has 4 w m bytes. Returns (number, value_bytes), no permutations."""
+    number, _, found = judge(question, reply, len(value_bytes))
     return number, value_bytes if number else to_bytes(found)
 
 
@@ -698,7 +748,10 @@ def judge_proof(question, kappa, proof, buffer_bytes):
     r = read_reply(s, reply)
     if not reply_elements(r):
         return 3, None
-    return verify(q, r) if qualifies(draw, kappa) else (12, None)
+    if not qualifies(draw, kappa):
+        return 12, None
+    number, _, values = verify(q, r)
+    return number, values
 
 
 def check_proof(question, kappa, proof, values):
@@ -729,17 +782,28 @@ def interpolate(points, values, coefficients):
     return 0, polynomial_through(points, values)
 
 
-def program(input_bytes):
-    """The checking program: from standard input's bytes to standard output's bytes."""
+def check_input(input_bytes):
+    """The check of a program's input, split after the question: (number, permutations, values by point)."""
     data = input_bytes[:INPUT_LIMIT]
     s = read_header(data)[1] if len(data) >= HEADER_BYTES else None
-    split = question_bytes(s) if s else len(data)
-    number, values = check(data[:split], data[split:], [0] * (s.w * s.m if s else 0))
+    split, w, m = (question_bytes(s), s.w, s.m) if s else (len(data), 0, 0)
+    number, count, values = check(data[:split], data[split:], [0] * (w * m))
+    return number, count, [values[p * w : (p + 1) * w] for p in range(m)]
+
+
+def program(input_bytes):
+    """The checking program: from standard input's bytes to standard output's bytes."""
+    number, _, values = check_input(input_bytes)
     lines = ["verdict %d\n" % number]
     if number == 0:
-        for at, value in enumerate(values):
-            lines.append("%d %d %d\n" % (at // s.w + 1, at % s.w + 1, value))
+        for p, at_point in enumerate(values):
+            lines += ["%d %d %d\n" % (p + 1, i + 1, value) for i, value in enumerate(at_point)]
     return "".join(lines).encode()
+
+
+def counts_line(input_bytes):
+    """What the program `counts` prints of a file with these bytes, after its name."""
+    return b"verdict %d permutations %d\n" % check_input(input_bytes)[:2]
 
 
 if __name__ == "__main__":

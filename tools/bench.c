@@ -10,13 +10,14 @@
  *     bench sizes                the numbers of the sizes, one to a line
  *     bench once OP SIZE NAME    one call alone, to be counted by valgrind (bench.sh)
  *     bench row OP SIZE          how that call's row of a table begins: sizes, operation, permutations of Keccak
+ *     bench has OP NAME          exit status 1 where that implementation cannot do it
  *     bench once-any N NAME      one interpolation over N points alone, and
  *     bench has-any NAME         exit status 1 where that implementation has no such entry
  *
  * plain_keccak_* and plain_pairs_* are plain C with plain/keccak.c, the latter with PLAIN_PAIRS (plain/plain.h). Built
  * with -DPLAIN_OPENSSL, plain_* is plain C with OpenSSL's hash; built with -DBEFORE, before_* is the older library.
  * Times are processor time of this program. An older library may take questions of version 2, without a salt (older.h),
- * and may lack the entry for interpolation. Permutations are those of strings with a salt. */
+ * and may lack the entries for permutations and interpolation. Permutations are those of strings with a salt. */
 #define _GNU_SOURCE
 #include <inttypes.h>
 #include <pthread.h>
@@ -44,9 +45,11 @@ static void show_times(void)
             struct instance *a = prepared(all_sizes[n], operation);
             struct timing found[IMPLEMENTATIONS];
             compare(a, operation);
+            if (operation == PERMUTATIONS && a->count != permutations(a, CHECK))
+                fail("the entry's permutations are not those that the tables have");
             measure(a, operation, in_times, found);
             begin_row(a, operation);
-            end_times_row(found, operation == LENGTH ? 3 : 2);
+            end_times_row(found, operation == LENGTH || operation == PERMUTATIONS ? 3 : 2);
             free_instance(a);
         }
 }
@@ -294,6 +297,8 @@ static void once(const char *operation, const char *size, const char *name)
 #ifdef PLAIN_OPENSSL
     evp_start(); /* outside the call that is counted */
 #endif
+    if (!has_operation(implementation_named(name), operation_named(operation)))
+        fail("that implementation cannot do it");
     if (call(&implementations[implementation_named(name)], operation_named(operation), a) != 0)
         fail("an honest call was refused");
     free_instance(a);
@@ -321,6 +326,8 @@ int main(int count, char **words)
         struct instance *a = prepared(*sizes_numbered(words[3]), operation);
         begin_row(a, operation);
         free_instance(a);
+    } else if (count == 4 && strcmp(mode, "has") == 0) {
+        return !has_operation(implementation_named(words[3]), operation_named(words[2]));
     } else if (count == 4 && strcmp(mode, "once-any") == 0) {
         interpolate_once(words[2], words[3]);
     } else if (count == 3 && strcmp(mode, "has-any") == 0) {
@@ -345,7 +352,7 @@ int main(int count, char **words)
             show_stack();
     } else {
         fail("usage: bench [times | proofs | interpolation | growth | stack | names | sizes | once OP SIZE NAME | "
-             "row OP SIZE | once-any N NAME | has-any NAME]");
+             "row OP SIZE | has OP NAME | once-any N NAME | has-any NAME]");
     }
     return 0;
 }

@@ -9,8 +9,8 @@
 #     --archive FILE     measures this archive and does not build the library
 #     --before FILE      measures this older archive too, in the same runs: the tables have it as `before`. Its
 #                        questions may have version 2, without a salt: it then hashes shorter strings, and has no cells
-#                        for proving under kappa 8 and 16, where it would try other counters. It may lack the entry for
-#                        interpolation. Archives of version 1 are not taken
+#                        for proving under kappa 8 and 16, where it would try other counters. It may lack the entries
+#                        for permutations and interpolation. Archives of version 1 are not taken
 #     --stand-in         measures the plain C implementation, to test these tools
 #
 # Needs gcc, rt unless an archive is given, and binutils for --before. With OpenSSL's headers (libssl-dev) the plain
@@ -62,7 +62,11 @@ cells() {
     echo "$ratios|"
 }
 
-# Instructions inside a call of $operation at $size; every archive has these operations.
+# Instructions inside a call of $operation at $size.
+has_call() {
+    "$build/bench" has "$operation" "$1"
+}
+
 count_call() {
     entry=$operation
     [ "$entry" != length ] || entry=reply_length
@@ -89,9 +93,9 @@ instructions() {
     for name in $names; do [ "$name" = smallwood ] || printf -- '---|'; done
     echo
     for size in $("$build/bench" sizes); do
-        for operation in commit open check length prove check_proof; do
+        for operation in commit open check length permutations prove check_proof; do
             "$build/bench" row "$operation" "$size"
-            cells true count_call
+            cells has_call count_call
         done
     done
 }

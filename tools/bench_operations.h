@@ -19,18 +19,20 @@ ENTRIES(plain);
 ENTRIES(plain_keccak);
 ENTRIES(plain_pairs);
 
+#pragma weak before_permutations
+
 #define ROUNDS 25        /* runs of which least and median are taken */
 #define RUN_SECONDS 2e-3 /* a run repeats the call for about so long */
 
 /* DRAWN is the conversation's check of a proof's reply, under the question so drawn. */
-enum operation { COMMIT, OPEN, CHECK, LENGTH, PROVE, PROVE_8, PROVE_16, CHECK_PROOF, DRAWN, OPERATIONS };
+enum operation { COMMIT, OPEN, CHECK, LENGTH, PERMUTATIONS, PROVE, PROVE_8, PROVE_16, CHECK_PROOF, DRAWN, OPERATIONS };
 
 #define MAIN_OPERATIONS LENGTH /* those in the table of growth */
 #define TIMED_OPERATIONS PROVE /* those in the table of times; those from here on are in that of proofs */
 
-/* tools/bench.sh knows those of the table of instructions: the first five, and check_proof. */
+/* tools/bench.sh knows those of the table of instructions: the first six, and check_proof. */
 static const char *const operation_names[OPERATIONS] = {
-    "commit", "open", "check", "length", "prove", "prove_8", "prove_16", "check_proof", "check, drawn",
+    "commit", "open", "check", "length", "permutations", "prove", "prove_8", "prove_16", "check_proof", "check, drawn",
 };
 
 /* The zero bits that a proof's draw has to begin with; the proof that is checked has none. */
@@ -103,6 +105,8 @@ static uint32_t call(const struct implementation *with, enum operation operation
         return check_proof_with(with, a, kappas[operation]);
     case DRAWN:
         return check_drawn_with(with, a);
+    case PERMUTATIONS:
+        return permutations_with(with, a);
     default:
         return reply_length_with(with, a);
     }
@@ -130,10 +134,15 @@ static void find_older(void)
     }
 }
 
-/* An older library draws from other strings, and so would try other counters. */
+/* An older library may lack the entry for permutations. One of version 2 draws from other strings, and so would try
+ * other counters. */
 static int has_operation(size_t implementation, enum operation operation)
 {
-    return !implementations[implementation].older || (operation != PROVE_8 && operation != PROVE_16);
+    const struct implementation *with = &implementations[implementation];
+
+    if (operation == PERMUTATIONS)
+        return with->permutations != NULL;
+    return !with->older || (operation != PROVE_8 && operation != PROVE_16);
 }
 
 /* The question that the proof stands for takes the place of the drawn one. */
@@ -142,7 +151,7 @@ static void take_drawn_question(struct instance *a)
     const uint8_t *indices;
 
     question_of_proof(a->proof_question, a->proof_question_bytes, a->proof, a->question);
-    indices = a->question + a->question_bytes - 2 * a->s.l;
+    indices = a->question + a->question_bytes - INDEX_BYTES * a->s.l;
     for (uint32_t b = 0; b < a->s.l; b++)
         a->indices[b] = (uint32_t)(indices[2 * b] | indices[2 * b + 1] << 8);
     a->reply_bytes = a->proof_length - COUNTER_BYTES;
@@ -193,6 +202,8 @@ static struct written written_by(struct instance *a, enum operation operation)
         return (struct written){a->reply, &a->length, a->reply_bytes, 8};
     case LENGTH:
         return (struct written){a->reply, &a->length, 0, 8};
+    case PERMUTATIONS:
+        return (struct written){a->reply, &a->count, 0, 8};
     case PROVE:
     case PROVE_8:
     case PROVE_16:
@@ -306,7 +317,7 @@ static uint64_t permutations(const struct instance *a, enum operation operation)
 {
     const struct sizes *s = &a->s;
     uint64_t leaves = (uint64_t)1 << s->h;
-    uint64_t leaf = permutations_of(1 + SALT_BYTES + 2 + record_bytes(s));
+    uint64_t leaf = permutations_of(1 + SALT_BYTES + INDEX_BYTES + record_bytes(s));
     uint64_t node = permutations_of(1 + SALT_BYTES + 2 * DIGEST_BYTES);
 
     switch (operation) {

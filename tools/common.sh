@@ -91,10 +91,32 @@ count_inside() {
     echo "$counted"
 }
 
+# count_calls FUNCTION CALLED COMMAND [WORDS...]: how often CALLED is entered inside FUNCTION: how often callgrind sees its
+# first instruction there. The calls that callgrind counts would be those outside, too.
+count_calls() {
+    inside=$1
+    called=$2
+    shift 2
+    valgrind --tool=callgrind --callgrind-out-file="$build/calls" --toggle-collect="$inside" --dump-instr=yes \
+        --compress-strings=no --compress-pos=no "$@" > "$build/calls.log" 2>&1 ||
+        fail "$* failed under callgrind: see $build/calls.log"
+    grep -q "^fn=$inside\$" "$build/calls" || fail "callgrind saw no $inside"
+    awk -v called="$called" '
+        /^fn=/ { own = substr($0, 4) == called }
+        /^calls=/ { getline; next } # the cost of a callee
+        own && /^0x/ {
+            at = sprintf("%18s", $1)
+            if (first == "" || at < first) { first = at; count = 0 }
+            if (at == first) count += $3
+        }
+        END { print count + 0 }' "$build/calls"
+}
+
 # Sets given_archive, given_before, given_program, without_program, stand_in; the other words stay in `words`.
 given_archive=
 given_before=
 given_program=
+given_counts= # the program `counts`
 without_program=no
 stand_in=no
 words=
@@ -102,12 +124,13 @@ words=
 read_options() {
     while [ $# -gt 0 ]; do
         case $1 in
-            --archive | --before | --program)
+            --archive | --before | --program | --counts)
                 [ $# -gt 1 ] || fail "$1 needs a file"
                 case $1 in
                     --archive) given_archive=$2 ;;
                     --before) given_before=$2 ;;
                     --program) given_program=$2 ;;
+                    --counts) given_counts=$2 ;;
                 esac
                 shift
                 ;;

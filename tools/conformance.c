@@ -1,11 +1,12 @@
 /* Calls the entries of a linked archive for requests on standard input, one after the other.
  *
- * Request:  kind ('c' commit, 'l' reply_length, 'o' open, 'k' check, 'p' prove, 'q' check_proof, 'i' interpolate);
+ * Request:  kind ('c' commit, 'l' reply_length, 'n' permutations, 'o' open, 'k' check, 'p' prove, 'q' check_proof,
+ *           'i' interpolate);
  *           the 32-bit numbers that the entry takes (for 'c' seven sizes, for 'p' kappa and limit, for 'q' kappa);
- *           for 'l', 'o' and 'p' the 64-bit length as it stands before the call; then each slice in the entry's
- *           order: a 32-bit number of elements and the elements.
- * Answer:   the 32-bit number returned, the 64-bit length after the call (0 where it has none), 32-bit flags
- *           (below), the 32-bit number of calls made, then every slice as it stands after the call, the
+ *           for 'l', 'n', 'o' and 'p' the 64-bit length or count as it stands before the call; then each slice in
+ *           the entry's order: a 32-bit number of elements and the elements.
+ * Answer:   the 32-bit number returned, the 64-bit length or count after the call (0 where it has none), 32-bit
+ *           flags (below), the 32-bit number of calls made, then every slice as it stands after the call, the
  *           ones lent for reading too.
  *
  * All numbers are little-endian, as on the machines that the archive is for. Each request is called once
@@ -157,8 +158,8 @@ static void take_slice(size_t width)
 
 #define NUMBERS 7
 
-/* The entries: the kind of their requests, how many numbers they take, whether they write a length, how many slices
- * they take, and the bytes of an element in each. */
+/* The entries: the kind of their requests, how many numbers they take, whether they write a length or count, how many
+ * slices they take, and the bytes of an element in each. */
 static const struct entry {
     int kind;
     size_t numbers;
@@ -167,6 +168,7 @@ static const struct entry {
 } entries[] = {
     {'c', 7, 0, 8, {4, 4, 4, 4, 1, 1, 4, 1}},
     {'l', 0, 1, 1, {1}},
+    {'n', 0, 1, 1, {1}},
     {'o', 0, 1, 10, {1, 4, 4, 4, 4, 4, 1, 1, 1, 1}},
     {'k', 0, 0, 3, {1, 1, 1}},
     {'p', 2, 1, 10, {1, 4, 4, 4, 4, 4, 1, 1, 1, 1}},
@@ -190,6 +192,8 @@ static uint32_t call(int kind, const uint32_t n[NUMBERS], uint64_t *length)
                                 WORDS(2), WORDS(3), BYTES(4), BYTES(5), WORDS(6), BYTES(7));
     if (kind == 'l')
         return smallwood_reply_length(BYTES(0), length);
+    if (kind == 'n')
+        return smallwood_permutations(BYTES(0), length);
     if (kind == 'o')
         return smallwood_open(BYTES(0), WORDS(1), WORDS(2), WORDS(3), WORDS(4), WORDS(5), BYTES(6),
                               BYTES(7), BYTES(8), BYTES(9), length);

@@ -1,44 +1,48 @@
-"""Compares a compiled library and checking program with the second implementation in reference/.
+"""Compares a compiled library, checking program and program `counts` with the second implementation in reference/.
 
-    python3 conformance.py CALLER [--program PROGRAM] [--long N] [--seed S]
+    python3 conformance.py CALLER [--program PROGRAM] [--counts COUNTS] [--long N] [--seed S]
 
-CALLER is conformance.c linked with the archive, PROGRAM the compiled checking program. Without --long: every
-case of reference/cases.py and some drawn inputs. With --long N: N drawn inputs instead, and the checking
-program on every case. Numbers, every slice after the call, the bytes beside the slices and the program's
-whole output are compared. The last line is a summary; the exit status is 1 after a difference.
+CALLER is conformance.c linked with the archive, PROGRAM the compiled checking program, COUNTS the program that
+prints verdict and permutations of the check of each file that it is given. Without --long: every case of
+reference/cases.py and some drawn inputs. With --long N: N drawn inputs instead, and the programs on every case.
+Numbers, every slice after the call, the bytes beside the slices and the programs' whole output are compared.
+The last line is a summary; the exit status is 1 after a difference.
 """
 
 import argparse
 import struct
 import subprocess
 import sys
+import tempfile
 import time
 from collections import Counter
+from pathlib import Path
 
 import paths  # noqa: F401  (makes the modules below importable)
-from calls import CommitCall, LengthCall, OpenCall
+from calls import CommitCall, LengthCall, OpenCall, PermutationsCall
 from cases import (
-    CHECK_GROUPS, CheckCase, commit_calls, honest_cases, length_calls, open_calls, place_cases, program_borders,
-    program_case,
+    CHECK_GROUPS, CheckCase, commit_calls, honest_cases, length_calls, open_calls, permutations_calls, place_cases,
+    program_borders, program_case,
 )  # fmt: skip
 from drafts import case_p, large_drafts, small_drafts, small_proofs
 from drawn import BLOCK, drawn_inputs
 from interpolations import InterpolateCall, interpolate_calls
 from proofs import PROOF_GROUPS, ProofCase, ProveCall, honest_proofs, prove_calls
-from smallwood import to_bytes
+from smallwood import counts_line, to_bytes
 
 SHOWN = 10  # differences after which a run stops
 DRAWN = 1000  # drawn inputs of a run without --long
-EVERY = 12  # the program gets one of so many check cases without --long
-UNTOUCHED = 0x1122334455667788  # the length before a call that may write it
+EVERY = 12  # the programs get one of so many check cases without --long
+BATCH = 500  # files that the program `counts` gets at once
+UNTOUCHED = 0x1122334455667788  # the length or count before a call that may write it
 # As conformance.c has them.
 KINDS = {
-    "commit": b"c", "length": b"l", "open": b"o", "check": b"k", "prove": b"p", "proof": b"q", "interpolate": b"i",
+    "commit": b"c", "length": b"l", "permutations": b"n", "open": b"o", "check": b"k", "prove": b"p", "proof": b"q",
+    "interpolate": b"i",
 }  # fmt: skip
 FLAGS = {1: "bytes beside a slice changed", 2: "the outcome depends on where the slices stand"}
 
 COMMIT_SLICES = ("coefficients", "tails", "blinds", "masks", "nonces", "salt", "table", "tree")
-LENGTH_SLICES = ("question",)
 OPEN_SLICES = ("question", "coefficients", "tails", "blinds", "masks", "table", "nonces", "salt", "tree", "buffer")
 CHECK_SLICES = ("question", "reply", "buffer")
 PROOF_SLICES = ("question", "proof", "buffer")
@@ -76,12 +80,13 @@ def commit(label, sizes, slices, number, after):
 
 
 def written(length):
-    """The length after a call: a refusal, which has none, leaves what was there."""
+    """The length or count after a call: a refusal, which has none, leaves what was there."""
     return UNTOUCHED if length is None else length
 
 
-def reply_length(label, slices, number, length):
-    return Call(label, "length", struct.pack("<Q", UNTOUCHED), slices, number, written(length), {})
+def planned(label, entry, question, number, length):
+    """A call of one of the planners' entries: the reply's length, or the check's permutations."""
+    return Call(label, entry, struct.pack("<Q", UNTOUCHED), {"question": question}, number, written(length), {})
 
 
 def opened(label, slices, number, length, after):
@@ -124,8 +129,9 @@ def call_of(case):
         after = {"table": case.table_after, "tree": case.tree_after}
         return commit(case.label, case[1:8], slices, case.number, after)
     if isinstance(case, LengthCall):
-        slices = {name: getattr(case, name) for name in LENGTH_SLICES}
-        return reply_length(case.label, slices, case.number, case.length)
+        return planned(case.label, "length", case.question, case.number, case.length)
+    if isinstance(case, PermutationsCall):
+        return planned(case.label, "permutations", case.question, case.number, case.count)
     assert isinstance(case, OpenCall)
     slices = {name: getattr(case, name) for name in OPEN_SLICES}
     return opened(case.label, slices, case.number, case.length, {"buffer": case.buffer_after})
@@ -142,7 +148,8 @@ def empty_calls():
     yield commit("empty: commit, sizes 1 and beta 0", [1] * 6 + [0], empty(COMMIT_SLICES), 2, {})
     yield commit("empty: commit, sizes 0", [0] * 7, empty(COMMIT_SLICES), 1, {})
     yield commit("empty: commit, sizes 2^32 - 1", [2**32 - 1] * 7, empty(COMMIT_SLICES), 1, {})
-    yield reply_length("empty: length", empty(LENGTH_SLICES), 6, None)
+    for entry in ("length", "permutations"):
+        yield planned("empty: " + entry, entry, b"", 6, None)
     yield opened("empty: open", empty(OPEN_SLICES), 6, None, {})
     yield opened("empty: open, but the question", empty(OPEN_SLICES, question=question), 2, None, {})
     yield check("empty: check", empty(CHECK_SLICES), 6, {})
@@ -170,7 +177,7 @@ def call_groups(drawn, seed):
     yield "empty slices", empty_calls()
     quick = [group for group in CHECK_GROUPS if group not in (honest_cases, place_cases)]
     quick += [group for group in PROOF_GROUPS if group is not honest_proofs]
-    for group in quick + [interpolate_calls, length_calls, place_cases]:
+    for group in quick + [interpolate_calls, length_calls, permutations_calls, place_cases]:
         yield group.__name__, map(call_of, group())
     yield "drawn inputs", map(call_of, drawn_inputs(drawn, seed))
     for group in (commit_calls, open_calls, prove_calls, honest_proofs, honest_cases):
@@ -204,7 +211,7 @@ class Caller:
         if number != call.number:
             found.append("returned %d, expected %d" % (number, call.number))
         if length != call.length:
-            found.append("length is %d, expected %d" % (length, call.length))
+            found.append("length or count is %d, expected %d" % (length, call.length))
         found += [text for bit, text in FLAGS.items() if flags & bit]
         for name, before, wanted in zip(call.names, call.before, call.after):
             data = self.read(len(before))
@@ -273,13 +280,43 @@ def program_groups(checks, every):
     yield "in pieces", pieces, run_in_pieces
 
 
+# ---- The program `counts` ---------------------------------------------------------------------------
+
+
+def run_counts(path, inputs):
+    """Its run with these inputs as files."""
+    with tempfile.TemporaryDirectory() as folder:
+        for name, data in inputs.items():
+            (Path(folder) / name).write_bytes(data)
+        try:
+            done = subprocess.run([Path(path).resolve(), *inputs], cwd=folder, capture_output=True, timeout=60)
+        except (OSError, subprocess.TimeoutExpired) as error:
+            raise Broken("the program `counts` did not run: %s" % error)
+    if done.returncode != 0 or done.stderr:
+        raise Broken("the program `counts`: exit status %d, error %r" % (done.returncode, done.stderr[:80]))
+    return done.stdout
+
+
+def counts_differences(path, inputs):
+    """For each of these inputs what is different in the two lines about it."""
+    lines = run_counts(path, inputs).splitlines(keepends=True)
+    found = []
+    for n, (name, data) in enumerate(inputs.items()):
+        printed, wanted = b"".join(lines[2 * n : 2 * n + 2]), name.encode() + b"\n" + counts_line(data)
+        found.append([] if printed == wanted else ["printed %r, expected %r" % (printed[:80], wanted)])
+    if len(lines) > 2 * len(inputs):
+        found[-1].append("printed more lines")
+    return found
+
+
 # ---- The run ----------------------------------------------------------------------------------------
 
 
 class Run:
-    def __init__(self, caller, program=None, shown=SHOWN):
-        self.caller, self.program, self.shown = Caller(caller), program, shown
+    def __init__(self, caller, program=None, counts_program=None, shown=SHOWN):
+        self.caller, self.program, self.counts_program, self.shown = Caller(caller), program, counts_program, shown
         self.counts, self.numbers, self.failed = Counter(), Counter(), []
+        self.waiting = []  # labels and inputs for the program `counts`
 
     def fail(self, label, texts):
         self.failed.append(label)
@@ -305,26 +342,53 @@ class Run:
     def run_program(self, case, run):
         self.compare("program", case.label, lambda: program_differences(self.program, case, run))
 
+    def count_later(self, label, data):
+        """Gives the program `counts` this input, with others."""
+        if self.counts_program:
+            self.waiting.append((label, data))
+        if len(self.waiting) == BATCH:
+            self.count_waiting()
+
+    def count_waiting(self):
+        waiting, self.waiting = self.waiting, []
+        if not waiting:
+            return
+        found = []
+
+        def differences(n):
+            if not found:
+                inputs = {"%d" % n: data for n, (_, data) in enumerate(waiting)}
+                found.extend(counts_differences(self.counts_program, inputs))
+            return found[n]
+
+        for n, (label, _) in enumerate(waiting):
+            self.compare("counts", "counts: " + label, lambda: differences(n))
+
     def group(self, label, cases, act):
-        start, before = time.time(), sum(self.counts.values())
+        start, count = time.time(), 0
         for case in cases:
             act(case)
-        count = sum(self.counts.values()) - before
-        print("%-16s %7d in %6.1f s" % (label, count, time.time() - start), flush=True)
+            count += 1
+        print("%-18s %7d in %6.1f s" % (label, count, time.time() - start), flush=True)
 
     def everything(self, drawn, seed, every):
         checks = []
 
         def act(call):
             self.call(call)
-            if call.entry == "check" and not call.label.startswith("drawn"):
-                checks.append(call)
+            if call.entry == "check":
+                self.count_later(call.label, call.before[0] + call.before[1])
+                if not call.label.startswith("drawn"):
+                    checks.append(call)
 
         for label, calls in call_groups(drawn, seed):
             self.group(label, calls, act)
         if self.program:
             for label, cases, run in program_groups(checks, every):
                 self.group(label, cases, lambda case: self.run_program(case, run))
+        for case in program_borders():
+            self.count_later(case.label, case.input)
+        self.count_waiting()
 
     def finish(self, seconds):
         """The summary; whether all was equal."""
@@ -336,8 +400,10 @@ class Run:
         print("numbers expected: %s; entries called %d times, %d with NULL" % (numbers, *calls))
         if not self.program:
             print("no checking program was given: it is not compared")
-        kinds = "check", "commit", "length", "open", "prove", "proof", "interpolate", "program"
-        counts = ", ".join("%d %s" % (self.counts[kind], kind) for kind in kinds)
+        if not self.counts_program:
+            print("no program `counts` was given: the permutations that a check returns are not compared")
+        kinds = "check", "commit", "length", "permutations", "open", "prove", "proof", "interpolate"
+        counts = ", ".join("%d %s" % (self.counts[kind], kind) for kind in (*kinds, "program", "counts"))
         outcome = "%d DIFFERENT, first: %s" % (len(self.failed), self.failed[0]) if self.failed else "all equal"
         print("conformance: %s inputs in %.0f s: %s" % (counts, seconds, outcome), flush=True)
         return not self.failed
@@ -347,10 +413,11 @@ def main():
     parser = argparse.ArgumentParser(description=__doc__.split("\n")[0])
     parser.add_argument("caller", help="conformance.c linked with the archive")
     parser.add_argument("--program", help="the compiled checking program")
+    parser.add_argument("--counts", help="the compiled program `counts`")
     parser.add_argument("--long", type=int, metavar="N", help="N drawn inputs, and the program on every case")
     parser.add_argument("--seed", type=int, default=1, help="of the first %d drawn inputs (default 1)" % BLOCK)
     options = parser.parse_args()
-    start, run = time.time(), Run(options.caller, options.program)
+    start, run = time.time(), Run(options.caller, options.program, options.counts)
     try:
         run.everything(options.long or DRAWN, options.seed, 1 if options.long else EVERY)
     except Broken:

@@ -916,11 +916,105 @@ INTERPOLATION_FAULTS = tuple(
     )
 )  # fmt: skip
 
+COUNTED = "    *count = hashing_work(&q);"
+LEAVES = "s->l * permutations_of(leaf_size(s)) +"
+ABOVE = "count_above(s->h, &q->opened) * permutations_of(NODE_STRING)"
+
+
+def otherwise(condition, number, change, refused):
+    """Instead of a refusal with this number, that with `refused` where the changed question has it."""
+    return (
+        "    if (%s) {\n uint8_t other[512];\n memcpy(other, question, question_bytes);\n %s\n"
+        " if (number == %d && read_question(other, question_bytes, &q) == %d)\n return %d;\n }\n    if (number != 0)\n"
+        "        return number;\n" % (condition, change, number, refused, refused)
+    )
+
+
+# The same, of the entry for the check's permutations. No leaf's or node's string has a length that 136 divides: the
+# number of blocks, rounded up, is the same number, and no fault.
+PERMUTATIONS_FAULTS = tuple(
+    ("permutations: " + name, file, old, new)
+    for name, file, old, new in (
+        ("written after a refusal", "plain.c",
+         "        return number;\n" + COUNTED, "        return *count = 0, number;\n" + COUNTED),
+        ("written after 4", "plain.c",
+         "        return number;\n" + COUNTED,
+         "        return *count = number == 4 ? hashing_work(&q) : *count, number;\n" + COUNTED),
+        ("not written", "plain.c", COUNTED, ""),
+        ("only 32 bits are written", "plain.c", COUNTED, "    *(uint32_t *)count = (uint32_t)hashing_work(&q);"),
+        ("a byte read behind the question", "plain.c",
+         COUNTED, "    (void)*(const volatile uint8_t *)(question + question_bytes);\n" + COUNTED),
+        ("the lent question changes", "plain.c", COUNTED, "    ((uint8_t *)(uintptr_t)question)[20] ^= 1;\n" + COUNTED),
+        ("remembers the last header", "plain.c",
+         COUNTED, "    static uint8_t last[15];\n static uint64_t kept;\n if (memcmp(last, question, 15))\n"
+         " kept = hashing_work(&q);\n memcpy(last, question, 15);\n *count = kept;"),
+        ("3 for bad indices", "plain.c",
+         "        return number;\n" + COUNTED, "        return number == 4 ? 3 : number;\n" + COUNTED),
+        ("bad indices are taken", "plain.c",
+         "    if (number != 0)\n        return number;\n" + COUNTED,
+         "    if (number != 0 && number != 4)\n        return number;\n" + COUNTED),
+        ("sizes before mark", "plain.c",
+         "    if (number != 0)\n        return number;\n" + COUNTED,
+         otherwise("question_bytes >= 15 && question_bytes < 512", 5, 'memcpy(other, "SWQ\\3", 5);', 1) + COUNTED),
+        ("length before sizes", "plain.c",
+         "    if (number != 0)\n        return number;\n" + COUNTED,
+         "    if (number == 1 && question_bytes < NAMING_BYTES)\n return 6;\n    if (number != 0)\n"
+         "        return number;\n" + COUNTED),
+        ("elements before length", "plain.c",
+         "    if (number != 0)\n        return number;\n" + COUNTED,
+         "    uint32_t words[16] = {0};\n"
+         " if (number == 6 && question_bytes > NAMING_BYTES && question_bytes < NAMING_BYTES + sizeof words)\n"
+         " memcpy(words, question + NAMING_BYTES, question_bytes - NAMING_BYTES);\n"
+         " if (number == 6 && !are_elements(words, 16))\n return 3;\n"
+         "    if (number != 0)\n        return number;\n" + COUNTED),
+        ("indices before elements", "plain.c",
+         "    if (number != 0)\n        return number;\n" + COUNTED,
+         otherwise("question_bytes >= NAMING_BYTES && question_bytes < 512", 3,
+                   "if (number == 3)\n memset(other + NAMING_BYTES, 0, 4 * (q.sizes.eta + q.sizes.m));", 4) + COUNTED),
+        ("the bound", "question.h", LEAVES + " " + ABOVE, "s->l * (3 + s->h)"),
+        ("one for each leaf", "question.h", LEAVES, "s->l +"),
+        ("two for each leaf", "question.h", LEAVES, "2 * s->l +"),
+        ("no leaves", "question.h", LEAVES, ""),
+        ("the last leaf is left out", "question.h", LEAVES, "(s->l - 1) * permutations_of(leaf_size(s)) +"),
+        ("one leaf alone", "question.h", LEAVES, "permutations_of(leaf_size(s)) +"),
+        ("leaf strings as one string", "question.h", LEAVES, "permutations_of(s->l * leaf_size(s)) +"),
+        ("leaf strings a value longer", "question.h", LEAVES, "s->l * permutations_of(leaf_size(s) + 4) +"),
+        ("leaf strings a value shorter", "question.h", LEAVES, "s->l * permutations_of(leaf_size(s) - 4) +"),
+        ("leaf strings without salt", "question.h", LEAVES, "s->l * permutations_of(leaf_size(s) - SALT_BYTES) +"),
+        ("leaf strings without nonce", "question.h", LEAVES, "s->l * permutations_of(leaf_size(s) - NONCE_BYTES) +"),
+        ("leaf strings without masks", "question.h", LEAVES, "s->l * permutations_of(leaf_size(s) - 4 * s->eta) +"),
+        ("leaf strings without blinding rows", "question.h",
+         LEAVES, "s->l * permutations_of(leaf_size(s) - 4 * s->beta) +"),
+        ("leaf strings by their values alone", "question.h", LEAVES, "s->l * permutations_of(4 * s->record) +"),
+        ("leaf strings in blocks of 168 bytes", "question.h", LEAVES, "s->l * (leaf_size(s) / 168 + 1) +"),
+        ("leaf strings without the last block", "question.h", LEAVES, "s->l * (leaf_size(s) / 136) +"),
+        ("leaf strings of two blocks at most", "question.h",
+         LEAVES, "s->l * (permutations_of(leaf_size(s)) > 1 ? 2 : 1) +"),
+        ("no nodes", "question.h", LEAVES + " " + ABOVE, "s->l * permutations_of(leaf_size(s))"),
+        ("the root is left out", "question.h", ABOVE, "count_above(s->h, &q->opened) - 1"),
+        ("the root is counted for every leaf", "question.h", ABOVE, "count_above(s->h, &q->opened) + s->l - 1"),
+        ("a node above two leaves counted for each", "question.h", ABOVE, "s->l * s->h"),
+        ("a node above two neighbours counted twice", "question.h",
+         ABOVE, "count_above(s->h, &q->opened) + (s->l > 1 && (q->opened.indices[0] ^ q->opened.indices[1]) == 1)"),
+        ("a node above the last two neighbours counted twice", "question.h",
+         ABOVE, "count_above(s->h, &q->opened) +\n"
+         "(s->l > 2 && (q->opened.indices[s->l - 1] ^ q->opened.indices[s->l - 2]) == 1)"),
+        ("nodes above the first and last leaf alone", "question.h",
+         ABOVE, "s->h + (s->l > 1 ? highest_bit(q->opened.indices[0] ^ q->opened.indices[s->l - 1]) : 0)"),
+        ("missing nodes for those above", "question.h", ABOVE, "count_missing(s->h, &q->opened)"),
+        ("missing nodes too", "question.h",
+         ABOVE, "count_above(s->h, &q->opened) + count_missing(s->h, &q->opened)"),
+        ("two for each node", "question.h", ABOVE, "2 * count_above(s->h, &q->opened)"),
+        ("nodes as long as leaves", "question.h", ABOVE, "count_above(s->h, &q->opened) * permutations_of(leaf_size(s))"),
+    )
+)  # fmt: skip
+
 
 def grouped():
     """name: its edits."""
     faults = {"none": []}
-    for name, file, old, new in FAULTS + PROOF_FAULTS + BLINDING_FAULTS + SALT_FAULTS + INTERPOLATION_FAULTS:
+    others = PROOF_FAULTS + BLINDING_FAULTS + SALT_FAULTS + INTERPOLATION_FAULTS + PERMUTATIONS_FAULTS
+    for name, file, old, new in FAULTS + others:
         faults.setdefault(name, []).append((file, old, new))
     return faults
 

@@ -6,8 +6,8 @@ The second implementation alone tells the expected outcomes. A block of inputs d
 import paths  # noqa: F401  (makes the modules below importable)
 import smallwood as S
 from calls import (
-    COMMIT_SIZES, SALT_LENGTHS, CommitCall, LengthCall, OpenCall, commit_label, exchanged_salt, off_by, salt_of,
-    version_1, version_2, with_word,
+    COMMIT_SIZES, SALT_LENGTHS, CommitCall, LengthCall, OpenCall, PermutationsCall, commit_label, exchanged_salt,
+    off_by, salt_of, version_1, version_2, with_word,
 )  # fmt: skip
 from cases import check_case
 from drafts import (
@@ -374,16 +374,23 @@ class Pool:
         label = "drawn %d.%d: %s [%s]" % (self.seed, self.count, shown(faults), name(d.sizes))
         return check_case(label, question, reply, None, None, size)
 
-    def length_call(self):
-        """A call of the reply's length, for a question of any sizes with none, one or two faults."""
+    def planners_question(self, what):
+        """Label and bytes of a question of any sizes, with none, one or two faults."""
         self.next()
         src = self.src
         s = src.sizes(12, 64, 320)
         q = drawn_question(src, s, src.bytes(32), src.bytes(32), challenges=src.edgy(s.eta), points=src.edgy(s.m))
         faults = [src.pick(QUESTION_FAULTS) for _ in range(src.pick((0, 0, 1, 1, 2)))]
         question = with_faults(src, Draft(q, Reply([], [], [], [])), faults)[0]
-        label = "drawn %d.%d: length, %s [%s]" % (self.seed, self.count, shown(faults), name(s))
+        return "drawn %d.%d: %s, %s [%s]" % (self.seed, self.count, what, shown(faults), name(s)), question
+
+    def length_call(self):
+        label, question = self.planners_question("length")
         return LengthCall(label, question, *S.reply_length(question))
+
+    def permutations_call(self):
+        label, question = self.planners_question("permutations")
+        return PermutationsCall(label, question, *S.permutations(question))
 
     def proof_draft(self):
         """A proof to be: of the small commitments mostly."""
@@ -542,11 +549,12 @@ class Pool:
 
 def drawn_inputs(count, seed=1):
     """This many inputs, mostly of the checks: of 50, fifteen are proofs, one calls the committer, one the opener, one
-    the prover, four reply_length, four the interpolation."""
+    the prover, four reply_length, four permutations, four the interpolation."""
     pool = None
     others = {n: Pool.proof_case for n in range(0, 48, 3)}
     others.update({49: Pool.commit_call, 24: Pool.open_call, 34: Pool.prove_call})
     others.update(dict.fromkeys((10, 19, 29, 40), Pool.length_call))
+    others.update(dict.fromkeys((7, 22, 37, 46), Pool.permutations_call))
     others.update(dict.fromkeys((5, 17, 31, 43), Pool.interpolate_call))
     for n in range(count):
         if n % BLOCK == 0:

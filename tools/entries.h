@@ -1,7 +1,8 @@
 /* The entries of the library for C, declared under any prefix:
  *
- *     ENTRIES(smallwood)      declares smallwood_commit, smallwood_reply_length, smallwood_open, smallwood_check,
- *                             smallwood_prove, smallwood_check_proof and smallwood_interpolate
+ *     ENTRIES(smallwood)      declares smallwood_commit, smallwood_reply_length, smallwood_permutations,
+ *                             smallwood_open, smallwood_check, smallwood_prove, smallwood_check_proof and
+ *                             smallwood_interpolate
  *
  * A slice is a pointer and its number of elements. Each entry returns the verdict's number. */
 #ifndef ENTRIES_H
@@ -20,6 +21,8 @@
                              size_t table_count, uint8_t *tree, size_t tree_bytes);                \
     uint32_t prefix##_reply_length(const uint8_t *question, size_t question_bytes,                 \
                                    uint64_t *length);                                              \
+    uint32_t prefix##_permutations(const uint8_t *question, size_t question_bytes,                 \
+                                   uint64_t *count);                                               \
     uint32_t prefix##_open(const uint8_t *question, size_t question_bytes,                         \
                            const uint32_t *coefficients, size_t coefficient_count,                 \
                            const uint32_t *tails, size_t tail_count, const uint32_t *blinds,       \

@@ -106,7 +106,7 @@ void set_points(struct instance *a, uint32_t m)
     struct sizes *s = &a->s;
 
     s->m = m;
-    a->question_bytes = NAMING_BYTES + 4 * (s->eta + m) + 2 * s->l;
+    a->question_bytes = NAMING_BYTES + 4 * (s->eta + m) + INDEX_BYTES * s->l;
     a->value_bytes = 4 * (size_t)s->w * m;
     a->proof_question_bytes = NAMING_BYTES + 4 * m;
     a->proof_bytes = COUNTER_BYTES + reply_with(s, (size_t)s->l * s->h);
@@ -201,6 +201,22 @@ void renew_older(struct instance *a)
     put_older(a->older_proof_question, root, a->proof_question, a->proof_question_bytes);
 }
 
+/* After the question's leaves are chosen. */
+static void end_question(struct instance *a)
+{
+    const struct sizes *s = &a->s;
+    uint8_t *to = a->question + a->question_bytes - INDEX_BYTES * s->l;
+
+    for (uint32_t b = 0; b < s->l; b++)
+        to = put(to, a->indices[b], INDEX_BYTES);
+    memcpy(a->proof_question, a->question, NAMING_BYTES);
+    memcpy(a->proof_question + NAMING_BYTES, a->question + NAMING_BYTES + 4 * s->eta, 4 * s->m);
+    renew_older(a);
+    /* Of the 2 n children of the n nodes above the opened leaves, l are these leaves and n - 1 such nodes;
+     * the others are missing. */
+    a->reply_bytes = reply_with(s, nodes_above(a) + 1 - s->l);
+}
+
 void ask(struct instance *a)
 {
     const struct sizes *s = &a->s;
@@ -223,16 +239,17 @@ void ask(struct instance *a)
     }
     /* Each set of l leaves is as likely as any other. */
     for (uint32_t i = 0; taken < s->l; i++)
-        if (draw_below(leaves - i) < s->l - taken) {
+        if (draw_below(leaves - i) < s->l - taken)
             a->indices[taken++] = i;
-            to = put(to, i, 2);
-        }
-    memcpy(a->proof_question, a->question, NAMING_BYTES);
-    memcpy(a->proof_question + NAMING_BYTES, a->question + NAMING_BYTES + 4 * s->eta, 4 * s->m);
-    renew_older(a);
-    /* Of the 2 n children of the n nodes above the opened leaves, l are these leaves and n - 1 such nodes;
-     * the others are missing. */
-    a->reply_bytes = reply_with(s, nodes_above(a) + 1 - s->l);
+    end_question(a);
+}
+
+void ask_leaves(struct instance *a, uint32_t first, uint32_t step)
+{
+    ask(a);
+    for (uint32_t b = 0; b < a->s.l; b++)
+        a->indices[b] = first + b * step;
+    end_question(a);
 }
 
 /* What several entries are lent, one after the other. */
@@ -264,6 +281,11 @@ uint32_t reply_length_with(const struct implementation *with, struct instance *a
     if (with->older)
         return with->reply_length(OLDER_QUESTION, &a->length);
     return with->reply_length(QUESTION, &a->length);
+}
+
+uint32_t permutations_with(const struct implementation *with, struct instance *a)
+{
+    return with->permutations(QUESTION, &a->count);
 }
 
 uint32_t open_with(const struct implementation *with, struct instance *a)

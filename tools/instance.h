@@ -1,4 +1,4 @@
-/* Drawn inputs of all entries for given sizes, for soak.c and bench.c. */
+/* Drawn inputs of all entries for given sizes, for soak.c, bench.c and permutations.c. */
 #ifndef INSTANCE_H
 #define INSTANCE_H
 
@@ -11,6 +11,7 @@
 #define SALT_BYTES 32
 #define NONCE_BYTES 32
 #define COUNTER_BYTES 4 /* of a proof */
+#define INDEX_BYTES 2   /* of a leaf */
 #define NAMING_BYTES (HEADER_BYTES + ROOT_BYTES + SALT_BYTES) /* header, root and salt: every question's start */
 
 struct sizes {
@@ -26,6 +27,7 @@ struct instance {
     uint32_t *coefficients, *tails, *blinds, *masks, *table;
     uint8_t *nonces, *salt, *tree, *question, *reply, *values;
     uint64_t length; /* of the reply, as an entry wrote it */
+    uint64_t count;  /* of a check's permutations, as an entry wrote it */
     size_t proof_question_bytes, proof_bytes; /* the latter of the buffer */
     uint8_t *proof_question, *proof;
     uint64_t proof_length; /* as an entry wrote it */
@@ -36,7 +38,7 @@ struct instance {
     uint64_t older_proof_length;
 };
 
-/* The entries under one name. With `older` commit, open and prove are those of older.h. */
+/* The entries under one name. With `older` commit, open and prove are those of older.h, and there is no `permutations`. */
 struct implementation {
     const char *name;
     uint32_t (*commit)(uint32_t, uint32_t, uint32_t, uint32_t, uint32_t, uint32_t, uint32_t,
@@ -44,6 +46,7 @@ struct implementation {
                        const uint32_t *, size_t, const uint8_t *, size_t, const uint8_t *, size_t,
                        uint32_t *, size_t, uint8_t *, size_t);
     uint32_t (*reply_length)(const uint8_t *, size_t, uint64_t *);
+    uint32_t (*permutations)(const uint8_t *, size_t, uint64_t *);
     uint32_t (*open)(const uint8_t *, size_t, const uint32_t *, size_t, const uint32_t *, size_t,
                      const uint32_t *, size_t, const uint32_t *, size_t, const uint32_t *, size_t,
                      const uint8_t *, size_t, const uint8_t *, size_t, const uint8_t *, size_t,
@@ -58,8 +61,8 @@ struct implementation {
 };
 
 #define IMPLEMENTATION(prefix)                                                                     \
-    {#prefix,       prefix##_commit, prefix##_reply_length, prefix##_open, prefix##_check,        \
-     prefix##_prove, prefix##_check_proof, 0}
+    {#prefix, prefix##_commit, prefix##_reply_length, prefix##_permutations, prefix##_open,        \
+     prefix##_check, prefix##_prove, prefix##_check_proof, 0}
 
 /* Ends the program with a message. */
 void fail(const char *message) __attribute__((noreturn));
@@ -81,6 +84,9 @@ void set_points(struct instance *a, uint32_t m);
 /* Draws a question to the commitment that the tree has, and a proof's question with the same points. */
 void ask(struct instance *a);
 
+/* The same with the leaves first, first + step, and so on. */
+void ask_leaves(struct instance *a, uint32_t first, uint32_t step);
+
 /* Makes the older questions those that the others are now, about the older tree's root. */
 void renew_older(struct instance *a);
 
@@ -101,6 +107,7 @@ size_t record_bytes(const struct sizes *s);
 
 uint32_t commit_with(const struct implementation *with, struct instance *a);
 uint32_t reply_length_with(const struct implementation *with, struct instance *a);
+uint32_t permutations_with(const struct implementation *with, struct instance *a);
 uint32_t open_with(const struct implementation *with, struct instance *a);
 uint32_t check_with(const struct implementation *with, struct instance *a);
 

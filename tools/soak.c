@@ -2,8 +2,9 @@
  *
  * FILE has inputs of the check, of the check of a proof and of the interpolation with their expected outcomes
  * (soak_inputs.py). They are called in drawn order. In between, questions are drawn for commitments made at the
- * start: the reply's length must be the counted one, the opener's reply must be accepted with the polynomials'
- * values, and the same reply with one bit changed must be refused with the number that the bit's place tells.
+ * start: the reply's length and the check's permutations must be the counted ones, the opener's reply must be
+ * accepted with the polynomials' values, and the same reply with one bit changed must be refused with the number
+ * that the bit's place tells.
  * Then a proof is made for the same points: it must be accepted with the same values, as it is and as a reply in
  * the conversation, with one bit changed behind its answers it must be refused, and with its counter for a limit
  * the prover must find none. With one bit of the salt changed, lent or in the question, opener and prover must
@@ -21,6 +22,7 @@
 
 #include "instance.h"
 #include "plain/converse.h"
+#include "plain/shake.h"
 
 ENTRIES(smallwood);
 
@@ -377,6 +379,27 @@ static void expect_length(const char *what, size_t which, const struct instance 
     }
 }
 
+/* The permutations by the strings' lengths: of a leaf its first byte, salt, index, values and nonce. A question without
+ * its last byte is refused, and the count stays. */
+static void expect_permutations(size_t which, const struct instance *a)
+{
+    uint64_t leaf = permutations_of(1 + SALT_BYTES + 2 + record_bytes(&a->s));
+    uint64_t node = permutations_of(1 + SALT_BYTES + 2 * DIGEST_BYTES);
+    uint64_t work = a->s.l * leaf + nodes_above(a) * node, count = 0;
+    uint32_t number = smallwood_permutations(a->question, a->question_bytes, &count);
+
+    if (number != 0)
+        differ("permutations, commitment", which, number, 0);
+    number = smallwood_permutations(a->question, a->question_bytes - 1, &count);
+    if (number != 6)
+        differ("permutations of a shorter question, commitment", which, number, 6);
+    if (count != work) {
+        printf("soak: DIFFERENT: permutations, commitment %zu: %" PRIu64 ", expected %" PRIu64 "\n", which, count,
+               work);
+        exit(1);
+    }
+}
+
 static uint32_t check_instance(const struct instance *a, const uint8_t *before, size_t value_bytes)
 {
     struct checked c = {0, 0, a->question, a->question_bytes, a->reply, a->length};
@@ -554,6 +577,7 @@ static void check_fresh(size_t which)
     if (number != 0)
         differ("reply length, commitment", which, number, 0);
     expect_length("reply length, commitment", which, a);
+    expect_permutations(which, a);
     open_other_salt(which);
     number = open_with(&library, a);
     opened++;

@@ -301,27 +301,28 @@ def files():
     yield "crates/cases/stdout", b"".join(text for _, _, text in stored)
 
 
-def differing(stored):
+def differing(stored, folder):
     """Paths whose contents are not the ones made here, and stored inputs that are not made here."""
     for path, data in stored.items():
         if not (ROOT / path).is_file() or (ROOT / path).read_bytes() != data:
             yield path
-    for path in sorted((ROOT / "crates/cases/data").glob("*")):
+    for path in sorted((ROOT / folder).glob("*")):
         if str(path.relative_to(ROOT)) not in stored:
             yield str(path.relative_to(ROOT))
 
 
-def main():
-    stored = dict(files())
+def compare_or_write(files, folder, usage):
+    """With --check compares the files with what is stored, else writes them; the folder has no others."""
+    stored = dict(files)
     if sys.argv[1:] == ["--check"]:
-        wrong = list(differing(stored))
+        wrong = list(differing(stored, folder))
         for path in wrong:
             print("not what the second implementation gives:", path)
         print("%d stored files, %d differ" % (len(stored), len(wrong)))
         sys.exit(1 if wrong else 0)
     if sys.argv[1:]:
-        sys.exit(__doc__)
-    for path in differing(stored):
+        sys.exit(usage)
+    for path in differing(stored, folder):
         (ROOT / path).unlink(missing_ok=True)
     for path, data in stored.items():
         (ROOT / path).parent.mkdir(parents=True, exist_ok=True)
@@ -330,4 +331,4 @@ def main():
 
 
 if __name__ == "__main__":
-    main()
+    compare_or_write(files(), "crates/cases/data", __doc__)

@@ -47,7 +47,7 @@ static inline bool root_holds(const struct question *q, const struct reply *r)
     uint8_t strings[MAX_LEAF_STRING * MAX_OPENED], *end = strings;
     uint8_t digests[MAX_OPENED][DIGEST_BYTES];
     const uint8_t *record = r->records;
-    size_t length = LEAF_PREFIX + record_size(s);
+    size_t length = leaf_size(s);
 
     put_salts(strings, length, s->l, LEAF_MARK, q->salt);
     for (uint32_t b = 0; b < s->l; b++, record += record_size(s))

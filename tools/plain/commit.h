@@ -78,7 +78,7 @@ static inline void hash_leaves(const struct sizes *s, const uint32_t *table, con
                                const uint8_t *salt, uint8_t *digests)
 {
     uint8_t strings[2 * MAX_LEAF_STRING], *second;
-    size_t length = LEAF_PREFIX + record_size(s);
+    size_t length = leaf_size(s);
 
     put_salts(strings, length, 2, LEAF_MARK, salt);
     for (uint32_t i = 0; i < s->leaves; i += 2) {

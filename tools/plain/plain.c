@@ -20,3 +20,14 @@ uint32_t PLAIN(reply_length)(const uint8_t *question, size_t question_bytes, uin
     *length = exact_size(&q);
     return 0;
 }
+
+uint32_t PLAIN(permutations)(const uint8_t *question, size_t question_bytes, uint64_t *count)
+{
+    struct question q;
+    uint32_t number = read_question(question, question_bytes, &q);
+
+    if (number != 0)
+        return number;
+    *count = hashing_work(&q);
+    return 0;
+}

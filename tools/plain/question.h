@@ -1,4 +1,4 @@
-/* A question as it is read, and the length of its reply. */
+/* A question as it is read, the length of its reply, and the work of checking it. */
 #ifndef QUESTION_H
 #define QUESTION_H
 
@@ -95,6 +95,14 @@ static inline uint32_t read_proof_question(const uint8_t *bytes, size_t length, 
     read_commitment(bytes, q);
     load_words(q->points, bytes + NAMING_BYTES, s->m);
     return are_elements(q->points, s->m) ? 0 : 3;
+}
+
+/* The permutations of Keccak in a check that comes to hash: of the opened leaves and of the nodes above them. */
+static inline uint64_t hashing_work(const struct question *q)
+{
+    const struct sizes *s = &q->sizes;
+
+    return s->l * permutations_of(leaf_size(s)) + count_above(s->h, &q->opened) * permutations_of(NODE_STRING);
 }
 
 /* The length of the reply to a question. */

@@ -17,6 +17,12 @@
 #define MAX_LEAF_STRING (LEAF_PREFIX + 4 * (MAX_ROWS + MAX_REPETITIONS) + NONCE_BYTES)
 #define NODE_STRING (SALTED_PREFIX + 2 * DIGEST_BYTES)
 
+/* Of the string of a leaf. */
+static inline size_t leaf_size(const struct sizes *s)
+{
+    return LEAF_PREFIX + record_size(s);
+}
+
 #ifdef PLAIN_OPENSSL
 #define ONE_DIGEST evp_digest
 #else
@@ -96,15 +102,21 @@ static inline uint32_t highest_bit(uint32_t x)
     return 31 - (uint32_t)__builtin_clz(x);
 }
 
-/* Level by level, nodes and missing ones together are twice the nodes above. Above the leaves, the nodes of
- * leaf b are new up to the highest bit in which it differs from leaf b - 1; those of leaf 0 all are. */
-static inline size_t count_missing(uint32_t h, const struct level *opened)
+/* The nodes above the opened leaves, each once. Those of leaf b are new up to the highest bit in which it differs
+ * from leaf b - 1; those of leaf 0 all are. */
+static inline size_t count_above(uint32_t h, const struct level *opened)
 {
-    size_t missing = h;
+    size_t above = h;
 
     for (uint32_t b = 1; b < opened->count; b++)
-        missing += highest_bit(opened->indices[b] ^ opened->indices[b - 1]);
-    return missing - (opened->count - 1);
+        above += highest_bit(opened->indices[b] ^ opened->indices[b - 1]);
+    return above;
+}
+
+/* Level by level, nodes and missing ones together are twice the nodes above. */
+static inline size_t count_missing(uint32_t h, const struct level *opened)
+{
+    return count_above(h, opened) - (opened->count - 1);
 }
 
 static inline void begin_walk(struct level *level, const struct level *opened)
