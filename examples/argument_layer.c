@@ -1,10 +1,10 @@
 /*
- * Both sides of a commitment, in C. A badge commits to two polynomials; a reader asks for their values at two points and checks the
- * reply; then it is shown what a forger can do and what is refused. Each result is checked, and the program exits with 1 at the
- * first that is not as it should be.
+ * Both sides of a commitment, in C. A badge commits to two polynomials; a reader asks for their values at two points, learns what the
+ * check will cost, and checks the reply; then it is shown what a forger can do and what is refused. Each result is checked, and the
+ * program exits with 1 at the first that is not as it should be.
  *
- * All randomness is the system's (getrandom, Linux), so values and the reply's length change from run to run. Every check holds for
- * every draw, but for a collision of SHAKE256 where a root must differ.
+ * All randomness is the system's (getrandom, Linux), so values, the reply's length and the cost change from run to run. Every check holds
+ * for every draw, but for a collision of SHAKE256 where a root must differ.
  *
  *     gcc -std=c11 -Wall -Wextra -Wpedantic -Werror -Iinclude examples/argument_layer.c target/staticlib/libsmallwood.a
  */
@@ -320,6 +320,17 @@ static uint32_t evaluate(const uint32_t *coefficients, size_t count, uint32_t z)
     return (uint32_t)value;
 }
 
+/* The strings that a check hashes: those of the opened leaves, and of each node above one. At these sizes each takes one permutation. */
+static uint64_t strings_hashed(const uint32_t *indices)
+{
+    uint64_t strings = L;
+
+    for (int level = 1; level <= H; level++)
+        for (int a = 0; a < L; a++)
+            strings += a == 0 || indices[a] >> level != indices[a - 1] >> level;
+    return strings;
+}
+
 static void add_to_word(uint8_t *word, uint64_t x)
 {
     put_word(word, (uint32_t)((word_at(word) + x) % SMALLWOOD_Q));
@@ -341,7 +352,7 @@ int main(void)
     static uint8_t longer[REPLY_BOUND];
     uint8_t *reply, *forged;
     size_t size = 0;
-    uint64_t length = 0;
+    uint64_t length = 0, permutations = 0;
 
     memset(untouched, 0xAA, VALUES);
 
@@ -358,8 +369,14 @@ int main(void)
     expect(reply != NULL, "the badge opens the leaves");
     printf("question of %d bytes, reply of %zu bytes\n", QUESTION, size);
 
-    /* The reader checks, and reads the values point by point. */
+    /* The reader knows what the check will hash as soon as it has drawn the leaves, whatever the reply says. */
     write_question(reader_question, &reader_commitment, &reader_asked);
+    expect(smallwood_permutations(reader_question, QUESTION, &permutations) == 0, "the reader learns the work of its check");
+    printf("the check will run %llu permutations of Keccak\n", (unsigned long long)permutations);
+    expect(permutations == strings_hashed(reader_asked.indices), "they are those of the opened leaves and of the nodes above");
+    expect(permutations <= L * (3 + H), "and not above the bound");
+
+    /* The reader checks, and reads the values point by point. */
     expect(reader_got_before(reply), "the reply has the answers that came before");
     expect(reader_checks(reply, size) == 0, "the reply is accepted");
     for (int p = 0; p < M; p++)
@@ -415,6 +432,8 @@ int main(void)
     expect(size < REPLY_BOUND, "this reply is shorter than the bound");
     expect(badge_open(reader_question, longer, REPLY_BOUND, &length) == 2 && length == 0, "a longer buffer is refused with 2, and the length is as it was");
     expect(smallwood_reply_length(reader_question, QUESTION - 1, &length) == 6 && length == 0, "a cut question is refused with 6, and the length is as it was");
+    permutations = 0;
+    expect(smallwood_permutations(reader_question, QUESTION - 1, &permutations) == 6 && permutations == 0, "so it is where the work of a check is asked, and the count is as it was");
     expect(badge_commit(L, SALT - 1) == 2, "a salt that is not of 32 bytes is refused with 2");
     expect(badge_commit(N, SALT) == 1, "sizes that do not fit are refused with 1");
     expect(reader_checks(reply, size) == 0, "the honest reply is accepted again");

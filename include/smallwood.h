@@ -1,7 +1,8 @@
 /*
  * SmallWood: a polynomial commitment over the field of q = 4294967291 elements.
  *
- * Seven entries: commit, reply_length, open, check; without a conversation prove, check_proof; and apart from commitments interpolate.
+ * Eight entries: commit, open, check; for planners reply_length, permutations; without a conversation prove, check_proof; and apart from
+ * commitments interpolate.
  * Each is proved to return the number and to leave the contents that the definitions give, for every input that keeps the rules below.
  * Link with libsmallwood.a (x86-64, ELF, System V calls); it needs memcpy and memset.
  *
@@ -65,7 +66,7 @@
  * What a call returns
  *
  *   0 where none of the tests below holds, and then the slices are filled. Otherwise the number of the first test that holds, and then
- *   every slice, and *length, is as it was: all tests come before the first write.
+ *   every slice, and *length and *count, is as it was: all tests come before the first write.
  *
  *    1   a size is outside its range, or w nu + l > N, or beta > mu, or mu + beta > 64, or kappa is above 16; or there are no points to
  *        interpolate over, or more than 320
@@ -169,6 +170,19 @@ uint32_t smallwood_commit(uint32_t h, uint32_t mu, uint32_t nu, uint32_t w, uint
  * Returns 0, or the first of: 6, for under 15 bytes; 5; 1; 6, for another length than the header's; 3; 4.
  */
 uint32_t smallwood_reply_length(const uint8_t *question, size_t question_length, uint64_t *length);
+
+/*
+ * Gives the work of a question's check in permutations of Keccak, before there is a reply and from the question alone.
+ *
+ *   Fills
+ *     count          what a smallwood_check runs that comes to hash: on 0, 8, 9 and 10 alike. With every other number it runs none
+ *
+ * Each opened leaf takes 1, 2 or 3: for mu + beta + eta up to 17, up to 51, above. Each node above an opened leaf takes 1, once, the root too.
+ * So it is never more than l (3 + h). A smallwood_check_proof hashes for its draws besides.
+ *
+ * Returns 0, or the same numbers in the same order as smallwood_reply_length.
+ */
+uint32_t smallwood_permutations(const uint8_t *question, size_t question_length, uint64_t *count);
 
 /*
  * Opens a commitment: writes the reply to a question, from what was lent to smallwood_commit and what it left in table and tree.
