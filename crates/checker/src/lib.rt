@@ -54,7 +54,7 @@ fn asked_verdict(question: &[u8], s: Shape, m: u32, reply: &[u8]) -> Checked
 }
 
 // The number of a value buffer of another length.
-const WRONG_BUFFER: u32 = 2;
+pub const WRONG_BUFFER: u32 = 2;
 
 // The value buffer's test, 2, and the reply's; the values once none of them holds.
 pub fn check_reply(question: &[u8], s: Shape, m: u32, reply: &[u8], values: &mut [u32]) -> Checked

@@ -18,6 +18,7 @@ use Rattle.lists.specs.Pieces.{length-pieces, pieces-sized}
 use Rattle.lists.specs.Range.{upFrom, upFrom-below, length-upFrom}
 use Rattle.lists.specs.Tests.{Test, pass, passed-by}
 use Rattle.lists.specs.Total.{total-append, total-same}
+use Rattle.tree.specs.Ancestors.{nodesAbove}
 use Rattle.tree.specs.Leaf.{leafString}
 use Rattle.tree.specs.Sets.{Node, mem}
 use Rattle.tree.specs.Tree.{hashed, nodeString}
@@ -173,6 +174,11 @@ counted-is question reply values v n out e f =
     ap (λ (k : ℕ). (v, k, out)) (f ∙ sym c) ∙ ap (λ (z : ℕ × List ℕ). (z .0, checkWork u (readReply u reply) (z .0), z .1)) e
 
 -- ---- what is claimed
+
+-- sizes and indices alone decide it
+pub same-work : (u v : Question) → u .sizes ≡ v .sizes → u .indices ≡ v .indices → questionWork u ≡ questionWork v
+unfolding questionWork
+same-work u v e f = ap₂ (λ (s : Sizes) (i : List ℕ). s .ℓ * permutationsFor (leafLength s) + length (nodesAbove (arity s) (levels s) i) * permutationsFor (nodeLength s)) e f
 
 -- three permutations at most for a leaf's string, one for a node's
 pub leaf-high : (s : Sizes) → SizesInOrder s → permutationsFor (leafLength s) ≤ 3

@@ -14,6 +14,7 @@ ghost use Rattle.fiat_shamir.specs.Prove.{provingC};
 ghost use Rattle.fiat_shamir.specs.CheckProof.{checkingProof, checkingProofC};
 ghost use Rattle.smallwood.specs.InBytes.{inBytes};
 ghost use Rattle.smallwood.specs.Told.{told};
+use checker::WRONG_BUFFER;
 use codec::put_words;
 use offline_question::ask_offline;
 use opener::Opened;
@@ -128,9 +129,6 @@ pub extern "C" fn smallwood_open(
         Opened::Refused(v) => v,
     }
 }
-
-// The number of a value buffer of another length.
-const WRONG_BUFFER: u32 = 2;
 
 // Room for the values as words, and for at most 64 of them. Functions of their own, so that a caller's goals do not show the zeros.
 fn blank() -> [u32; 2048] {
