@@ -4,19 +4,21 @@
  * Eight entries: commit, open, check; for planners reply_length, permutations; without a conversation prove, check_proof; and apart from
  * commitments interpolate.
  * Each is proved to return the number and to leave the contents that the definitions give, for every input that keeps the rules below.
- * Link with libsmallwood.a (x86-64, ELF, System V calls); it needs memcpy and memset.
+ * Link with libsmallwood.a: x86-64, ELF, System V calls, no instructions beyond SSE2. It needs memcpy and memset, and nothing else.
+ * This header is C99, or C++11, and later.
  *
  * Rules for a caller
  *
  *   Slices      A pointer and a length in elements (not in bytes, where the elements are 32-bit words). A slice of length 0 may be NULL.
- *   Alignment   A pointer to 32-bit words is aligned for uint32_t, one to a 64-bit number for uint64_t; the latter is never NULL.
+ *   Alignment   A pointer to 32-bit words is aligned for uint32_t, one to a 64-bit number for uint64_t.
+ *   Numbers     The pointers to a 64-bit number, `length` and `count`, must not be NULL.
  *   Overlap     A slice or a number that a call writes overlaps no other of that call. Slices that a call only reads may overlap.
  *   Threads     No entry keeps anything between calls: no globals, no heap, no files. Any number of threads may call at once on slices
  *               of their own; slices that are only read may be shared.
  *   Stack       A commit takes about 18 kilobytes, an open 7, a check 52 (measured). It is not wiped: see below.
  *               A prove and a check_proof hold the string that draws the leaves: at most 17 kilobytes more than an open and a check.
  *               An interpolate takes about 5 kilobytes.
- *   Numbers     Words are in the machine's order. Multi-byte numbers in questions, replies, proofs and checked values are little-endian.
+ *   Order       Words are in the machine's order. Multi-byte numbers in questions, replies, proofs and checked values are little-endian.
  *
  * What a reply shows
  *
@@ -130,8 +132,97 @@
 extern "C" {
 #endif
 
+/* Of this library, and of questions (their bytes 3 and 4): no other questions are taken. */
+#define SMALLWOOD_VERSION_MAJOR 1
+#define SMALLWOOD_VERSION_MINOR 0
+#define SMALLWOOD_VERSION_PATCH 0
+#define SMALLWOOD_VERSION "1.0.0"
+#define SMALLWOOD_QUESTION_VERSION 3
+
 /* The number of elements of the field. */
 #define SMALLWOOD_Q 4294967291u
+
+/* What the entries return; see "What a call returns" above. */
+enum smallwood_verdict {
+    SMALLWOOD_OK = 0,
+    SMALLWOOD_BAD_SIZES = 1,
+    SMALLWOOD_BAD_LENGTH = 2,
+    SMALLWOOD_BAD_ELEMENT = 3,
+    SMALLWOOD_BAD_INDICES = 4,
+    SMALLWOOD_BAD_MARK = 5,
+    SMALLWOOD_BAD_QUESTION_LENGTH = 6,
+    SMALLWOOD_BAD_REPLY_LENGTH = 7,
+    SMALLWOOD_BAD_ROOT = 8,
+    SMALLWOOD_BAD_BATCHING = 9,
+    SMALLWOOD_BAD_EVALUATION = 10,
+    SMALLWOOD_NO_COUNTER = 11,
+    SMALLWOOD_BAD_COUNTER = 12,
+    SMALLWOOD_EQUAL_POINTS = 13
+};
+
+/* A verdict in words, for logs. */
+static inline const char *smallwood_verdict_text(uint32_t verdict)
+{
+    switch (verdict) {
+    case SMALLWOOD_OK: return "accepted, or done";
+    case SMALLWOOD_BAD_SIZES: return "a size, kappa or the number of points is outside its range";
+    case SMALLWOOD_BAD_LENGTH: return "a lent slice is of wrong length";
+    case SMALLWOOD_BAD_ELEMENT: return "an element is not below q";
+    case SMALLWOOD_BAD_INDICES: return "the indices do not rise strictly, or one is not below N";
+    case SMALLWOOD_BAD_MARK: return "the question's mark or version is wrong";
+    case SMALLWOOD_BAD_QUESTION_LENGTH: return "the question is of wrong length";
+    case SMALLWOOD_BAD_REPLY_LENGTH: return "the reply or the proof is of wrong length";
+    case SMALLWOOD_BAD_ROOT: return "the root differs, or the lent salt";
+    case SMALLWOOD_BAD_BATCHING: return "a batching answer fails at an opened leaf";
+    case SMALLWOOD_BAD_EVALUATION: return "an evaluation answer fails at an opened leaf";
+    case SMALLWOOD_NO_COUNTER: return "no counter below the limit qualifies";
+    case SMALLWOOD_BAD_COUNTER: return "the proof's counter does not qualify";
+    case SMALLWOOD_EQUAL_POINTS: return "two points are equal";
+    default: return "no number of this library";
+    }
+}
+
+/*
+ * Lengths, in elements of the slice: constant expressions where the sizes are. The sizes stand in the order in which smallwood_commit
+ * takes them, then m, and have to be within their ranges. What an entry's parameter NAME_length must be is SMALLWOOD_NAME_LENGTH.
+ */
+#define SMALLWOOD_LEAVES(h) ((size_t)1 << (h))
+#define SMALLWOOD_WIDTH(nu, w, l) ((size_t)(w) * (size_t)(nu) + (size_t)(l))
+#define SMALLWOOD_ROWS(mu, beta) ((size_t)(mu) + (size_t)(beta))
+
+/* Words. */
+#define SMALLWOOD_COEFFICIENTS_LENGTH(mu, nu, w, beta) ((size_t)(w) * ((size_t)(mu) * (size_t)(nu) + (size_t)(beta)))
+#define SMALLWOOD_TAILS_LENGTH(mu, l, beta) (SMALLWOOD_ROWS(mu, beta) * (size_t)(l))
+#define SMALLWOOD_BLINDS_LENGTH(nu, w, beta) ((size_t)(w) * ((size_t)(nu) - 1) * (size_t)(beta))
+#define SMALLWOOD_MASKS_LENGTH(nu, w, l, eta) ((size_t)(eta) * SMALLWOOD_WIDTH(nu, w, l))
+#define SMALLWOOD_TABLE_LENGTH(h, mu, eta, beta) (SMALLWOOD_LEAVES(h) * (SMALLWOOD_ROWS(mu, beta) + (size_t)(eta)))
+
+/* Bytes. The root is the last SMALLWOOD_ROOT_LENGTH bytes of the tree. */
+#define SMALLWOOD_ROOT_LENGTH ((size_t)32)
+#define SMALLWOOD_SALT_LENGTH ((size_t)32)
+#define SMALLWOOD_NONCES_LENGTH(h) (32 * SMALLWOOD_LEAVES(h))
+#define SMALLWOOD_TREE_LENGTH(h) (SMALLWOOD_ROOT_LENGTH * (2 * SMALLWOOD_LEAVES(h) - 1))
+#define SMALLWOOD_VALUES_LENGTH(w, m) (4 * (size_t)(w) * (size_t)(m))
+
+/* Bytes: a question, what it begins with, and a question of a proof. */
+#define SMALLWOOD_HEADER_LENGTH ((size_t)15)
+#define SMALLWOOD_NAMED_LENGTH (SMALLWOOD_HEADER_LENGTH + SMALLWOOD_ROOT_LENGTH + SMALLWOOD_SALT_LENGTH)
+#define SMALLWOOD_QUESTION_LENGTH(l, eta, m) (SMALLWOOD_NAMED_LENGTH + 4 * ((size_t)(eta) + (size_t)(m)) + 2 * (size_t)(l))
+#define SMALLWOOD_PROOF_QUESTION_LENGTH(m) (SMALLWOOD_NAMED_LENGTH + 4 * (size_t)(m))
+
+/*
+ * Bytes: the answers that a reply begins with, batching before evaluation; what no reply to any indices exceeds (a reply's own length is
+ * smallwood_reply_length's); and the prover's buffer, the proof_length of smallwood_prove.
+ */
+#define SMALLWOOD_BATCHING_LENGTH(nu, w, l, eta) (4 * SMALLWOOD_WIDTH(nu, w, l) * (size_t)(eta))
+#define SMALLWOOD_EVALUATION_LENGTH(nu, w, l, m) (4 * SMALLWOOD_WIDTH(nu, w, l) * (size_t)(m))
+#define SMALLWOOD_REPLY_BOUND(h, mu, nu, w, l, eta, beta, m)                                                          \
+    (SMALLWOOD_BATCHING_LENGTH(nu, w, l, eta) + SMALLWOOD_EVALUATION_LENGTH(nu, w, l, m)                              \
+     + (size_t)(l) * (4 * (SMALLWOOD_ROWS(mu, beta) + (size_t)(eta)) + 32 + 32 * (size_t)(h)))
+#define SMALLWOOD_PROOF_LENGTH(h, mu, nu, w, l, eta, beta, m) (4 + SMALLWOOD_REPLY_BOUND(h, mu, nu, w, l, eta, beta, m))
+
+/* The most points of smallwood_interpolate. */
+#define SMALLWOOD_MOST_POINTS 320
 
 /*
  * Commits to w polynomials of mu nu + beta coefficients each.

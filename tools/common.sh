@@ -42,6 +42,36 @@ object() {
     "$CC" $CFLAGS "$@" -c "$tools/$source" -o "$build/$out"
 }
 
+# sources_sum: one sum over all that is proved and compiled, and the kit that does it.
+sources_sum() {
+    (
+        cd "$root" || exit 1
+        rt version
+        find crates.txt crates -type f ! -path '*/must-fail/*' -exec sha256sum {} + | LC_ALL=C sort -k 2
+    ) | sha256sum | cut -d ' ' -f 1
+}
+
+# built FILE COMMAND [WORDS...]: runs the command, which is to prove and write that file, unless it did so from the same
+# sources before. What it prints goes to a log.
+built() {
+    file=$1
+    shift
+    stamp=$build/$(basename "$file").stamp
+    sum=$(sources_sum)
+    if [ -f "$file" ] && [ -f "$stamp" ] && [ "$(cat "$stamp")" = "$sum $(sha256sum < "$file")" ]; then
+        return 0
+    fi
+    mkdir -p "$build"
+    rm -f "$stamp"
+    echo "$*: proves and builds what has changed (all from nothing: some minutes)" >&2
+    if ! (cd "$root" && "$@" > "$build/rt.log" 2>&1); then
+        tail -n 20 "$build/rt.log" >&2
+        fail "$* failed"
+    fi
+    [ -f "$file" ] || fail "$* left no $file"
+    echo "$sum $(sha256sum < "$file")" > "$stamp"
+}
+
 # find_archive CRATE: sets archive: the one given, the stand-in, or the crate's, which rt proves and writes. The
 # stand-in is compiled with -DPLAIN_PAIRS=$pairs.
 pairs=1
@@ -49,7 +79,6 @@ pairs=1
 find_archive() {
     if [ -n "$given_archive" ]; then
         archive=$given_archive
-        [ -f "$archive" ] || fail "there is no archive $archive"
     elif [ "$stand_in" = yes ]; then
         object stand-in.o plain/plain.c -DPLAIN_PREFIX=smallwood -DPLAIN_PAIRS="$pairs"
         object stand-in-keccak.o plain/keccak.c
@@ -60,9 +89,8 @@ find_archive() {
         echo "stand-in: the plain C implementation under the library's names, PLAIN_PAIRS=$pairs"
     else
         need rt "to prove and build the library (or give --archive FILE)"
-        (cd "$root" && rt staticlib "$1") || fail "rt staticlib $1 failed"
         archive=$root/target/staticlib/lib$1.a
-        [ -f "$archive" ] || fail "rt staticlib left no $archive"
+        built "$archive" rt staticlib "$1"
     fi
 }
 
@@ -71,7 +99,6 @@ find_archive() {
 find_before() {
     before=
     [ -n "$given_before" ] || return 0
-    [ -f "$given_before" ] || fail "there is no archive $given_before"
     for tool in ld nm objcopy; do need "$tool" "for --before (Debian: binutils)"; done
     before="-DBEFORE $build/before.o"
     ld -r --whole-archive "$given_before" -o "$build/before.o"
@@ -112,7 +139,10 @@ count_calls() {
         END { print count + 0 }' "$build/calls"
 }
 
-# Sets given_archive, given_before, given_program, without_program, stand_in; the other words stay in `words`.
+# read_options WORDS...: sets given_archive, given_before, given_program, given_counts, without_program, stand_in. A script
+# names the options that it takes in `takes`, and has --help besides. Any other option is refused; other words stay in
+# `words`, for the script to take or refuse (no_words).
+takes=
 given_archive=
 given_before=
 given_program=
@@ -121,11 +151,28 @@ without_program=no
 stand_in=no
 words=
 
+usage() {
+    sed -n '2,/^$/s/^# \{0,1\}//p' "$0"
+}
+
 read_options() {
     while [ $# -gt 0 ]; do
         case $1 in
+            --help)
+                usage
+                exit 0
+                ;;
+            --*)
+                case " $takes " in
+                    *" $1 "*) ;;
+                    *) fail "no such option: $1 (--help names them)" ;;
+                esac
+                ;;
+        esac
+        case $1 in
             --archive | --before | --program | --counts)
                 [ $# -gt 1 ] || fail "$1 needs a file"
+                [ -f "$2" ] || fail "$1: there is no file $2"
                 case $1 in
                     --archive) given_archive=$2 ;;
                     --before) given_before=$2 ;;
@@ -136,12 +183,12 @@ read_options() {
                 ;;
             --stand-in) stand_in=yes ;;
             --without-program) without_program=yes ;;
-            --help)
-                sed -n '2,/^$/s/^# \{0,1\}//p' "$0"
-                exit 0
-                ;;
             *) words="$words $1" ;;
         esac
         shift
     done
+}
+
+no_words() {
+    [ -z "$words" ] || fail "no such word:$words (--help names what there is)"
 }
