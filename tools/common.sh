@@ -42,6 +42,11 @@ object() {
     "$CC" $CFLAGS "$@" -c "$tools/$source" -o "$build/$out"
 }
 
+# library_version: as the header has it
+library_version() {
+    sed -n 's/^#define SMALLWOOD_VERSION "\([0-9.]*\)"$/\1/p' "$root/include/smallwood.h"
+}
+
 # sources_sum: one sum over all that is proved and compiled, and the kit that does it.
 sources_sum() {
     (
@@ -150,6 +155,7 @@ given_counts= # the program `counts`
 without_program=no
 stand_in=no
 words=
+word_count=0
 
 usage() {
     sed -n '2,/^$/s/^# \{0,1\}//p' "$0"
@@ -183,7 +189,10 @@ read_options() {
                 ;;
             --stand-in) stand_in=yes ;;
             --without-program) without_program=yes ;;
-            *) words="$words $1" ;;
+            *)
+                words="$words $1"
+                word_count=$((word_count + 1))
+                ;;
         esac
         shift
     done
