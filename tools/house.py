@@ -626,7 +626,7 @@ class Repository:
         labels = {edit.path.stem for edit in self.edits}
         macros = set()
         for path in [*self.root.glob("tools/**/*.[ch]"), *self.root.glob("include/*.h")]:
-            macros.update(re.findall(r"\b[A-Z][A-Z_]+\b", path.read_text()))
+            macros.update(re.findall(r"\b[A-Z][A-Z_]+\b|\bsmallwood_\w+\b", path.read_text()))
         for doc in self.docs:
             for line, word, place in cited(doc):
                 fault = self.citation_fault(word, where, items, parameters, labels, macros)
