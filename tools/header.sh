@@ -140,6 +140,9 @@ compare_names() {
     global_names "$archive" > "$build/names"
     diff "$build/names.expected" "$build/names" > "$build/names.differ" ||
         { cat "$build/names.differ" >&2; fail "the archive's global names are not those of the header"; }
+    # Without this section the linker would make the program's stack executable.
+    stacks=$(objdump -h "$archive" | grep -c ' \.note\.GNU-stack ') || true
+    [ "$stacks" = 1 ] || fail "the archive has no section .note.GNU-stack"
     # A name more must be seen.
     cp "$archive" "$build/names.a"
     objcopy --add-symbol one_more=0,global "$build/names.a"
