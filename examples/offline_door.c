@@ -8,44 +8,20 @@
  *
  *     gcc -std=c11 -Wall -Wextra -Wpedantic -Werror -Iinclude examples/offline_door.c target/staticlib/libsmallwood.a
  */
-#include <errno.h>
-#include <stdbool.h>
 #include <stdio.h>
 #include <stdlib.h>
-#include <string.h>
-#include <sys/random.h>
 
-#include "smallwood.h"
+#include "sides.h"
+#include "smallwood_wipe.h"
 
-/*
- * Four polynomials of 34 coefficients, in four columns each; 256 leaves, 26 of them opened; four repetitions, two points. BETA is M: each
- * point shows a value of every column, and each column but a polynomial's last has a blind for each of them. Who draws for himself tries
- * draws: one fits false answers with a probability of 2^-81.8, and KAPPA makes it 2^-89.8.
- */
-enum { H = 8, MU = 8, NU = 4, W = 4, L = 26, ETA = 4, M = 2, BETA = 2, KAPPA = 8 };
+/* The sizes are those of sides.h. Who draws for himself tries draws: KAPPA makes the 2^-81.8 of one draw 2^-89.8. */
+enum { KAPPA = 8, MOST_KAPPA = 16 };
 
 enum {
-    N = 1 << H,
-    WIDTH = W * NU + L,
-    ROWS = MU + BETA,
-    EACH = MU * NU + BETA, /* coefficients of a polynomial */
-    COEFFICIENTS = W * EACH,
-    TAILS = ROWS * L,
-    BLINDS = W * (NU - 1) * BETA,
-    MASKS = ETA * WIDTH,
-    NONCES = 32 * N,
-    ROOT = 32,
-    SALT = 32,
-    TABLE = N * (ROWS + ETA),
-    TREE = 32 * (2 * N - 1),
-    HEADER = 15,
-    NAMED = HEADER + ROOT + SALT,
-    QUESTION = NAMED + 4 * M,
+    QUESTION = SMALLWOOD_PROOF_QUESTION_LENGTH(M),
     COUNTER = 4,
-    ANSWERS = 4 * WIDTH * (ETA + M), /* they follow the counter */
-    RECORDS = L * (4 * (ROWS + ETA) + 32),
-    PROOF_ROOM = COUNTER + ANSWERS + RECORDS + 32 * L * H, /* the prover's buffer: no proof is longer */
-    VALUES = 4 * W * M
+    ANSWERS = SMALLWOOD_BATCHING_LENGTH(NU, W, L, ETA) + SMALLWOOD_EVALUATION_LENGTH(NU, W, L, M), /* they follow the counter */
+    PROOF_ROOM = SMALLWOOD_PROOF_LENGTH(H, MU, NU, W, L, ETA, BETA, M) /* the prover's buffer: no proof is longer */
 };
 
 /* On average 2^KAPPA counters are tried; that none of so many qualifies has a probability of about e^-64. */
@@ -65,50 +41,6 @@ static void expect(bool holds, const char *what)
     printf("ok: %s\n", what);
 }
 
-/* ---- Drawing, on both sides */
-
-static void draw_bytes(void *to, size_t count)
-{
-    uint8_t *next = to;
-
-    while (count > 0) {
-        ssize_t got = getrandom(next, count, 0);
-        if (got < 0 && errno == EINTR)
-            continue;
-        must(got > 0, "the system gives random bytes");
-        next += got;
-        count -= (size_t)got;
-    }
-}
-
-/* A word that is not below q is drawn again: a remainder would make small elements likelier. */
-static void draw_elements(uint32_t *words, size_t count)
-{
-    for (size_t i = 0; i < count; i++)
-        do
-            draw_bytes(&words[i], sizeof words[i]);
-        while (words[i] >= SMALLWOOD_Q);
-}
-
-/* ---- Bytes, on both sides */
-
-static void put_half(uint8_t *to, uint32_t x)
-{
-    to[0] = (uint8_t)x;
-    to[1] = (uint8_t)(x >> 8);
-}
-
-static void put_word(uint8_t *to, uint32_t x)
-{
-    put_half(to, x);
-    put_half(to + 2, x >> 16);
-}
-
-static uint32_t word_at(const uint8_t *from)
-{
-    return (uint32_t)from[0] | (uint32_t)from[1] << 8 | (uint32_t)from[2] << 16 | (uint32_t)from[3] << 24;
-}
-
 /* What the desk sends when the badge has committed: one thing, since the root is one under this salt only. */
 struct commitment {
     uint8_t root[ROOT], salt[SALT];
@@ -117,43 +49,17 @@ struct commitment {
 /* What a question begins with, and badge and door both have: header, root and salt. */
 static void write_named(uint8_t *to, const struct commitment *about)
 {
-    memcpy(to, "SWQ", 3);
-    put_half(to + 3, 3);
-    to[5] = H;
-    to[6] = MU;
-    put_half(to + 7, NU);
-    put_half(to + 9, W);
-    to[11] = L;
-    to[12] = ETA;
-    to[13] = M;
-    to[14] = BETA;
-    memcpy(to + HEADER, about->root, ROOT);
-    memcpy(to + HEADER + ROOT, about->salt, SALT);
+    write_header(to, M);
+    memcpy(to + ROOT_AT, about->root, ROOT);
+    memcpy(to + SALT_AT, about->salt, SALT);
 }
 
 /* ---- The badge. Only its root and salt and one proof leave it. */
 
-static uint32_t badge_coefficients[COEFFICIENTS], badge_tails[TAILS], badge_blinds[BLINDS], badge_masks[MASKS], badge_table[TABLE];
+static uint32_t badge_coefficients[COEFFICIENTS], badge_tails[TAILS], badge_blinds[BLINDS_ROOM], badge_masks[MASKS], badge_table[TABLE];
 static uint8_t badge_nonces[NONCES], badge_tree[TREE], badge_named[NAMED];
 static struct commitment badge_commitment;
 static bool badge_used;
-
-static void wipe(void *memory, size_t size)
-{
-    volatile uint8_t *byte = memory;
-
-    while (size-- > 0)
-        *byte++ = 0;
-}
-
-/* Overwrites what a call left below on the stack; it stands right after the call, in the same function. */
-__attribute__((noinline)) static void wipe_stack(void)
-{
-    volatile uint8_t room[32768];
-
-    for (size_t i = 0; i < sizeof room; i++)
-        room[i] = 0;
-}
 
 /* At the desk. Root and salt go to the doors, over a way that they trust. A badge that is renewed begins here again: all is drawn anew. */
 static void badge_begins(struct commitment *sent)
@@ -162,15 +68,15 @@ static void badge_begins(struct commitment *sent)
 
     for (uint32_t i = 0; i < COEFFICIENTS; i++)
         badge_coefficients[i] = i + 1; /* its secret; a real one has better */
-    draw_elements(badge_tails, TAILS);
-    draw_elements(badge_blinds, BLINDS); /* each as likely as any other, or columns would show coefficients after all */
-    draw_elements(badge_masks, MASKS);
-    draw_bytes(badge_nonces, NONCES);
-    draw_bytes(badge_commitment.salt, SALT); /* no secret, but of this commitment alone */
-    number = smallwood_commit(H, MU, NU, W, L, ETA, BETA, badge_coefficients, COEFFICIENTS, badge_tails, TAILS, badge_blinds, BLINDS, badge_masks,
-                              MASKS, badge_nonces, NONCES, badge_commitment.salt, SALT, badge_table, TABLE, badge_tree, TREE);
-    wipe_stack();
-    must(number == 0, "the badge commits");
+    must(draw_elements(badge_tails, TAILS), "tails are drawn");
+    must(draw_elements(badge_blinds, BLINDS), "blinds are drawn"); /* each as likely as any other, or columns would show coefficients */
+    must(draw_elements(badge_masks, MASKS), "masks are drawn");
+    must(draw_bytes(badge_nonces, NONCES), "nonces are drawn");
+    must(draw_bytes(badge_commitment.salt, SALT), "the salt is drawn"); /* no secret, but of this commitment alone */
+    number = smallwood_commit(H, MU, NU, W, L, ETA, BETA, badge_coefficients, COEFFICIENTS, badge_tails, TAILS, badge_blinds, BLINDS,
+                              badge_masks, MASKS, badge_nonces, NONCES, badge_commitment.salt, SALT, badge_table, TABLE, badge_tree, TREE);
+    smallwood_wipe_stack();
+    must(number == SMALLWOOD_OK, "the badge commits");
     memcpy(badge_commitment.root, badge_tree + TREE - ROOT, ROOT);
     write_named(badge_named, &badge_commitment);
     badge_used = false;
@@ -180,16 +86,16 @@ static void badge_begins(struct commitment *sent)
 static uint32_t badge_prove(const uint8_t *question, size_t size, uint32_t kappa, uint32_t limit, uint8_t *proof, size_t room,
                             uint64_t *length)
 {
-    uint32_t number = smallwood_prove(question, size, kappa, limit, badge_coefficients, COEFFICIENTS, badge_tails, TAILS, badge_blinds, BLINDS,
-                                      badge_masks, MASKS, badge_table, TABLE, badge_nonces, NONCES, badge_commitment.salt, SALT,
-                                      badge_tree, TREE, proof, room, length);
-    wipe_stack();
+    uint32_t number = smallwood_prove(question, size, kappa, limit, badge_coefficients, COEFFICIENTS, badge_tails, TAILS, badge_blinds,
+                                      BLINDS, badge_masks, MASKS, badge_table, TABLE, badge_nonces, NONCES, badge_commitment.salt,
+                                      SALT, badge_tree, TREE, proof, room, length);
+    smallwood_wipe_stack();
     return number;
 }
 
 /*
- * One question for each commitment, and with its own header: one with more points would show more of the columns. The proof stands in
- * memory of just its length; NULL where the question is not taken.
+ * One question for each commitment, and with its own header: one with more points would show more of the columns. The point 0 is not taken.
+ * The proof stands in memory of just its length; NULL where the question is not taken.
  */
 static uint8_t *badge_takes(const uint8_t *question, size_t size, uint32_t kappa, size_t *proof_size)
 {
@@ -198,14 +104,15 @@ static uint8_t *badge_takes(const uint8_t *question, size_t size, uint32_t kappa
     uint32_t number;
     uint8_t *proof;
 
-    if (badge_used || size != QUESTION || memcmp(question, badge_named, NAMED) != 0)
+    if (badge_used || size != QUESTION || memcmp(question, badge_named, NAMED) != 0 || has_point_0(question + NAMED, M))
         return NULL;
     number = badge_prove(question, size, kappa, LIMIT, room, PROOF_ROOM, &length);
-    if (number == 11) /* nothing has been shown: the rest of the counters may be tried */
+    if (number == SMALLWOOD_NO_COUNTER) /* nothing has been shown: the rest of the counters may be tried */
         number = badge_prove(question, size, kappa, UINT32_MAX, room, PROOF_ROOM, &length);
-    if (number == 1 || number == 3 || number == 11) /* too many bits, a point that is no element, no counter at all */
+    /* Too many bits, a point that is no element, no counter at all. */
+    if (number == SMALLWOOD_BAD_SIZES || number == SMALLWOOD_BAD_ELEMENT || number == SMALLWOOD_NO_COUNTER)
         return NULL;
-    must(number == 0, "the badge proves"); /* 2, 5, 6 or 8 would be a fault of its own */
+    must(number == SMALLWOOD_OK, "the badge proves"); /* 2, 5, 6 or 8 would be a fault of its own */
     badge_used = true;
     proof = malloc((size_t)length);
     must(proof != NULL, "the badge has memory for the proof");
@@ -216,13 +123,13 @@ static uint8_t *badge_takes(const uint8_t *question, size_t size, uint32_t kappa
 
 static void badge_ends(void)
 {
-    wipe(badge_coefficients, sizeof badge_coefficients);
-    wipe(badge_tails, sizeof badge_tails);
-    wipe(badge_blinds, sizeof badge_blinds);
-    wipe(badge_masks, sizeof badge_masks);
-    wipe(badge_nonces, sizeof badge_nonces);
-    wipe(badge_table, sizeof badge_table);
-    wipe(badge_tree, sizeof badge_tree);
+    smallwood_wipe(badge_coefficients, sizeof badge_coefficients);
+    smallwood_wipe(badge_tails, sizeof badge_tails);
+    smallwood_wipe(badge_blinds, sizeof badge_blinds);
+    smallwood_wipe(badge_masks, sizeof badge_masks);
+    smallwood_wipe(badge_nonces, sizeof badge_nonces);
+    smallwood_wipe(badge_table, sizeof badge_table);
+    smallwood_wipe(badge_tree, sizeof badge_tree);
 }
 
 /* ---- The door. It has root and salt from the desk, its own points, and the proof that it is shown. */
@@ -234,10 +141,9 @@ static uint32_t door_points[M];
 /* Fresh points for each visit, drawn when root and salt are known. They are all that binds a proof to this door and this hour. */
 static void door_asks(void)
 {
-    draw_elements(door_points, M);
+    must(draw_points(door_points, M), "points are drawn");
     write_named(door_question, &door_commitment);
-    for (int p = 0; p < M; p++)
-        put_word(door_question + NAMED + 4 * p, door_points[p]);
+    put_words(door_question + NAMED, door_points, M);
 }
 
 static uint32_t door_checks(uint32_t kappa, const uint8_t *proof, size_t size)
@@ -248,18 +154,18 @@ static uint32_t door_checks(uint32_t kappa, const uint8_t *proof, size_t size)
 
 enum decision { OPENS, REFUSES, OUT_OF_ORDER };
 
-/* The question and the value buffer are the door's own, so 1, 2, 5 and 6 are its own faults; its points are elements, so 3 is the proof's. */
+/* Question and value buffer are the door's own, so 1, 2, 5 and 6 are its own faults; its points are elements, so 3 is the proof's. */
 static enum decision door_decides(uint32_t number)
 {
     switch (number) {
-    case 0:
+    case SMALLWOOD_OK:
         return OPENS;
-    case 3:
-    case 7:
-    case 8:
-    case 9:
-    case 10:
-    case 12:
+    case SMALLWOOD_BAD_ELEMENT:
+    case SMALLWOOD_BAD_REPLY_LENGTH:
+    case SMALLWOOD_BAD_ROOT:
+    case SMALLWOOD_BAD_BATCHING:
+    case SMALLWOOD_BAD_EVALUATION:
+    case SMALLWOOD_BAD_COUNTER:
         return REFUSES;
     default:
         return OUT_OF_ORDER;
@@ -305,15 +211,15 @@ static void show_values(void)
 /* A proof with as many zero bits or more is accepted, whatever the badge was asked for; the draw is the same, so 12 alone tells. */
 static void try_bits(const uint8_t *proof, size_t size)
 {
-    uint32_t most = 16, bits = 0;
+    uint32_t bits = 0;
 
-    while (bits <= most && door_checks(bits, proof, size) == 0)
+    while (bits <= MOST_KAPPA && door_checks(bits, proof, size) == SMALLWOOD_OK)
         bits++;
-    printf("the draw begins with %u zero bits%s\n", bits - 1, bits > most ? " or more" : "");
+    printf("the draw begins with %u zero bits%s\n", bits - 1, bits > MOST_KAPPA ? " or more" : "");
     expect(bits > KAPPA, "a door that wants fewer bits accepts the proof, too");
-    for (; bits <= most; bits++)
-        must(door_checks(bits, proof, size) == 12 && values_kept(), "a door that wants more bits refuses it with 12");
-    expect(door_checks(most + 1, proof, size) == 1 && values_kept(), "more than 16 bits are refused with 1");
+    for (; bits <= MOST_KAPPA; bits++)
+        must(door_checks(bits, proof, size) == SMALLWOOD_BAD_COUNTER && values_kept(), "a door that wants more bits refuses it with 12");
+    expect(door_checks(MOST_KAPPA + 1, proof, size) == SMALLWOOD_BAD_SIZES && values_kept(), "more than 16 bits are refused with 1");
 }
 
 /* The least counter that qualifies is the proof's; another one draws other leaves, and so perhaps another length. */
@@ -326,7 +232,8 @@ static void try_counters(uint8_t *proof, size_t size)
 
         put_word(proof, smaller);
         number = door_checks(KAPPA, proof, size);
-        must((number == 7 || number == 12) && values_kept(), "a smaller counter is refused with 7 or 12");
+        must(number == SMALLWOOD_BAD_REPLY_LENGTH || number == SMALLWOOD_BAD_COUNTER, "a smaller counter is refused with 7 or 12");
+        must(values_kept(), "and no value is written");
     }
     printf("ok: all %u smaller counters are refused\n", counter);
     put_word(proof, counter + 1);
@@ -337,7 +244,7 @@ static void try_counters(uint8_t *proof, size_t size)
 /* One bit of one byte, at each place. In counter and answers it changes the draw, and 7 or 12 tells; behind them the root does. */
 static void try_bytes(uint8_t *proof, size_t size)
 {
-    unsigned tally[13] = {0};
+    unsigned tally[SMALLWOOD_BAD_COUNTER + 1] = {0};
 
     for (size_t i = 0; i < size; i++) {
         uint32_t number;
@@ -345,15 +252,15 @@ static void try_bytes(uint8_t *proof, size_t size)
         proof[i] ^= 1;
         number = door_checks(KAPPA, proof, size);
         must(refused(number), "a changed byte is refused");
-        must(i < COUNTER + ANSWERS || number == 8 || number == 3, "a changed record or node is refused with 8, or is no element");
+        must(i < COUNTER + ANSWERS || number == SMALLWOOD_BAD_ROOT || number == SMALLWOOD_BAD_ELEMENT,
+             "a changed record or node is refused with 8, or is no element");
         tally[number]++;
         proof[i] ^= 1;
     }
-    printf("ok: one changed byte, at each of %zu places, is refused:", size);
-    for (unsigned number = 1; number < 13; number++)
+    printf("ok: one changed byte, at each of %zu places, is refused:\n", size);
+    for (uint32_t number = 1; number <= SMALLWOOD_BAD_COUNTER; number++)
         if (tally[number] > 0)
-            printf(" %u times with %u", tally[number], number);
-    printf("\n");
+            printf("    %u times with %u: %s\n", tally[number], number, smallwood_verdict_text(number));
 }
 
 /* Two encodings of one element: q is refused, not reduced. The word is the first record's, so the draw is as it was. */
@@ -362,64 +269,80 @@ static void try_element(uint8_t *proof, size_t size)
     uint32_t word = word_at(proof + COUNTER + ANSWERS);
 
     put_word(proof + COUNTER + ANSWERS, SMALLWOOD_Q);
-    expect(refused_with(3, proof, size), "an element that is not below q is refused with 3");
+    expect(refused_with(SMALLWOOD_BAD_ELEMENT, proof, size), "an element that is not below q is refused with 3");
     put_word(proof + COUNTER + ANSWERS, word);
 }
 
 static void try_lengths(const uint8_t *proof, size_t size, uint8_t *room)
 {
-    uint8_t conversation[QUESTION + 4 * ETA + 2 * L] = {0};
+    uint8_t asked[SMALLWOOD_QUESTION_LENGTH(L, ETA, M)] = {0};
 
     memcpy(room, proof, size);
-    expect(refused_with(7, proof, size - 1), "a proof that is cut is refused with 7");
-    expect(refused_with(7, room, size + 1), "a proof with a byte after it is refused with 7");
-    expect(refused_with(7, proof, COUNTER + ANSWERS - 1), "a proof too short for counter and answers is refused with 7");
-    expect(refused_with(7, NULL, 0), "no proof is refused with 7");
-    expect(smallwood_check_proof(door_question, QUESTION, KAPPA, proof, size, door_values, VALUES - 4) == 2,
+    expect(refused_with(SMALLWOOD_BAD_REPLY_LENGTH, proof, size - 1), "a proof that is cut is refused with 7");
+    expect(refused_with(SMALLWOOD_BAD_REPLY_LENGTH, room, size + 1), "a proof with a byte after it is refused with 7");
+    expect(refused_with(SMALLWOOD_BAD_REPLY_LENGTH, proof, COUNTER + ANSWERS - 1),
+           "a proof too short for counter and answers is refused with 7");
+    expect(refused_with(SMALLWOOD_BAD_REPLY_LENGTH, NULL, 0), "no proof is refused with 7");
+    expect(smallwood_check_proof(door_question, QUESTION, KAPPA, proof, size, door_values, VALUES - 4) == SMALLWOOD_BAD_LENGTH,
            "a value buffer of wrong length is refused with 2");
-    memcpy(conversation, door_question, QUESTION);
-    expect(smallwood_check_proof(conversation, sizeof conversation, KAPPA, proof, size, door_values, VALUES) == 6,
+    memcpy(asked, door_question, QUESTION);
+    expect(smallwood_check_proof(asked, sizeof asked, KAPPA, proof, size, door_values, VALUES) == SMALLWOOD_BAD_QUESTION_LENGTH,
            "a question of a conversation's length is refused with 6");
-    expect(smallwood_check_proof(NULL, 0, KAPPA, NULL, 0, NULL, 0) == 6, "nothing at all is refused with 6");
+    expect(smallwood_check_proof(NULL, 0, KAPPA, NULL, 0, NULL, 0) == SMALLWOOD_BAD_QUESTION_LENGTH, "nothing at all is refused with 6");
 }
 
 /* Another commitment's salt. It is hashed with the draws, so 7 or 12 mostly tells; if neither does, the root does. */
 static void try_salt(const uint8_t *proof, size_t size)
 {
-    door_question[HEADER + ROOT] ^= 1;
+    door_question[SALT_AT] ^= 1;
     expect(refused(door_checks(KAPPA, proof, size)), "under another salt the proof is refused");
-    door_question[HEADER + ROOT] ^= 1;
-    put_half(door_question + 3, 2);
-    expect(door_checks(KAPPA, proof, size) == 5 && values_kept(), "a question of version 2, which had no salt, is refused with 5");
-    put_half(door_question + 3, 3);
+    door_question[SALT_AT] ^= 1;
+    put_half(door_question + VERSION_AT, SMALLWOOD_QUESTION_VERSION - 1);
+    expect(door_checks(KAPPA, proof, size) == SMALLWOOD_BAD_MARK && values_kept(),
+           "a question of version 2, which had no salt, is refused with 5");
+    put_half(door_question + VERSION_AT, SMALLWOOD_QUESTION_VERSION);
 }
 
-/* What the prover refuses; neither the buffer nor the length changes. */
-static void try_prover(const uint8_t *proof, size_t size)
+/* That the prover refuses so, and that neither the buffer nor the length changes. */
+static bool prover_refuses(uint32_t number, const uint8_t *question, size_t question_size, uint32_t kappa, uint32_t limit, size_t room_size)
 {
     static uint8_t room[PROOF_ROOM], before[PROOF_ROOM];
-    uint8_t question[QUESTION];
     uint64_t length = 77;
 
     memset(room, 0xAA, PROOF_ROOM);
-    memcpy(before, room, PROOF_ROOM);
-    memcpy(question, door_question, QUESTION);
-    expect(badge_prove(question, QUESTION, KAPPA, word_at(proof), room, PROOF_ROOM, &length) == 11, "without the counter that qualifies it is an 11");
-    expect(badge_prove(question, QUESTION, 17, LIMIT, room, PROOF_ROOM, &length) == 1, "more than 16 bits are refused with 1");
-    expect(badge_prove(question, QUESTION, KAPPA, LIMIT, room, PROOF_ROOM - 1, &length) == 2, "a shorter buffer is refused with 2");
-    expect(badge_prove(question, QUESTION - 4, KAPPA, LIMIT, room, PROOF_ROOM, &length) == 6, "a question that is cut is refused with 6");
-    put_word(question + NAMED, SMALLWOOD_Q);
-    expect(badge_prove(question, QUESTION, KAPPA, LIMIT, room, PROOF_ROOM, &length) == 3, "a point that is not below q is refused with 3");
-    memcpy(question, door_question, QUESTION);
-    question[HEADER] ^= 1;
-    expect(badge_prove(question, QUESTION, KAPPA, LIMIT, room, PROOF_ROOM, &length) == 8, "another root is refused with 8");
-    question[HEADER] ^= 1;
-    question[HEADER + ROOT] ^= 1;
-    expect(badge_prove(question, QUESTION, KAPPA, LIMIT, room, PROOF_ROOM, &length) == 8, "another salt is refused with 8");
-    expect(length == 77 && memcmp(room, before, PROOF_ROOM) == 0, "and each time buffer and length are as they were");
+    memset(before, 0xAA, PROOF_ROOM);
+    return badge_prove(question, question_size, kappa, limit, room, room_size, &length) == number && length == 77
+           && memcmp(room, before, PROOF_ROOM) == 0;
+}
 
-    /* The same question once more shows nothing new: a proof is a function of what is lent. */
-    must(badge_prove(door_question, QUESTION, KAPPA, LIMIT, room, PROOF_ROOM, &length) == 0, "the badge proves again");
+static void try_refusals(const uint8_t *proof)
+{
+    uint8_t question[QUESTION];
+
+    memcpy(question, door_question, QUESTION);
+    expect(prover_refuses(SMALLWOOD_NO_COUNTER, question, QUESTION, KAPPA, word_at(proof), PROOF_ROOM), "without the counter it is an 11");
+    expect(prover_refuses(SMALLWOOD_BAD_SIZES, question, QUESTION, MOST_KAPPA + 1, LIMIT, PROOF_ROOM), "more than 16 bits are a 1");
+    expect(prover_refuses(SMALLWOOD_BAD_LENGTH, question, QUESTION, KAPPA, LIMIT, PROOF_ROOM - 1), "a shorter buffer is a 2");
+    expect(prover_refuses(SMALLWOOD_BAD_QUESTION_LENGTH, question, QUESTION - 4, KAPPA, LIMIT, PROOF_ROOM), "a cut question is a 6");
+    put_word(question + NAMED, SMALLWOOD_Q);
+    expect(prover_refuses(SMALLWOOD_BAD_ELEMENT, question, QUESTION, KAPPA, LIMIT, PROOF_ROOM), "a point that is not below q is a 3");
+    memcpy(question, door_question, QUESTION);
+    question[ROOT_AT] ^= 1;
+    expect(prover_refuses(SMALLWOOD_BAD_ROOT, question, QUESTION, KAPPA, LIMIT, PROOF_ROOM), "another root is an 8");
+    question[ROOT_AT] ^= 1;
+    question[SALT_AT] ^= 1;
+    expect(prover_refuses(SMALLWOOD_BAD_ROOT, question, QUESTION, KAPPA, LIMIT, PROOF_ROOM), "another salt is an 8");
+}
+
+/* The same question once more shows nothing new: a proof is a function of what is lent. */
+static void try_again(const uint8_t *proof, size_t size)
+{
+    static uint8_t room[PROOF_ROOM], before[PROOF_ROOM];
+    uint64_t length = 0;
+
+    memset(room, 0xAA, PROOF_ROOM);
+    memset(before, 0xAA, PROOF_ROOM);
+    must(badge_prove(door_question, QUESTION, KAPPA, LIMIT, room, PROOF_ROOM, &length) == SMALLWOOD_OK, "the badge proves again");
     expect(length == size && memcmp(room, proof, size) == 0, "the same question has the same proof");
     expect(memcmp(room + size, before + size, PROOF_ROOM - size) == 0, "and bytes after it are as they were");
 }
@@ -431,9 +354,10 @@ static void try_other_polynomial(void)
     uint64_t length = 0;
 
     badge_coefficients[0] += 1;
-    must(badge_prove(door_question, QUESTION, KAPPA, LIMIT, room, PROOF_ROOM, &length) == 0, "answers for another polynomial are made");
+    must(badge_prove(door_question, QUESTION, KAPPA, LIMIT, room, PROOF_ROOM, &length) == SMALLWOOD_OK,
+         "answers for another polynomial are made");
     badge_coefficients[0] -= 1;
-    expect(refused_with(9, room, (size_t)length), "answers for another polynomial are refused with 9");
+    expect(refused_with(SMALLWOOD_BAD_BATCHING, room, (size_t)length), "answers for another polynomial are refused with 9");
 }
 
 int main(void)
@@ -449,6 +373,9 @@ int main(void)
 
     /* The door, now offline, draws points; the badge proves; the door checks. */
     door_asks();
+    memcpy(question, door_question, QUESTION);
+    put_word(question + NAMED, 0);
+    expect(badge_takes(question, QUESTION, KAPPA, &size) == NULL, "the badge does not take the point 0");
     proof = badge_takes(door_question, QUESTION, KAPPA, &size);
     expect(proof != NULL, "the badge proves");
     printf("question of %d bytes, proof of %zu bytes in a buffer of %d, counter %u\n", QUESTION, size, PROOF_ROOM, word_at(proof));
@@ -471,7 +398,8 @@ int main(void)
     try_lengths(proof, size, room);
     try_salt(proof, size);
     try_other_polynomial();
-    try_prover(proof, size);
+    try_refusals(proof);
+    try_again(proof, size);
     expect(door_decides(door_checks(KAPPA, proof, size)) == OPENS, "the honest proof is accepted again");
 
     badge_ends();

@@ -4,7 +4,7 @@
  * number that a badge shows. Then it is shown what is refused. Each result is checked, and the program exits with 1 at the first that is
  * not as it should be. Expected are what was lent, and small cases by hand.
  *
- * Nothing here is secret. Whoever interpolates secrets overwrites the stack after the call, as examples/argument_layer.c does.
+ * Nothing here is secret. Whoever interpolates secrets overwrites the stack after the call, as examples/badge.c does.
  *
  *     gcc -std=c11 -Wall -Wextra -Wpedantic -Werror -Iinclude examples/revocation.c target/staticlib/libsmallwood.a
  */
@@ -15,7 +15,7 @@
 
 #include "smallwood.h"
 
-enum { MOST = 320 };
+enum { MOST = SMALLWOOD_MOST_POINTS };
 
 enum status { VALID = 1, SUSPENDED = 2, REVOKED = 3 };
 
@@ -101,19 +101,19 @@ static void try_small(void)
     const uint32_t rising[3] = {1, 2, 3}, squares[3] = {1, 4, 9}, mixed[3] = {3, 1, 2}, their[3] = {9, 1, 4}, same[3] = {7, 7, 7};
 
     memcpy(list, untouched, sizeof list);
-    must(smallwood_interpolate(rising, 3, squares, 3, list, 3) == 0, "three points are taken");
+    must(smallwood_interpolate(rising, 3, squares, 3, list, 3) == SMALLWOOD_OK, "three points are taken");
     expect(is(0, 0, 1), "1, 4, 9 at 1, 2, 3 are the values of x^2");
-    must(smallwood_interpolate(mixed, 3, their, 3, list, 3) == 0, "three points in another order are taken");
+    must(smallwood_interpolate(mixed, 3, their, 3, list, 3) == SMALLWOOD_OK, "three points in another order are taken");
     expect(is(0, 0, 1), "so they are in another order");
-    must(smallwood_interpolate(rising, 3, same, 3, list, 3) == 0, "equal values are taken");
+    must(smallwood_interpolate(rising, 3, same, 3, list, 3) == SMALLWOOD_OK, "equal values are taken");
     expect(is(7, 0, 0), "equal values give a constant, and zeros behind it");
-    must(smallwood_interpolate(rising + 2, 1, squares + 2, 1, list, 1) == 0, "one point is taken");
+    must(smallwood_interpolate(rising + 2, 1, squares + 2, 1, list, 1) == SMALLWOOD_OK, "one point is taken");
     expect(is(9, 0, 0), "one point gives one coefficient, and what stands behind it stays");
 }
 
 static void try_list(void)
 {
-    expect(office_makes(MOST) == 0, "the office makes a list of 320 coefficients");
+    expect(office_makes(MOST) == SMALLWOOD_OK, "the office makes a list of 320 coefficients");
     for (int i = 0; i < MOST; i++)
         must(evaluate(list, MOST, numbers[i]) == statuses[i], "each listed number has its status");
     printf("ok: each of %d listed numbers has its status\n", MOST);
@@ -131,21 +131,24 @@ static void try_refusals(void)
     /* The office learns that a number is listed twice, though not which. It is a 13 even where both places have the same status. */
     numbers[MOST - 1] = numbers[4];
     statuses[MOST - 1] = statuses[4];
-    expect(refused_with(13, office_makes(MOST)), "a number that is listed twice is refused with 13, and the list is as it was");
-    expect(office_makes(MOST - 1) == 0, "without its second place the list is made");
+    expect(refused_with(SMALLWOOD_EQUAL_POINTS, office_makes(MOST)),
+           "a number that is listed twice is refused with 13, and the list is as it was");
+    printf("the office is told: %s\n", smallwood_verdict_text(office_makes(MOST)));
+    expect(office_makes(MOST - 1) == SMALLWOOD_OK, "without its second place the list is made");
 
     numbers[0] = SMALLWOOD_Q;
-    expect(refused_with(3, office_makes(MOST)), "a number that is not below q is refused with 3, also where another is listed twice");
+    expect(refused_with(SMALLWOOD_BAD_ELEMENT, office_makes(MOST)),
+           "a number that is not below q is refused with 3, also where another is listed twice");
     numbers[0] = first;
     statuses[0] = SMALLWOOD_Q;
-    expect(refused_with(3, office_makes(MOST)), "and so is a status");
+    expect(refused_with(SMALLWOOD_BAD_ELEMENT, office_makes(MOST)), "and so is a status");
     office_fills();
 
     memcpy(list, untouched, sizeof list);
-    expect(refused_with(2, smallwood_interpolate(numbers, 3, statuses, 2, list, 3)), "a status too few is refused with 2");
-    expect(refused_with(2, smallwood_interpolate(numbers, 3, statuses, 3, list, 4)), "a list too long is refused with 2");
-    expect(refused_with(1, office_makes(MOST + 1)), "more than 320 numbers are refused with 1");
-    expect(refused_with(1, smallwood_interpolate(NULL, 0, NULL, 0, NULL, 0)), "and so are none");
+    expect(refused_with(SMALLWOOD_BAD_LENGTH, smallwood_interpolate(numbers, 3, statuses, 2, list, 3)), "a status too few is a 2");
+    expect(refused_with(SMALLWOOD_BAD_LENGTH, smallwood_interpolate(numbers, 3, statuses, 3, list, 4)), "a list too long is a 2");
+    expect(refused_with(SMALLWOOD_BAD_SIZES, office_makes(MOST + 1)), "more than 320 numbers are refused with 1");
+    expect(refused_with(SMALLWOOD_BAD_SIZES, smallwood_interpolate(NULL, 0, NULL, 0, NULL, 0)), "and so are none");
 }
 
 int main(void)

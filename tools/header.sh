@@ -17,7 +17,7 @@ read_options "$@"
 no_words
 need_compiler
 need g++ "to compile the header as C++"
-for tool in nm objcopy; do need "$tool" "to look at the archive's names (Debian: binutils)"; done
+for tool in nm objcopy objdump; do need "$tool" "to look at the archive's names (Debian: binutils)"; done
 draws=20000
 warnings='-Wall -Wextra -Wpedantic -Wconversion -Wsign-conversion -Wshadow -Werror'
 headers='smallwood.h smallwood_wipe.h'

@@ -25,7 +25,7 @@ filled() {
 }
 
 include=$prefix/include lib=$prefix/lib
-mkdir -p "$include" "$lib/pkgconfig" "$lib/cmake/smallwood" || fail "cannot write to $prefix"
+mkdir -p "$include" "$lib/pkgconfig" "$lib/cmake/smallwood" 2> /dev/null || fail "cannot write to $prefix"
 cp "$root/include/smallwood.h" "$root/include/smallwood_wipe.h" "$include/"
 cp "$archive" "$lib/libsmallwood.a"
 filled smallwood.pc.in > "$lib/pkgconfig/smallwood.pc"
