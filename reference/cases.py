@@ -15,6 +15,7 @@ from hashlib import shake_256
 from itertools import combinations
 
 import smallwood as S
+from arguments import Arguments
 from calls import (
     SALT_LENGTHS, blinded_sizes, commit_calls, exchanged_salt, length_calls, open_calls, other_salts,
     permutations_calls, salt_of, version_1, version_2, with_version, without_salt,
@@ -681,6 +682,7 @@ def program_cases(cases=None):
 
 
 def main():
+    Arguments(__doc__).parse_args()
     total = shake_256()
     checks = []
 

@@ -11,9 +11,11 @@ import hashlib
 import importlib.util
 import random
 import sys
+from importlib.machinery import SourceFileLoader
 from itertools import product
 
 import smallwood as S
+from arguments import Arguments, present
 from smallwood import Q, ProofQuestion, Question, Sizes
 
 counts = {"passed": 0, "failed": 0}
@@ -752,7 +754,7 @@ def test_before(rng, path):
 
     A module of version 1 knows no blinding rows: there are none, then.
     """
-    spec = importlib.util.spec_from_file_location("before", path)
+    spec = importlib.util.spec_from_file_location("before", path, loader=SourceFileLoader("before", str(path)))
     before = importlib.util.module_from_spec(spec)
     spec.loader.exec_module(before)
     version = before.VERSION
@@ -1318,11 +1320,12 @@ def test_interpolate_refused():
 
 
 def main():
+    parser = Arguments(__doc__)
+    parser.add_argument("--before", metavar="FILE", type=present, help="an older smallwood.py")
+    before = parser.parse_args().before
     rng = random.Random(1)
-    if sys.argv[1:2] == ["--before"] and len(sys.argv) == 3:
-        test_before(rng, sys.argv[2])
-    elif sys.argv[1:]:
-        sys.exit(__doc__)
+    if before:
+        test_before(rng, before)
     test_small_instances()
     test_case_p()
     test_hash()

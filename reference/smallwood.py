@@ -807,4 +807,7 @@ def counts_line(input_bytes):
 
 
 if __name__ == "__main__":
+    from arguments import Arguments
+
+    Arguments(__doc__).parse_args()
     sys.stdout.buffer.write(program(sys.stdin.buffer.read(INPUT_LIMIT)))

@@ -19,8 +19,17 @@
 set -eu
 . "$(dirname "$0")/common.sh"
 
+takes='--archive --before --stand-in'
 read_options "$@"
+one_word
+[ "$word_count" -eq 1 ] || word=all
+case $word in
+    all | times | proofs | interpolation | growth | stack | instructions) ;;
+    *) fail "no such table: $word (--help names them)" ;;
+esac
 need_compiler
+[ "$word" != instructions ] || need valgrind "to count instructions"
+need_before
 find_archive smallwood
 find_before smallwood
 
@@ -116,8 +125,7 @@ instructions_of_interpolation() {
     done
 }
 
-# shellcheck disable=SC2086
-set -- $words
+set -- "$word"
 case ${1:-all} in
     all)
         "$build/bench"
@@ -138,7 +146,6 @@ case ${1:-all} in
         fi
         ;;
     instructions)
-        need valgrind "to count instructions"
         instructions
         instructions_of_interpolation
         ;;

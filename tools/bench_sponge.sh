@@ -13,10 +13,13 @@
 set -eu
 . "$(dirname "$0")/common.sh"
 
+takes='--archive --before'
 read_options "$@"
+no_words
 need_compiler
+need_archive
+need_before
 has_openssl EVP_shake256 || fail "OpenSSL's headers are not installed (Debian: libssl-dev)"
-[ "$stand_in" = no ] || fail "there is no stand-in for the sponge"
 find_archive sponge_bench
 find_before sponge_bench
 

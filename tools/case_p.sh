@@ -1,12 +1,17 @@
-#!/usr/bin/env bash
-# Proves and builds the checking program, and runs it on case P of document 01.
-set -euo pipefail
-cd "$(dirname "$0")/.."
+#!/bin/sh
+# Proves and builds the checking program, and runs it on case P of document 01. What it prints is all that stands on
+# standard output.
+#
+#     tools/case_p.sh
+#
+# Needs rt.
 
-command -v rt >/dev/null 2>&1 || { echo "missing: rt (the Rattle kit)" >&2; exit 1; }
-mkdir -p target
-if ! rt check verdict >target/case_p.log 2>&1; then
-    tail -n 20 target/case_p.log >&2
-    exit 1
-fi
-target/bin/verdict <crates/verdict/stdin
+set -eu
+. "$(dirname "$0")/common.sh"
+
+read_options "$@"
+no_words
+need rt "to prove and build the checking program"
+program=$root/target/bin/verdict
+built "$program" rt check verdict
+exec "$program" < "$root/crates/verdict/stdin"

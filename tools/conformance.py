@@ -9,7 +9,6 @@ Numbers, every slice after the call, the bytes beside the slices and the program
 The last line is a summary; the exit status is 1 after a difference.
 """
 
-import argparse
 import struct
 import subprocess
 import sys
@@ -19,6 +18,7 @@ from collections import Counter
 from pathlib import Path
 
 import paths  # noqa: F401  (makes the modules below importable)
+from arguments import Arguments, runnable, whole
 from calls import CommitCall, LengthCall, OpenCall, PermutationsCall
 from cases import (
     CHECK_GROUPS, CheckCase, commit_calls, honest_cases, length_calls, open_calls, permutations_calls, place_cases,
@@ -410,12 +410,13 @@ class Run:
 
 
 def main():
-    parser = argparse.ArgumentParser(description=__doc__.split("\n")[0])
-    parser.add_argument("caller", help="conformance.c linked with the archive")
-    parser.add_argument("--program", help="the compiled checking program")
-    parser.add_argument("--counts", help="the compiled program `counts`")
-    parser.add_argument("--long", type=int, metavar="N", help="N drawn inputs, and the program on every case")
-    parser.add_argument("--seed", type=int, default=1, help="of the first %d drawn inputs (default 1)" % BLOCK)
+    parser = Arguments(__doc__)
+    parser.add_argument("caller", metavar="CALLER", type=runnable, help="conformance.c linked with the archive")
+    parser.add_argument("--program", metavar="FILE", type=runnable, help="the compiled checking program")
+    parser.add_argument("--counts", metavar="FILE", type=runnable, help="the compiled program `counts`")
+    parser.add_argument("--long", metavar="N", type=whole, help="N drawn inputs, and the program on every case")
+    seed_help = "of the first %d drawn inputs (default 1)" % BLOCK
+    parser.add_argument("--seed", metavar="N", type=whole, default=1, help=seed_help)
     options = parser.parse_args()
     start, run = time.time(), Run(options.caller, options.program, options.counts)
     try:

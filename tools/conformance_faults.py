@@ -7,13 +7,13 @@ like the library; the first label that differs is shown. A copy without an edit 
 is 1 when a fault is not found.
 """
 
-import argparse
 import shutil
 import subprocess
 import sys
 from pathlib import Path
 
 from conformance import DRAWN, EVERY, Broken, Caller, call_groups, program_differences, program_groups
+from arguments import Arguments  # (conformance makes it importable)
 
 PLAIN = Path(__file__).resolve().parent / "plain"
 
@@ -1056,10 +1056,14 @@ def first_difference(folder, calls, programs):
 
 
 def main():
-    parser = argparse.ArgumentParser(description=__doc__.split("\n")[0])
-    parser.add_argument("folder", type=Path)
-    parser.add_argument("--cc", default="gcc")
+    parser = Arguments(__doc__)
+    parser.add_argument("folder", metavar="FOLDER", type=Path, help="where the copies are built; it is made")
+    parser.add_argument("--cc", metavar="COMPILER", default="gcc", help="the C compiler (default gcc)")
     options = parser.parse_args()
+    if shutil.which(options.cc) is None:
+        parser.error("'%s' is not installed; it is needed to compile the copies" % options.cc)
+    if options.folder.exists() and not options.folder.is_dir():
+        parser.error("'%s' is no folder" % options.folder)
     calls = [call for _, group in call_groups(DRAWN, 1) for call in group]
     checks = [call for call in calls if call.entry == "check" and not call.label.startswith("drawn")]
     programs = [(case, run) for _, cases, run in program_groups(checks, EVERY) for case in cases]

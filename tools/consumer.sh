@@ -17,6 +17,7 @@ takes='--archive --stand-in'
 read_options "$@"
 no_words
 need_compiler
+need_archive
 need g++ "to link from C++"
 find_archive smallwood
 outside=$(mktemp -d)

@@ -18,8 +18,9 @@ from pathlib import Path
 from random import SystemRandom
 from subprocess import PIPE, Popen
 
-import paths  # noqa: F401  (makes the module below importable)
+import paths  # noqa: F401  (makes the modules below importable)
 import smallwood
+from arguments import Arguments
 from smallwood import DIGEST_BYTES, HEADER_BYTES, Q, Question, Sizes, evaluate, to_bytes, to_words
 
 EXAMPLES = Path(__file__).resolve().parent.parent / "examples"
@@ -290,19 +291,25 @@ def try_readers(badge, path):
     print("ok: no reader holds a badge for longer than its time")
 
 
-def main(words):
-    if len(words) == 2 and words[0] == "polynomials":
-        draw_polynomials(words[1])
-    elif len(words) == 3 and words[0] == "values":
-        compare_values(*words[1:])
-    elif len(words) == 2 and words[0] in ("forged", "honest"):
-        compare_forged(words[1], words[0] == "honest")
-    elif len(words) == 3 and words[0] == "readers":
-        try_readers(*words[1:])
-    else:
-        print(__doc__.strip(), file=sys.stderr)
-        sys.exit(2)
+TASKS = {
+    "polynomials": (draw_polynomials, "FILE"),
+    "values": (compare_values, "FILE LOG"),
+    "honest": (lambda log: compare_forged(log, True), "LOG"),
+    "forged": (lambda log: compare_forged(log, False), "LOG"),
+    "readers": (try_readers, "BADGE FILE"),
+}
+
+
+def main():
+    parser = Arguments(__doc__)
+    parser.add_argument("task", choices=TASKS)
+    parser.add_argument("words", nargs="*")
+    given = parser.parse_args()
+    task, words = TASKS[given.task]
+    if len(given.words) != len(words.split()):
+        parser.error("%s takes %s" % (given.task, words))
+    task(*given.words)
 
 
 if __name__ == "__main__":
-    main(sys.argv[1:])
+    main()

@@ -9,11 +9,13 @@ A panel for each size that doubles, both axes logarithmic and of the same scale 
 growth are of the same steepness. Exit status 2 where the table is missing or malformed.
 """
 
-import argparse
 import sys
 from html import escape
 from math import ceil, floor, log2, log10
 from pathlib import Path
+
+import paths  # noqa: F401  (makes the module below importable)
+from arguments import Arguments, present, writable
 
 DOCS = Path(__file__).resolve().parent.parent / "docs"
 
@@ -199,19 +201,20 @@ def picture(found):
 
 
 def main():
-    parser = argparse.ArgumentParser(description=__doc__.split("\n")[0])
+    parser = Arguments(__doc__)
     parser.add_argument("--check", action="store_true", help="compare the stored picture, and write nothing")
-    parser.add_argument("--from", dest="source", type=Path, default=DOCS / "BENCHMARKS.md", metavar="FILE")
-    parser.add_argument("--to", dest="target", type=Path, default=DOCS / "growth.svg", metavar="FILE")
+    parser.add_argument("--from", dest="source", type=present, default=DOCS / "BENCHMARKS.md", metavar="FILE")
+    parser.add_argument("--to", dest="target", type=writable, default=DOCS / "growth.svg", metavar="FILE")
     options = parser.parse_args()
+    if options.check and not options.target.is_file():
+        parser.error("there is no picture %s" % options.target)
     try:
         drawn = picture(panels(options.source.read_text(encoding="utf-8"))).encode()
     except (Malformed, OSError, UnicodeDecodeError) as error:
-        print("%s: no table of growth as bench.c prints it: %s" % (options.source, error), file=sys.stderr)
-        return 2
+        parser.error("%s: no table of growth as bench.c prints it: %s" % (options.source, error))
     if not options.check:
         options.target.write_bytes(drawn)
-    elif not options.target.is_file() or options.target.read_bytes() != drawn:
+    elif options.target.read_bytes() != drawn:
         print("%s is not what the table gives" % options.target, file=sys.stderr)
         return 1
     return 0

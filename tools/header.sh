@@ -7,7 +7,8 @@
 #     --archive FILE     tests this archive and does not build the library
 #     --stand-in         tests the plain C implementation, to test these tools; its names are not looked at
 #
-# Needs gcc, g++ and binutils, and rt unless an archive is given; clang and clang++ are used where they are installed.
+# Needs gcc, g++, nm, objcopy and objdump, and rt unless an archive is given. Where they are installed, clang and clang++
+# compile the header too.
 
 set -eu
 . "$(dirname "$0")/common.sh"
@@ -16,8 +17,9 @@ takes='--archive --stand-in'
 read_options "$@"
 no_words
 need_compiler
+need_archive
 need g++ "to compile the header as C++"
-for tool in nm objcopy objdump; do need "$tool" "to look at the archive's names (Debian: binutils)"; done
+for tool in nm objcopy objdump; do need "$tool" "to look at the archive (Debian: binutils)"; done
 draws=20000
 warnings='-Wall -Wextra -Wpedantic -Wconversion -Wsign-conversion -Wshadow -Werror'
 headers='smallwood.h smallwood_wipe.h'
@@ -77,7 +79,8 @@ compile_all() {
             done
         done
     done
-    echo "header: $compiled times compiled, C99, C11, C17, C++11 and C++17, without a warning; $(cat "$build/arrays") lengths as sizes of arrays"
+    echo "header: compiled $compiled times, as C99, C11, C17, C++11 and C++17, without a warning, with" \
+        "$(cat "$build/arrays") lengths as sizes of arrays"
 }
 
 # Drift must be an error: each change of a declaration in a copy of the header must be refused beside tools/entries.h.

@@ -15,11 +15,13 @@
 5. No file under crates/ has over 500 lines, stored data aside; no line of .rt and .antt files over 400 characters.
 6. A crate's proofs/Lib.antt with over two modules says first what they are.
 """
-import argparse
 import pathlib
 import re
 import sys
 import tempfile
+
+import paths  # noqa: F401  (makes the module below importable)
+from arguments import Arguments
 
 DOCS = ("README.md", "docs/PROMISES.md", "docs/DECISIONS.md")
 MOST_LINES, LONGEST_LINE, LONG_LINE = 500, 400, 240
@@ -888,10 +890,11 @@ def selftest():
 
 
 def main():
-    parser = argparse.ArgumentParser(description=__doc__, formatter_class=argparse.RawDescriptionHelpFormatter)
-    parser.add_argument("--list-unused", action="store_true", help="unused names alone, for machines")
-    parser.add_argument("--prune", action="store_true", help="take unused names out of `use` lines")
-    parser.add_argument("--selftest", action="store_true", help="test these checks")
+    parser = Arguments(__doc__)
+    one = parser.add_mutually_exclusive_group()
+    one.add_argument("--list-unused", action="store_true", help="unused names alone, for machines")
+    one.add_argument("--prune", action="store_true", help="take unused names out of `use` lines")
+    one.add_argument("--selftest", action="store_true", help="test these checks")
     given = parser.parse_args()
     if given.selftest:
         return selftest()

@@ -14,8 +14,9 @@ set -eu
 takes='--archive'
 read_options "$@"
 [ "$word_count" = 1 ] || fail "it needs one prefix, such as \$HOME/smallwood"
-prefix=${words# }
+prefix=$word
 [ ! -e "$prefix" ] || [ -d "$prefix" ] || fail "$prefix is no directory"
+need_archive
 version=$(library_version)
 find_archive smallwood
 

@@ -7,14 +7,16 @@
 #     --archive FILE     counts in this archive and does not build the library
 #     --stand-in         counts in the plain C implementation, one string at a time, to test these tools
 #
-# Needs gcc, valgrind, binutils, and rt unless an archive is given. The library's permutation is a function of its own:
+# Needs gcc, valgrind, nm, and rt unless an archive is given. The library's permutation is a function of its own:
 # callgrind counts its calls inside smallwood_check. Where an archive has no such function, there is nothing to count,
 # and exit status is 2.
 
 set -eu
 . "$(dirname "$0")/common.sh"
 
+takes='--archive --stand-in'
 read_options "$@"
+no_words
 need_compiler
 need valgrind "to count calls"
 need nm "to look for the permutation in the archive (Debian: binutils)"
@@ -22,7 +24,8 @@ permutation=permutation::keccak_f
 [ "$stand_in" = no ] || permutation=permute
 pairs=0
 find_archive smallwood
-nm "$archive" | grep -q " [tT] $permutation\$" || fail "$archive has no function $permutation whose calls can be counted"
+nm "$archive" | grep -q " [tT] $permutation\$" ||
+    fail "$archive has no function $permutation whose calls can be counted"
 
 object keccak.o plain/keccak.c
 object plain.o plain/plain.c

@@ -1,4 +1,4 @@
-/* Verdicts without a restart:  soak FILE [SECONDS]     (12 hours unless told otherwise)
+/* Verdicts without a restart:  soak FILE SECONDS
  *
  * FILE has inputs of the check, of the check of a proof and of the interpolation with their expected outcomes
  * (soak_inputs.py). They are called in drawn order. In between, questions are drawn for commitments made at the
@@ -26,7 +26,6 @@
 
 ENTRIES(smallwood);
 
-#define DEFAULT_SECONDS (12 * 60 * 60)
 #define GUARD 64
 #define GUARD_BYTE 0xa5
 #define ALLOWED_GROWTH 256 /* kB of resident memory: what the C library and the kernel may need */
@@ -36,6 +35,8 @@ ENTRIES(smallwood);
 #define MOST_KAPPA 8       /* of a drawn proof */
 #define MAX_QUESTION 255
 #define MOST_SAMPLES 320   /* of a drawn interpolation */
+#define BEGINNING 10       /* seconds with a line each; later one after LINE_EVERY, and a sample a second */
+#define LINE_EVERY 9       /* so that never ten pass without one */
 
 static void differ(const char *what, size_t number, uint32_t found, uint32_t expected)
 {
@@ -612,12 +613,14 @@ static void check_fresh(size_t which)
 
 /* ---- Time and memory ----------------------------------------------------------------------------- */
 
-static double now(void)
+static double begun, shown; /* shown: the seconds of the last line */
+
+static double seconds(void)
 {
     struct timespec t;
 
     clock_gettime(CLOCK_MONOTONIC, &t);
-    return (double)t.tv_sec + 1e-9 * (double)t.tv_nsec;
+    return (double)t.tv_sec + 1e-9 * (double)t.tv_nsec - begun;
 }
 
 /* VmRSS in kB. */
@@ -638,62 +641,96 @@ static long resident(void)
     return size;
 }
 
-static void progress(double seconds, long size)
+static void progress(double elapsed, long size)
 {
+    shown = elapsed;
     printf("%8.0f s  %" PRIu64 " verdicts (%.0f a second), %" PRIu64 " openings, %" PRIu64 " proofs, %" PRIu64
            " interpolations, VmRSS %ld kB;",
-           seconds, verdicts, (double)verdicts / seconds, opened, proved, interpolated, size);
+           elapsed, verdicts, (double)verdicts / elapsed, opened, proved, interpolated, size);
     for (int i = 0; i < NUMBERS; i++)
         printf(" %d:%" PRIu64, i, by_number[i]);
     puts("");
     fflush(stdout);
 }
 
-int main(int count, char **words)
+static int is_line_due(double elapsed)
 {
-    double limit = count > 2 ? atof(words[2]) : DEFAULT_SECONDS, begun, elapsed = 0, sampled = 0;
-    long start, most;
+    return elapsed >= shown + (elapsed < BEGINNING ? 1 : LINE_EVERY);
+}
 
-    if (count < 2 || limit <= 0) {
-        fputs("usage: soak FILE [SECONDS]\n", stderr);
-        return 2;
-    }
-    load_inputs(words[1]);
-    make_commitments();
-    begun = now();
-    for (uint32_t i = 0; i < input_count; i++)
+static void show_when_due(void)
+{
+    double elapsed = seconds();
+
+    if (is_line_due(elapsed))
+        progress(elapsed, resident());
+}
+
+/* Every input once, and a question for every commitment. */
+static void first_pass(void)
+{
+    for (uint32_t i = 0; i < input_count; i++) {
         check_input(i);
-    for (uint32_t i = 0; i < interpolation_count; i++)
+        show_when_due();
+    }
+    for (uint32_t i = 0; i < interpolation_count; i++) {
         interpolate_input(i);
+        show_when_due();
+    }
     for (size_t i = 0; i < COMMITMENTS; i++)
         check_fresh(i);
-    progress(now() - begun, resident());
-    start = most = resident(); /* after the first line: what printing and sampling need is there */
+    progress(seconds(), resident());
+}
+
+static void one_round(void)
+{
+    for (int i = 0; i < FRESH_EVERY; i++)
+        check_input(draw_below(input_count));
+    for (int i = 0; i < INTERPOLATIONS; i++)
+        interpolate_input(draw_below(interpolation_count));
+    check_fresh(draw_below(COMMITMENTS));
+    interpolate_fresh();
+}
+
+/* Rounds until so many seconds have passed. */
+static int soak(double limit)
+{
+    double elapsed = 0, sampled = shown;
+    long start = resident(), most = start; /* after the first line: what printing and sampling need is there */
+
     while (elapsed < limit) {
         long size;
-        for (int i = 0; i < FRESH_EVERY; i++)
-            check_input(draw_below(input_count));
-        for (int i = 0; i < INTERPOLATIONS; i++)
-            interpolate_input(draw_below(interpolation_count));
-        check_fresh(draw_below(COMMITMENTS));
-        interpolate_fresh();
-        elapsed = now() - begun;
+        one_round();
+        elapsed = seconds();
         if (elapsed < sampled + 1 && elapsed < limit)
             continue;
+        sampled = elapsed;
         size = resident();
         most = size > most ? size : most;
-        /* A line every second in the first ten, then every minute. */
-        if (elapsed < 10 || (long)elapsed / 60 != (long)sampled / 60 || elapsed >= limit ||
-            most > start + ALLOWED_GROWTH)
+        if (is_line_due(elapsed) || elapsed >= limit || most > start + ALLOWED_GROWTH)
             progress(elapsed, size);
         if (most > start + ALLOWED_GROWTH) {
             printf("soak: memory grows: from %ld to %ld kB\n", start, most);
             return 1;
         }
-        sampled = elapsed;
     }
     printf("soak: %" PRIu64 " verdicts in %.0f s without a restart, all equal; VmRSS from %ld to at most "
            "%ld kB\n",
            verdicts, elapsed, start, most);
     return 0;
+}
+
+int main(int count, char **words)
+{
+    double limit = count == 3 ? atof(words[2]) : 0;
+
+    if (limit <= 0) {
+        fputs("usage: soak FILE SECONDS\n", stderr);
+        return 2;
+    }
+    load_inputs(words[1]);
+    make_commitments();
+    begun = seconds();
+    first_pass();
+    return soak(limit);
 }

@@ -10,9 +10,10 @@ and coefficients, and the expected number, then points, values, coefficients bef
 """
 
 import struct
-import sys
+import time
 
 import paths  # noqa: F401  (makes the modules below importable)
+from arguments import Arguments, writable
 from cases import CHECK_GROUPS, CheckCase, honest_cases
 from drawn import drawn_inputs
 from interpolations import InterpolateCall, refused_interpolations
@@ -20,6 +21,7 @@ from proofs import PROOF_GROUPS, ProofCase, honest_proofs
 from smallwood import to_bytes
 
 DRAWN = 5000
+LINE_EVERY = 3  # seconds
 
 
 def inputs():
@@ -46,15 +48,28 @@ def written_interpolation(case):
     return struct.pack("<4I", *lengths, case.number) + b"".join(map(to_bytes, slices))
 
 
-def main(path):
-    cases = list(inputs())
+def shown(cases):
+    """The same, with a line from time to time."""
+    shown_at = time.monotonic()
+    for number, case in enumerate(cases):
+        if time.monotonic() >= shown_at + LINE_EVERY:
+            shown_at = time.monotonic()
+            print("soak inputs: %d made" % number, flush=True)
+        yield case
+
+
+def main():
+    parser = Arguments(__doc__)
+    parser.add_argument("path", metavar="FILE", type=writable, help="to be written")
+    path = parser.parse_args().path
+    cases = list(shown(inputs()))
     checks = [written_check(case) for case in cases if isinstance(case, (CheckCase, ProofCase))]
     interpolations = [written_interpolation(case) for case in cases if isinstance(case, InterpolateCall)]
     with open(path, "wb") as file:
         for written in checks, interpolations:
             file.write(struct.pack("<I", len(written)) + b"".join(written))
-    print("%d checks, %d interpolations written" % (len(checks), len(interpolations)))
+    print("soak inputs: %d checks, %d interpolations written" % (len(checks), len(interpolations)), flush=True)
 
 
 if __name__ == "__main__":
-    main(sys.argv[1])
+    main()

@@ -14,6 +14,9 @@ import hashlib
 import pathlib
 import sys
 
+import paths  # noqa: F401  (makes the module below importable)
+from arguments import only_check
+
 STDOUT = pathlib.Path(__file__).resolve().parent.parent / "crates" / "vectors" / "stdout"
 
 # NIST's published examples for FIPS 202: SHAKE256 of 0 bits and of 1600 bits, the first 32 bytes of each.
@@ -42,6 +45,7 @@ def leaf_string(salt, index, values_and_nonce):
 
 
 def main():
+    check = only_check(__doc__)
     for message, published in PUBLISHED:
         if digest(message) != published:
             sys.exit("hashlib disagrees with a published example of %d bytes" % len(message))
@@ -55,13 +59,11 @@ def main():
     lines += [draw(pattern[:n], size) for n in STRINGS for size in DRAWN]
     lines += [draw(pattern[: p + t], 137) for p in PREFIXES for t in TAILS]
     text = "".join(line + "\n" for line in lines)
-    if sys.argv[1:] == []:
+    if not check:
         STDOUT.write_text(text)
-    elif sys.argv[1:] == ["--check"]:
-        if STDOUT.read_text() != text:
-            sys.exit("%s is not what hashlib gives" % STDOUT)
-    else:
-        sys.exit(__doc__)
+    elif not STDOUT.is_file() or STDOUT.read_text() != text:
+        sys.exit("%s is not what hashlib gives" % STDOUT)
 
 
-main()
+if __name__ == "__main__":
+    main()

@@ -21,6 +21,7 @@ sys.dont_write_bytecode = True
 sys.path.insert(0, str(ROOT / "reference"))
 
 import smallwood as S  # noqa: E402
+from arguments import only_check  # noqa: E402
 from calls import exchanged_salt, version_1, version_2, with_version, without_salt  # noqa: E402
 from drafts import Lent, Source, ask, case_p, committed, honest, lend, name, product, simulated, vanishing  # noqa: E402
 from faults import levels_with, wrong_batchings, wrong_lines, wrong_strings  # noqa: E402
@@ -311,17 +312,17 @@ def differing(stored, folder):
             yield str(path.relative_to(ROOT))
 
 
-def compare_or_write(files, folder, usage):
-    """With --check compares the files with what is stored, else writes them; the folder has no others."""
-    stored = dict(files)
-    if sys.argv[1:] == ["--check"]:
+def compare_or_write(files, folder, about):
+    """With --check compares the files with what is stored, else writes them; the folder has no others. The files are
+    made once the program's arguments, which --help tells with `about`, are taken."""
+    check = only_check(about)
+    stored = dict(files())
+    if check:
         wrong = list(differing(stored, folder))
         for path in wrong:
             print("not what the second implementation gives:", path)
         print("%d stored files, %d differ" % (len(stored), len(wrong)))
         sys.exit(1 if wrong else 0)
-    if sys.argv[1:]:
-        sys.exit(usage)
     for path in differing(stored, folder):
         (ROOT / path).unlink(missing_ok=True)
     for path, data in stored.items():
@@ -331,4 +332,4 @@ def compare_or_write(files, folder, usage):
 
 
 if __name__ == "__main__":
-    compare_or_write(files(), "crates/cases/data", __doc__)
+    compare_or_write(files, "crates/cases/data", __doc__)

@@ -108,4 +108,4 @@ def files():
 
 
 if __name__ == "__main__":
-    compare_or_write(files(), CRATE + "data", __doc__)
+    compare_or_write(files, CRATE + "data", __doc__)

@@ -23,6 +23,7 @@ sys.dont_write_bytecode = True
 sys.path.insert(0, str(ROOT / "reference"))
 
 import smallwood as S  # noqa: E402
+from arguments import only_check  # noqa: E402
 from calls import version_2, with_version  # noqa: E402
 from drafts import Lent  # noqa: E402
 from smallwood import Q, Question, Sizes  # noqa: E402
@@ -435,10 +436,13 @@ def compare_with_version_2(lines, expected):
         sys.exit("the runs that are not about the salt are not those of version 2, but for the salt")
 
 
-def compare_or_write(path, output):
+def compare_or_write(path, output, about):
+    """With --check compares the output with what is stored, else writes it. It is made once the program's arguments,
+    which --help tells with `about`, are taken."""
+    check = only_check(about)
     made = output()
-    if sys.argv[1:] == ["--check"]:
-        if path.read_bytes() != made:
+    if check:
+        if not path.is_file() or path.read_bytes() != made:
             sys.exit("%s differs" % path.relative_to(ROOT))
         print("as stored: %s" % path.relative_to(ROOT))
     else:
@@ -446,4 +450,4 @@ def compare_or_write(path, output):
 
 
 if __name__ == "__main__":
-    compare_or_write(STORED, output)
+    compare_or_write(STORED, output, __doc__)

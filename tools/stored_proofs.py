@@ -300,4 +300,4 @@ def output():
 
 
 if __name__ == "__main__":
-    compare_or_write(STORED, output)
+    compare_or_write(STORED, output, __doc__)
