@@ -15,9 +15,10 @@
  *   Overlap     A slice or a number that a call writes overlaps no other of that call. Slices that a call only reads may overlap.
  *   Threads     No entry keeps anything between calls: no globals, no heap, no files. Any number of threads may call at once on slices
  *               of their own; slices that are only read may be shared.
- *   Stack       A commit takes about 18 kilobytes, an open 7, a check 52 (measured). It is not wiped: see below.
- *               A prove and a check_proof hold the string that draws the leaves: at most 17 kilobytes more than an open and a check.
- *               An interpolate takes about 5 kilobytes.
+ *   Stack       Bytes that a call takes at most (measured): commit 19,000; open 7,500; prove 24,000; interpolate 5,600; check 52,000;
+ *               check_proof 69,000; reply_length 1,000; permutations 1,000. The first use of memcpy or memset takes some 2,000 more where
+ *               they are bound lazily. On a stack too small a call dies at the guard page: frames are probed page by page. What was used is
+ *               not wiped: see "What stays in memory".
  *   Order       Words are in the machine's order. Multi-byte numbers in questions, replies, proofs and checked values are little-endian.
  *
  * What a reply shows
@@ -45,11 +46,19 @@
  *
  * What stays in memory
  *
- *   From the dead stack after a commit every mask and some whole rows can be computed, and after an open, at some sizes, a mask
- *   (measured before there were blinding rows). Overwrite 32 kilobytes of stack after either call, or call on a stack of your own and wipe
- *   that. A prove makes its answers as an open does: do the same after it. An interpolate leaves on the dead stack what gives, with the
- *   points, every value and coefficient, and after a 13 values or what is left of them (by its source, not measured): do the same after it
- *   where values are secret. Coefficients, tails, blinds, masks, nonces and the table are the caller's to wipe; the salt is no secret.
+ *   The stack that a call used is not wiped, and all that stays there is to be taken for secret. From it can be computed, at ten small
+ *   sizes that were looked at: after a commit every mask, and at five of them one to three whole rows; after an open or a prove, at six of
+ *   them, the last mask; after an interpolate every value, where it returns 13 too (the handbook has more, "Secrets in memory"). So after
+ *   each of these calls, in the same function, call smallwood_wipe_stack of smallwood_wipe.h; or call on a stack of your own and wipe that.
+ *   Coefficients, tails, blinds, masks, nonces and the table are the caller's to wipe, by smallwood_wipe; the salt is no secret.
+ *
+ * Timing
+ *
+ *   Measured under valgrind on the archive's machine code, not proved; an archive that another compiler made may differ. In a commit and an
+ *   open one branch depends on secrets: whether all lent words are below q. No address does, and neither divides. In an interpolate one
+ *   branch, the same, depends on the values, and no address; branches and divisors depend on the points. A prove draws its counter and its
+ *   leaves by hashing the answers, which the proof shows: branches and addresses depend on that. On table, nonces and tree it depends as
+ *   an open does. A check is lent no secrets, and was not looked at.
  *
  * What an accepted reply shows
  *
@@ -332,7 +341,7 @@ uint32_t smallwood_check(const uint8_t *question, size_t question_length,
  * About one counter in 2^kappa qualifies. With a limit of 64 * 2^kappa an 11 has a probability of about e^-64. After an 11 nothing has
  * been shown, and the same call with a greater limit may follow: the proof is the same for every limit above its counter.
  * The time is that of an open, and one or two permutations of Keccak for each counter tried. It depends on the answers that the proof
- * shows, through the number of counters tried, which is the counter in it and 1.
+ * shows, through the number of counters tried, which is the counter in it and 1, and through the leaves drawn.
  */
 uint32_t smallwood_prove(const uint8_t *question, size_t question_length,
                          uint32_t kappa, uint32_t limit,
@@ -378,7 +387,7 @@ uint32_t smallwood_check_proof(const uint8_t *question, size_t question_length,
  * What stood in coefficients before is not looked at, and may be anything.
  *
  * The time grows with the square of the number of points, and depends on the points: inversions take a number of steps that depends on
- * them, and divide. No branch and no address depends on the values, but for whether all are below q (measured, not proved).
+ * them, and divide. No branch and no address depends on the values, but for whether all are below q (see "Timing" above).
  */
 uint32_t smallwood_interpolate(const uint32_t *points, size_t points_length,
                                const uint32_t *values, size_t values_length,

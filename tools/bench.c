@@ -20,18 +20,16 @@
  * and may lack the entries for permutations and interpolation. Permutations are those of strings with a salt. */
 #define _GNU_SOURCE
 #include <inttypes.h>
-#include <pthread.h>
 #include <stdio.h>
 #include <stdlib.h>
 #include <string.h>
-#include <sys/mman.h>
 
 #include "bench_interpolation.h"
 #include "bench_operations.h"
 #include "bench_proofs.h"
+#include "painted_stack.h"
 
 #define STACK_BYTES ((size_t)16 << 20)
-#define STACK_BYTE 0x5a
 
 /* ---- Times --------------------------------------------------------------------------------------- */
 
@@ -137,17 +135,16 @@ struct stack_call {
     uint32_t number;
 };
 
-static void *no_call(void *data)
+static void no_call(void *data)
 {
-    return data;
+    (void)data;
 }
 
-static void *call_on_thread(void *data)
+static void call_on_stack(void *data)
 {
     struct stack_call *c = data;
 
     c->number = call(c->with, c->operation, c->a);
-    return NULL;
 }
 
 struct stack_interpolation {
@@ -156,35 +153,23 @@ struct stack_interpolation {
     uint32_t number;
 };
 
-static void *interpolate_on_thread(void *data)
+static void interpolate_on_stack(void *data)
 {
     struct stack_interpolation *c = data;
 
     c->number = interpolate_with(c->implementation, c->a, 0);
-    return NULL;
 }
 
-/* Bytes of a painted stack that a thread with this work has touched. */
-static size_t touched(void *(*work)(void *), void *data)
+/* Bytes of a painted stack that this work has touched. */
+static size_t touched(stack_work *work, void *data)
 {
-    uint8_t *stack = mmap(NULL, STACK_BYTES, PROT_READ | PROT_WRITE,
-                          MAP_PRIVATE | MAP_ANONYMOUS | MAP_STACK, -1, 0);
-    pthread_attr_t attributes;
-    pthread_t thread;
-    size_t at = 0;
+    uint8_t *stack = paint_stack(STACK_BYTES);
+    size_t bytes;
 
-    if (stack == MAP_FAILED)
-        fail("no memory for a stack");
-    memset(stack, STACK_BYTE, STACK_BYTES);
-    if (pthread_attr_init(&attributes) != 0 ||
-        pthread_attr_setstack(&attributes, stack, STACK_BYTES) != 0 ||
-        pthread_create(&thread, &attributes, work, data) != 0 || pthread_join(thread, NULL) != 0)
-        fail("no thread");
-    pthread_attr_destroy(&attributes);
-    while (at < STACK_BYTES && stack[at] == STACK_BYTE)
-        at++;
+    run_on_stack(stack, STACK_BYTES, work, data);
+    bytes = (size_t)(stack + STACK_BYTES - lowest_touched(stack, STACK_BYTES));
     munmap(stack, STACK_BYTES);
-    return STACK_BYTES - at;
+    return bytes;
 }
 
 static const enum operation stack_operations[] = {COMMIT, OPEN, CHECK, PROVE, CHECK_PROOF};
@@ -195,7 +180,7 @@ static size_t stack_of(size_t implementation, enum operation operation, struct s
 {
     struct instance *a = prepared(s, operation);
     struct stack_call c = {&implementations[implementation], operation, a, 0};
-    size_t used = touched(call_on_thread, &c);
+    size_t used = touched(call_on_stack, &c);
 
     if (c.number != 0)
         fail("an honest call was refused");
@@ -230,7 +215,7 @@ static void show_stack_of_interpolation(size_t base)
     for (size_t i = 0; i < IMPLEMENTATIONS; i++)
         if (in_interpolation(i)) {
             struct stack_interpolation c = {i, a, 0};
-            size_t used = touched(interpolate_on_thread, &c);
+            size_t used = touched(interpolate_on_stack, &c);
             if (c.number != 0)
                 fail("an honest call was refused");
             printf("%s %zu (%s)", i == 0 ? "" : ",", used > base ? used - base : 0, shown_names[i]);
@@ -243,8 +228,7 @@ static void show_stack(void)
 {
     size_t base = touched(no_call, NULL);
 
-    puts("\nBytes of stack that one call uses: a painted stack's touched part, less that of a thread without a "
-         "call.\n");
+    puts("\nBytes of stack that one call uses: a painted stack's touched part, less that of no call.\n");
     printf(SIZES_HEAD);
     for (size_t i = 0; i < IMPLEMENTATIONS; i++)
         for (size_t o = 0; o < STACK_OPERATIONS; o++)

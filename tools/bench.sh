@@ -49,7 +49,7 @@ else
 fi
 # With all symbols bound at the start, no count includes the linker's work.
 # shellcheck disable=SC2086
-"$CC" $CFLAGS "$tools/bench.c" "$tools/instance.c" $objects "$archive" $with -lpthread -Wl,-z,now -o "$build/bench"
+"$CC" $CFLAGS "$tools/bench.c" "$tools/instance.c" $objects "$archive" $with -Wl,-z,now -o "$build/bench"
 
 # cells HAS COUNT: what COUNT says of each of $names, and the ratios of the library to the others; empty where HAS fails.
 cells() {

@@ -1,5 +1,6 @@
 #include "instance.h"
 
+#include "lent_slices.h"
 #include "older.h"
 
 #include <stdio.h>
@@ -252,28 +253,11 @@ void ask_leaves(struct instance *a, uint32_t first, uint32_t step)
     end_question(a);
 }
 
-/* What several entries are lent, one after the other. */
-#define WORDS                                                                                      \
-    a->coefficients, a->coefficient_count, a->tails, a->tail_count, a->blinds, a->blind_count,     \
-        a->masks, a->mask_count
-#define TABLE a->table, a->table_count
-#define NONCES a->nonces, a->nonce_bytes
-#define SALT a->salt, a->salt_bytes
-#define TREE a->tree, a->tree_bytes
-#define OLDER_TREE a->older_tree, a->tree_bytes
-#define QUESTION a->question, a->question_bytes
-#define OLDER_QUESTION a->older_question, a->question_bytes - SALT_BYTES
-#define PROOF_QUESTION a->proof_question, a->proof_question_bytes
-#define OLDER_PROOF_QUESTION a->older_proof_question, a->proof_question_bytes - SALT_BYTES
-
 uint32_t commit_with(const struct implementation *with, struct instance *a)
 {
-    const struct sizes *s = &a->s;
-
     if (with->older)
-        return AS_OLDER(older_commit, with->commit)(s->h, s->mu, s->nu, s->w, s->l, s->eta, s->beta, WORDS, NONCES,
-                                                    TABLE, OLDER_TREE);
-    return with->commit(s->h, s->mu, s->nu, s->w, s->l, s->eta, s->beta, WORDS, NONCES, SALT, TABLE, TREE);
+        return AS_OLDER(older_commit, with->commit)(SIZES_LENT, WORDS, NONCES, TABLE, OLDER_TREE);
+    return with->commit(SIZES_LENT, WORDS, NONCES, SALT, TABLE, TREE);
 }
 
 uint32_t reply_length_with(const struct implementation *with, struct instance *a)
@@ -293,7 +277,7 @@ uint32_t open_with(const struct implementation *with, struct instance *a)
     if (with->older)
         return AS_OLDER(older_open, with->open)(OLDER_QUESTION, WORDS, TABLE, NONCES, OLDER_TREE, a->older_reply,
                                                 a->reply_bytes, &a->length);
-    return with->open(QUESTION, WORDS, TABLE, NONCES, SALT, TREE, a->reply, a->reply_bytes, &a->length);
+    return with->open(QUESTION, WORDS, TABLE, NONCES, SALT, TREE, REPLY, &a->length);
 }
 
 uint32_t check_with(const struct implementation *with, struct instance *a)
@@ -316,8 +300,7 @@ uint32_t prove_with(const struct implementation *with, struct instance *a, uint3
     if (with->older)
         return AS_OLDER(older_prove, with->prove)(OLDER_PROOF_QUESTION, kappa, limit, WORDS, TABLE, NONCES,
                                                   OLDER_TREE, a->older_proof, a->proof_bytes, &a->older_proof_length);
-    return with->prove(PROOF_QUESTION, kappa, limit, WORDS, TABLE, NONCES, SALT, TREE, a->proof, a->proof_bytes,
-                       &a->proof_length);
+    return with->prove(PROOF_QUESTION, kappa, limit, WORDS, TABLE, NONCES, SALT, TREE, PROOF, &a->proof_length);
 }
 
 uint32_t check_proof_with(const struct implementation *with, struct instance *a, uint32_t kappa)

@@ -1,4 +1,4 @@
-/* Drawn inputs of all entries for given sizes, for soak.c, bench.c and permutations.c. */
+/* Drawn inputs of all entries for given sizes, for soak.c, bench.c, permutations.c and what includes secrets.h. */
 #ifndef INSTANCE_H
 #define INSTANCE_H
 
