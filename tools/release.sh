@@ -3,12 +3,12 @@
 # the sums of all that. The same commit and the same kit give the same bytes.
 #
 #     tools/release.sh               packs it into target/release/, unpacks it elsewhere and tries it
-#     tools/release.sh --twice       packs it in two fresh clones, all proved from nothing in each, and compares the sums:
-#                                    a quarter of an hour on two cores
+#     tools/release.sh --twice       packs it in two fresh clones, all proved from nothing in each, and compares the
+#                                    sums: a quarter of an hour on two cores
 #     tools/release.sh --rebuilt     builds the archive once more, in a fresh clone that takes over the crates proved
 #                                    here, and compares the sums
 #
-# Needs git, rt, gcc, GNU tar and gzip. It packs a commit: the work tree must be clean.
+# Needs git, rt, gcc, python3, GNU tar and gzip. It packs a commit: the work tree must be clean.
 
 set -eu
 . "$(dirname "$0")/common.sh"
@@ -22,6 +22,7 @@ esac
 need git "to name the commit"
 need rt "to prove and build the library"
 need_compiler
+need_python
 need tar "to pack"
 need gzip "to pack"
 tar --version 2> /dev/null | grep -q GNU || fail "tar must be GNU tar"
@@ -43,7 +44,7 @@ sum_of() {
 fill() {
     "$tools/install.sh" "$1" --archive "$archive" > "$build/installed"
     mkdir "$1/docs" "$1/examples" "$1/vectors"
-    for file in docs/HANDBOOK.md docs/PROMISES.md docs/DECISIONS.md docs/BENCHMARKS.md docs/*.svg examples/*.[ch] vectors/*; do
+    for file in docs/*.md docs/*.svg examples/*.[ch] vectors/*.*; do
         cp "$root/$file" "$1/$file"
     done
     sed -e "s/@VERSION@/$version/" -e "s/@NAME@/$name/g" "$root/packaging/README.md" > "$1/README.md"
@@ -65,12 +66,17 @@ pack() {
     rm -rf "${outside:?}/$name"
 }
 
-# What a stranger does who has the packed file alone.
+# What a stranger does who has the packed file alone: sums, a program, and the vectors.
 try_packed() {
     tar -C "$outside" -xzf "$packed"
     (cd "$outside/$name" && sha256sum --quiet -c SHA256SUMS) || fail "a sum in $packed is wrong"
-    "$CC" -std=c11 "$outside/$name/examples/first.c" -I"$outside/$name/include" -L"$outside/$name/lib" -lsmallwood -o "$outside/first"
-    "$outside/first"
+    (
+        cd "$outside/$name"
+        "$CC" -std=c11 examples/first.c -Iinclude -Llib -lsmallwood -o "$outside/first"
+        "$outside/first"
+        "$CC" -shared -Wl,--whole-archive lib/libsmallwood.a -Wl,--no-whole-archive -o "$outside/libsmallwood.so"
+        python3 vectors/run.py "$outside/libsmallwood.so"
+    )
     [ "$(sum_of "$outside/$name/lib/libsmallwood.a")" = "$(sum_of "$archive")" ] || fail "another archive is packed"
 }
 
@@ -85,7 +91,8 @@ case $words in
         git clone -q "$root" "$outside/clone"
         mkdir "$outside/clone/target"
         cp -a "$root/target/rlib" "$root/target/stamp" "$outside/clone/target/"
-        (cd "$outside/clone" && rt staticlib smallwood) > "$build/rt.log" 2>&1 || fail "rt staticlib failed in a fresh clone"
+        (cd "$outside/clone" && rt staticlib smallwood) > "$build/rt.log" 2>&1 ||
+            fail "rt staticlib failed in a fresh clone"
         one=$(sum_of "$archive") two=$(sum_of "$outside/clone/target/staticlib/libsmallwood.a")
         [ "$one" = "$two" ] || fail "the archive built in another clone differs: $one and $two"
         echo "release: the archive built in another clone is the same, $one"

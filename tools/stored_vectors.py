@@ -15,6 +15,7 @@ from pathlib import Path
 
 import paths  # noqa: F401  (makes the modules below importable)
 import smallwood as S
+from arguments import only_check
 from calls import COMMIT_SIZES
 from vectors import NOTES, NUMBERS, StringGroup
 from vectors_calls import (
@@ -183,12 +184,10 @@ def differing(texts):
 
 
 def main():
-    if sys.argv[1:] not in ([], ["--check"]):
-        print("stored_vectors.py: takes --check or nothing, not: %s" % " ".join(sys.argv[1:]), file=sys.stderr)
-        return 2
+    check = only_check(__doc__)
     texts = made()
     wrong = list(differing(texts))
-    if sys.argv[1:]:
+    if check:
         for name in wrong:
             print("not what the second implementation gives: vectors/%s" % name)
         print("%d stored files, %d differ" % (len(texts), len(wrong)))

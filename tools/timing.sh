@@ -11,7 +11,7 @@
 #     --stand-in         looks at the plain C implementation, to test these tools: its commit and its open have more
 #                        branches on secrets; exit status 1 where they are not found
 #
-# Needs gcc, valgrind with its header <valgrind/memcheck.h>, binutils, and rt unless an archive is given.
+# Needs gcc, valgrind with its header <valgrind/memcheck.h>, objdump, and rt unless an archive is given.
 
 set -eu
 . "$(dirname "$0")/common.sh"
@@ -20,6 +20,7 @@ takes='--archive --stand-in'
 read_options "$@"
 no_words
 need_compiler
+need_archive
 need valgrind "to see what depends on secrets"
 need objdump "to look for divisions (Debian: binutils)"
 echo '#include <valgrind/memcheck.h>' | "$CC" -E - > /dev/null 2>&1 ||

@@ -8,7 +8,9 @@
 #
 # The stored vectors have to be what the second implementation gives, and the library has to pass them as vectors/run.py
 # runs them: as a shared library, which any other implementation can be. Then copies of the files are damaged, and stubs
-# have faults: the runner has to report each. Needs gcc and python3, and rt unless there is an archive or the stand-in.
+# have faults: the runner has to report each.
+#
+# Needs gcc and python3, and rt unless an archive is given.
 
 set -eu
 . "$(dirname "$0")/common.sh"
@@ -18,6 +20,7 @@ read_options "$@"
 no_words
 need_compiler
 need_python
+need_archive
 if [ "$stand_in" = yes ]; then
     CFLAGS="$CFLAGS -fPIC"
 fi

@@ -7,7 +7,6 @@ as they are. Stubs with a fault each (vectors_stub.c) are run on one case. All i
 where something is not reported, or not with the exit status that it should have.
 """
 
-import argparse
 import contextlib
 import copy
 import io
@@ -22,7 +21,9 @@ TOOLS = Path(__file__).resolve().parent
 VECTORS = TOOLS.parent / "vectors"
 sys.path.insert(0, str(VECTORS))
 
+import paths  # noqa: E402, F401  (makes the module below importable)
 import run  # noqa: E402
+from arguments import Arguments, present  # noqa: E402
 
 DIFFERENT, REFUSED = 1, 2  # what the runner returns after a difference, and where it does not understand
 TOO_MANY = 2**20  # added to a number
@@ -245,8 +246,8 @@ def unreported_words(library, folder, counts):
 
 
 def main():
-    parser = argparse.ArgumentParser(description=__doc__.split("\n")[0])
-    parser.add_argument("library", type=Path)
+    parser = Arguments(__doc__)
+    parser.add_argument("library", type=present)
     parser.add_argument("folder", type=Path)
     parser.add_argument("--cc", default="gcc")
     options = parser.parse_args()
