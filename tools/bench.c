@@ -5,6 +5,7 @@
  *     bench proofs               time of proving and of checking a proof beside the conversation's, at all sizes
  *     bench interpolation        time of interpolating over any points, at numbers of points from 1 to 320
  *     bench growth               how the times of the library and of plain C grow with each size
+ *     bench products CHOICE..    what worked products cost; tools/sizes.py --choices prints the choices of sizes
  *     bench stack                stack that committing, opening, checking, proving, checking a proof, interpolating use
  *     bench names                the implementations, one to a line
  *     bench sizes                the numbers of the sizes, one to a line
@@ -26,6 +27,7 @@
 
 #include "bench_interpolation.h"
 #include "bench_operations.h"
+#include "bench_products.h"
 #include "bench_proofs.h"
 #include "painted_stack.h"
 
@@ -316,6 +318,8 @@ int main(int count, char **words)
         interpolate_once(words[2], words[3]);
     } else if (count == 3 && strcmp(mode, "has-any") == 0) {
         return interpolate_entries[implementation_named(words[2])] == NULL;
+    } else if (count > 2 && strcmp(mode, "products") == 0) {
+        show_products(words + 2, count - 2);
     } else if (strcmp(mode, "names") == 0) {
         for (size_t i = 0; i < IMPLEMENTATIONS; i++)
             printf("%s\n", implementations[i].name);
@@ -335,8 +339,8 @@ int main(int count, char **words)
         if (all || strcmp(mode, "stack") == 0)
             show_stack();
     } else {
-        fail("usage: bench [times | proofs | interpolation | growth | stack | names | sizes | once OP SIZE NAME | "
-             "row OP SIZE | has OP NAME | once-any N NAME | has-any NAME]");
+        fail("usage: bench [times | proofs | interpolation | growth | stack | products CHOICE.. | names | sizes | "
+             "once OP SIZE NAME | row OP SIZE | has OP NAME | once-any N NAME | has-any NAME]");
     }
     return 0;
 }

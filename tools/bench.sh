@@ -1,10 +1,10 @@
 #!/bin/sh
 # Cost of the library beside the plain C implementation; prints Markdown tables.
 #
-#     tools/bench.sh                   times, proofs, interpolation, growth, stack, and instructions where valgrind is
-#                                      installed
-#     tools/bench.sh times             one of: times, proofs, interpolation, growth, stack, instructions; interpolation
-#                                      has its instructions, too
+#     tools/bench.sh                   times, proofs, interpolation, growth, stack, products where python3 is installed,
+#                                      and instructions where valgrind is
+#     tools/bench.sh times             one of: times, proofs, interpolation, growth, stack, products, instructions;
+#                                      interpolation has its instructions, too
 #
 #     --archive FILE     measures this archive and does not build the library
 #     --before FILE      measures this older archive too, in the same runs: the tables have it as `before`. Its
@@ -24,11 +24,12 @@ read_options "$@"
 one_word
 [ "$word_count" -eq 1 ] || word=all
 case $word in
-    all | times | proofs | interpolation | growth | stack | instructions) ;;
+    all | times | proofs | interpolation | growth | stack | products | instructions) ;;
     *) fail "no such table: $word (--help names them)" ;;
 esac
 need_compiler
 [ "$word" != instructions ] || need valgrind "to count instructions"
+[ "$word" != products ] || need python3 "for the sizes of the products (tools/sizes.py)"
 need_before
 find_archive smallwood
 find_before smallwood
@@ -125,10 +126,22 @@ instructions_of_interpolation() {
     done
 }
 
+# The sizes that a planner chooses between, for each worked product.
+products() {
+    choices=$(python3 "$tools/sizes.py" --choices)
+    # shellcheck disable=SC2086
+    "$build/bench" products $choices
+}
+
 set -- "$word"
 case ${1:-all} in
     all)
         "$build/bench"
+        if command -v python3 > /dev/null 2>&1; then
+            products
+        else
+            echo "python3 is not installed: products are not measured"
+        fi
         if command -v valgrind > /dev/null 2>&1; then
             instructions
             instructions_of_interpolation
@@ -137,6 +150,7 @@ case ${1:-all} in
         fi
         ;;
     times | proofs | growth | stack) exec "$build/bench" "$1" ;;
+    products) products ;;
     interpolation)
         "$build/bench" interpolation
         if command -v valgrind > /dev/null 2>&1; then

@@ -49,11 +49,18 @@ EXTRA = {
     "conformance_faults.py": (("folder", "--cc", "no-such-compiler"), (TEXT,)),
     "growth_svg.py": (("--from", TEXT), ("--check", "--to", "absent.svg")),
     "house.py": (("--prune", "--selftest"),),
+    "sizes.py": (
+        (), ("--bits", "80"), ("--coefficients", "34", "--polynomials", "4"), ("--check", "--selftest"),
+        ("--coefficients", "34", "--polynomials", "4", "--bits", "129"), ("--check", "--bits", "80"),
+        ("--leaves", "256", "--columns", "4", "--bits", "80", "--eta", "4"),
+        ("--leaves", "300", "--columns", "4", "--bits", "80"),
+    ),
+    "sizes_svg.py": (("--from", TEXT), ("--check", "--to", "absent.svg")),
     "soak_inputs.py": ((".",),),
 }  # fmt: skip
 LACKING = {
     "bench.sh": (
-        (("instructions",), "valgrind"), (("--stand-in",), "ar"),
+        (("instructions",), "valgrind"), (("products",), "python3"), (("--stand-in",), "ar"),
         *((("--archive", ARCHIVE, "--before", ARCHIVE), tool) for tool in ("ld", "nm", "objcopy")),
     ),
     "bench_sponge.sh": tuple((("--before", ARCHIVE), tool) for tool in ("ld", "nm", "objcopy")),

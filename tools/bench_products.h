@@ -1,0 +1,187 @@
+/* The table of worked products: what a reply, a commit, an open and a check cost at the sizes that a planner chooses
+ * between. tools/sizes.py has the products and their sizes; tools/bench.sh hands them on. */
+#ifndef BENCH_PRODUCTS_H
+#define BENCH_PRODUCTS_H
+
+#include "bench_operations.h"
+
+#define QUESTIONS 16 /* whose replies are checked in turn: how many nodes a check hashes depends on the leaves */
+
+/* Sizes with the least l for so many bits, by the leaf term. */
+struct choice {
+    char product[32];
+    uint32_t bits;
+    struct sizes s;
+};
+
+/* From product,bits,h,mu,nu,w,l,eta,m,beta. */
+static struct choice read_choice(const char *word)
+{
+    struct choice c;
+    struct sizes *s = &c.s;
+    int end = -1;
+
+    sscanf(word, "%31[^,],%u,%u,%u,%u,%u,%u,%u,%u,%u%n", c.product, &c.bits, &s->h, &s->mu, &s->nu, &s->w, &s->l,
+           &s->eta, &s->m, &s->beta, &end);
+    if (end < 0 || word[end] != '\0' || s->h < 1 || s->h > 12)
+        fail("a choice is product,bits,h,mu,nu,w,l,eta,m,beta");
+    return c;
+}
+
+static int is_library(size_t implementation)
+{
+    return implementation == 0;
+}
+
+static struct timing time_of(struct instance *a, enum operation operation)
+{
+    struct timing found[IMPLEMENTATIONS];
+
+    compare(a, operation);
+    measure(a, operation, is_library, found);
+    return found[0];
+}
+
+/* ---- Checks, each of several questions in turn ---------------------------------------------------------- */
+
+struct conversation {
+    struct instance *a;
+    uint8_t *questions[QUESTIONS], *replies[QUESTIONS];
+    uint64_t lengths[QUESTIONS];
+    double permutations; /* the mean */
+};
+
+static void take_question(struct conversation *c, size_t n)
+{
+    c->a->question = c->questions[n];
+    c->a->reply = c->replies[n];
+    c->a->length = c->lengths[n];
+}
+
+/* Draws the questions to what is committed, and lets them be answered and checked; `a` keeps the last one. */
+static void converse(struct conversation *c)
+{
+    struct instance *a = c->a;
+
+    c->permutations = 0;
+    for (size_t n = 0; n < QUESTIONS; n++) {
+        if (n > 0) {
+            a->question = allocate(a->question_bytes);
+            a->reply = allocate(a->proof_bytes); /* no reply is longer */
+        }
+        ask(a);
+        prepare(a, OPEN);
+        compare(a, CHECK);
+        c->questions[n] = a->question;
+        c->replies[n] = a->reply;
+        c->lengths[n] = a->length;
+        c->permutations += (double)permutations(a, CHECK) / QUESTIONS;
+    }
+}
+
+static double run_checks(size_t implementation, void *what, uint64_t times)
+{
+    struct conversation *c = what;
+    double start = now();
+
+    for (uint64_t i = 0; i < times; i++) {
+        take_question(c, i % QUESTIONS);
+        call(&implementations[implementation], CHECK, c->a);
+    }
+    return (now() - start) / (double)times;
+}
+
+static struct timing time_of_checks(struct conversation *c)
+{
+    uint64_t times = calls_of_run(run_checks(0, c, QUESTIONS));
+    struct timing found[IMPLEMENTATIONS];
+    size_t library = 0;
+
+    measure_in_turn(run_checks, c, (times + QUESTIONS - 1) / QUESTIONS * QUESTIONS, &library, 1, found);
+    return found[0];
+}
+
+static void end_conversation(struct conversation *c)
+{
+    for (size_t n = 1; n < QUESTIONS; n++) {
+        free(c->questions[n]);
+        free(c->replies[n]);
+    }
+    take_question(c, 0);
+}
+
+/* ---- The table --------------------------------------------------------------------------------------- */
+
+/* Nodes above the opened leaves, where each set of l leaves is as likely as any other: a node on a level is above none
+ * of them where all are among the leaves that are not below it. */
+static double mean_nodes_above(const struct sizes *s)
+{
+    double leaves = (double)(1u << s->h), mean = 0;
+
+    for (uint32_t level = 1; level <= s->h; level++) {
+        double below = (double)(1u << level), none = 1;
+        for (uint32_t i = 0; i < s->l; i++)
+            none *= below < leaves - i ? (leaves - below - i) / (leaves - i) : 0;
+        mean += leaves / below * (1 - none);
+    }
+    return mean;
+}
+
+static void show_time(struct timing t)
+{
+    printf("| %.1f (%.1f) ", 1e6 * t.least, 1e6 * t.median);
+}
+
+static void show_choice(const struct choice *c)
+{
+    struct conversation talk = {.a = prepared(c->s, COMMIT)};
+    struct instance *a = talk.a;
+    struct timing commit = time_of(a, COMMIT), open, check;
+
+    ask(a);
+    open = time_of(a, OPEN);
+    converse(&talk);
+    check = time_of_checks(&talk);
+    end_conversation(&talk);
+    printf("| %s | %u ", c->product, c->bits);
+    print_sizes(&c->s);
+    printf("| %zu | %.0f ", a->proof_bytes - COUNTER_BYTES,
+           (double)a->reply_bytes + ROOT_BYTES * (mean_nodes_above(&a->s) - (double)nodes_above(a)));
+    printf("| %" PRIu64 " ", permutations(a, COMMIT));
+    show_time(commit);
+    show_time(open);
+    printf("| %.1f ", talk.permutations);
+    show_time(check);
+    puts("|");
+    fflush(stdout);
+    free_instance(a);
+}
+
+/* tools/sizes_tables.py and tools/sizes_svg.py read this table by the names of its columns. */
+static void begin_products(void)
+{
+    printf("\nWorked products: bytes of a reply (the bound with l h nodes, and the mean over all sets of leaves), "
+           "permutations of a commit and of a check, and microseconds of processor time for one call of the library, "
+           "least (median) of %d runs. Checks are those of %d drawn questions in turn, and their permutations the mean "
+           "of these.\n\n",
+           ROUNDS, QUESTIONS);
+    puts("| product | k " SIZES_HEAD "| reply bound | mean reply | commit permutations | commit | open | check "
+         "permutations | check |");
+    for (int i = 0; i < SIZES_COLUMNS + 9; i++)
+        printf("|---");
+    puts("|");
+}
+
+static void show_products(char **words, int count)
+{
+    struct choice *choices = allocate((size_t)count * sizeof *choices);
+
+    for (int i = 0; i < count; i++)
+        choices[i] = read_choice(words[i]);
+    begin_products();
+    for (int i = 0; i < count; i++)
+        show_choice(&choices[i]);
+    free(choices);
+}
+
+#endif
