@@ -4,6 +4,7 @@
  *
  *     cc -std=c11 first.c $(pkg-config --cflags --libs smallwood) -o first
  */
+#include <errno.h>
 #include <inttypes.h>
 #include <stdio.h>
 #include <stdlib.h>
@@ -34,8 +35,20 @@ static void must(const char *what, uint32_t verdict)
 
 static void draw_bytes(void *to, size_t count)
 {
-    if (getrandom(to, count, 0) != (ssize_t)count) /* whole up to 256 bytes, unless a signal comes */
-        must("random bytes", SMALLWOOD_BAD_LENGTH);
+    uint8_t *next = (uint8_t *)to;
+
+    while (count > 0) {
+        ssize_t got = getrandom(next, count, 0);
+
+        if (got < 0 && errno == EINTR)
+            continue;
+        if (got <= 0) {
+            printf("the system gives no random bytes\n");
+            exit(1);
+        }
+        next += got;
+        count -= (size_t)got;
+    }
 }
 
 /* A word that is not below q is drawn again: a remainder would make small elements likelier. */
@@ -78,8 +91,7 @@ int main(void)
     draw_elements(tails, COUNT(tails));
     draw_elements(blinds, COUNT(blinds));
     draw_elements(masks, COUNT(masks));
-    for (size_t i = 0; i < sizeof nonces; i += 32)
-        draw_bytes(nonces + i, 32);
+    draw_bytes(nonces, sizeof nonces);
     draw_bytes(salt, sizeof salt);
 
     must("commit", smallwood_commit(H, MU, NU, W, L, ETA, BETA, coefficients, COUNT(coefficients), tails, COUNT(tails), blinds, COUNT(blinds),

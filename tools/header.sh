@@ -56,29 +56,29 @@ write_users() {
     cp "$build/both.c" "$build/both.cc"
 }
 
+# compile_by SUFFIX STANDARDS COMPILERS...: every user of that suffix by each of the compilers that are installed
+compile_by() {
+    suffix=$1
+    standards=$2
+    shift 2
+    for compiler; do
+        command -v "$compiler" > /dev/null 2>&1 || { echo "header: $compiler is not installed: left out"; continue; }
+        for standard in $standards; do
+            for user in "$build"/alone_*."$suffix" "$build/both.$suffix"; do
+                must_compile "$compiler" "$standard" "$root/include" "$user"
+                compiled=$((compiled + 1))
+            done
+        done
+    done
+}
+
 compile_all() {
     write_users
     grep -c '^extern unsigned char array_' "$build/both.c" > "$build/arrays"
     [ "$(cat "$build/arrays")" -gt 10 ] || fail "the header's macros for lengths were not found"
     compiled=0
-    for compiler in "$CC" clang; do
-        command -v "$compiler" > /dev/null 2>&1 || { echo "header: $compiler is not installed: left out"; continue; }
-        for standard in c99 c11 c17; do
-            for user in "$build"/alone_*.c "$build/both.c"; do
-                must_compile "$compiler" "$standard" "$root/include" "$user"
-                compiled=$((compiled + 1))
-            done
-        done
-    done
-    for compiler in g++ clang++; do
-        command -v "$compiler" > /dev/null 2>&1 || { echo "header: $compiler is not installed: left out"; continue; }
-        for standard in c++11 c++17; do
-            for user in "$build"/alone_*.cc "$build/both.cc"; do
-                must_compile "$compiler" "$standard" "$root/include" "$user"
-                compiled=$((compiled + 1))
-            done
-        done
-    done
+    compile_by c 'c99 c11 c17' "$CC" clang
+    compile_by cc 'c++11 c++17' g++ clang++
     echo "header: compiled $compiled times, as C99, C11, C17, C++11 and C++17, without a warning, with" \
         "$(cat "$build/arrays") lengths as sizes of arrays"
 }
