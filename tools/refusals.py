@@ -33,10 +33,12 @@ LIMIT = 5  # seconds; a refusal takes a tenth of one, and the machine may be bus
 WATCHED = "rt gcc cc clang g++ c++ clang++ ld ar nm objcopy objdump valgrind".split()
 NUMBERS = ("N", "S", "SECONDS")  # values that are whole numbers from 1 on
 FILES = ("FILE", "CALLER")  # values that are files that have to be there, or to be written in a folder that is there
-TAKEN = {"CALLER": "/bin/sh", **dict.fromkeys(NUMBERS, "5")}  # words that are right; for all others "made"
 
 # Files in the folder in which all is tried.
 ARCHIVE, TEXT, ABSENT = "archive.a", "text", "no-such-folder/no-such-file"
+
+# Words that are right; for all others "made".
+TAKEN = {"CALLER": "/bin/sh", "FILE": TEXT, **dict.fromkeys(NUMBERS, "5")}
 
 # What does not follow from --help: words that are to be refused, and words with the tool that is missing then.
 EXTRA = {
@@ -223,7 +225,7 @@ class Help:
 
     def needs(self):
         """The tools that it says it needs; None where it says nothing."""
-        sentence = re.search(r"^Needs\b(.*?)(?:\.\s|\.$|\Z)", self.text, re.S | re.M)
+        sentence = re.search(r"(?:^|\.\s)Needs\b(.*?)(?:\.\s|\.$|\Z)", self.text, re.S | re.M)
         tools = {*WATCHED, "python3", *re.findall(r"\bneed ([\w+-]+)", self.source)}
         return sentence and sorted(tools.intersection(re.findall(r"[\w+-]+", sentence[1])))
 
