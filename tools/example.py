@@ -13,6 +13,7 @@ import re
 import sys
 import threading
 import time
+from argparse import ArgumentTypeError
 from collections import namedtuple
 from pathlib import Path
 from random import SystemRandom
@@ -20,7 +21,7 @@ from subprocess import PIPE, Popen
 
 import paths  # noqa: F401  (makes the modules below importable)
 import smallwood
-from arguments import Arguments
+from arguments import Arguments, present, runnable, writable
 from smallwood import DIGEST_BYTES, HEADER_BYTES, Q, Question, Sizes, evaluate, to_bytes, to_words
 
 EXAMPLES = Path(__file__).resolve().parent.parent / "examples"
@@ -291,24 +292,29 @@ def try_readers(badge, path):
     print("ok: no reader holds a badge for longer than its time")
 
 
+# Word: what is done, and the files that it takes.
 TASKS = {
-    "polynomials": (draw_polynomials, "FILE"),
-    "values": (compare_values, "FILE LOG"),
-    "honest": (lambda log: compare_forged(log, True), "LOG"),
-    "forged": (lambda log: compare_forged(log, False), "LOG"),
-    "readers": (try_readers, "BADGE FILE"),
+    "polynomials": (draw_polynomials, (writable,)),
+    "values": (compare_values, (present, present)),
+    "honest": (lambda log: compare_forged(log, True), (present,)),
+    "forged": (lambda log: compare_forged(log, False), (present,)),
+    "readers": (try_readers, (runnable, present)),
 }
 
 
 def main():
     parser = Arguments(__doc__)
     parser.add_argument("task", choices=TASKS)
-    parser.add_argument("words", nargs="*")
+    parser.add_argument("files", nargs="*", metavar="FILE")
     given = parser.parse_args()
-    task, words = TASKS[given.task]
-    if len(given.words) != len(words.split()):
-        parser.error("%s takes %s" % (given.task, words))
-    task(*given.words)
+    task, kinds = TASKS[given.task]
+    if len(given.files) != len(kinds):
+        parser.error("%s takes %d files" % (given.task, len(kinds)))
+    try:
+        files = [str(kind(word)) for kind, word in zip(kinds, given.files)]
+    except ArgumentTypeError as error:
+        parser.error(str(error))
+    task(*files)
 
 
 if __name__ == "__main__":

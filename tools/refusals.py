@@ -89,6 +89,7 @@ class Place:
         self.link_tools(folder / "watched")
         home = {"PATH": str(self.path), "HOME": str(self.here), "PYTHONDONTWRITEBYTECODE": "1"}
         self.environment = {k: v for k, v in os.environ.items() if k not in ("CC", "CFLAGS")} | home
+        self.known = self.files()
 
     def link_tools(self, watched):
         for folder in os.environ["PATH"].split(os.pathsep):
@@ -100,6 +101,11 @@ class Place:
         for tool, target in [*((name, watched) for name in WATCHED), ("python3", sys.executable)]:
             (self.path / tool).unlink(missing_ok=True)
             (self.path / tool).symlink_to(target)
+
+    def written(self):
+        """Files that are new, changed or gone since this was asked before."""
+        before, self.known = self.known, self.files()
+        return sorted(path for path in {*before, *self.known} if before.get(path) != self.known.get(path))
 
     def files(self):
         """Every file with its time and size, but for the folders: an empty one may be made."""
@@ -121,7 +127,6 @@ class Run:
     def __init__(self, place, program, words, lacking=None, limit=LIMIT):
         self.name, self.words, self.lacking = program.name, words, lacking
         place.called.write_text("")
-        before = place.files()
         hidden = lacking and os.path.lexists(place.path / lacking)
         if hidden:
             (place.path / lacking).rename(place.aside / lacking)
@@ -140,8 +145,7 @@ class Run:
         if hidden:
             (place.aside / lacking).rename(place.path / lacking)
         self.called = place.called.read_text().split()
-        after = place.files()
-        self.wrote = sorted(path for path in {*before, *after} if before.get(path) != after.get(path))
+        self.wrote = place.written()
 
     def shown(self):
         return " ".join([self.name, *(word or "''" for word in self.words)]) + (
@@ -340,11 +344,13 @@ def control_faults(place, act, limit=1):
     script = place.copy / "tools" / "control.sh"
     script.write_text(CONTROL % act)
     script.chmod(0o755)
+    place.written()
     try:
         return faults_of(place, script, limit)[1]
     finally:
         script.unlink()
         (place.here / "left").unlink(missing_ok=True)
+        place.written()
 
 
 def controls_missed(place):

@@ -11,6 +11,7 @@ import contextlib
 import copy
 import io
 import json
+import shutil
 import subprocess
 import sys
 from collections import Counter
@@ -251,6 +252,8 @@ def main():
     parser.add_argument("folder", type=Path)
     parser.add_argument("--cc", default="gcc")
     options = parser.parse_args()
+    if shutil.which(options.cc) is None:
+        parser.error("'%s' is not installed; it is needed to compile the stubs" % options.cc)
     options.folder.mkdir(parents=True, exist_ok=True)
     counts, failed = Counter(), []
     failed += unreported_damages(options.library, options.folder, counts)
