@@ -128,6 +128,11 @@ need_archive() {
     fi
 }
 
+# prove_and_archive CRATE: `rt staticlib` alone proves one crate after the other, `rt check` two at a time.
+prove_and_archive() {
+    rt check "$1" && rt staticlib "$1"
+}
+
 # find_archive CRATE: sets archive: the one given, the stand-in, or the crate's, which rt proves and writes. The
 # stand-in is compiled with -DPLAIN_PAIRS=$pairs.
 pairs=1
@@ -146,7 +151,7 @@ find_archive() {
         echo "stand-in: the plain C implementation under the library's names, PLAIN_PAIRS=$pairs"
     else
         archive=$root/target/staticlib/lib$1.a
-        built "$archive" rt staticlib "$1"
+        built "$archive" prove_and_archive "$1"
     fi
 }
 
