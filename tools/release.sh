@@ -66,18 +66,27 @@ pack() {
     rm -rf "${outside:?}/$name"
 }
 
-# What a stranger does who has the packed file alone: sums, a program, and the vectors.
+# What a stranger does who has the packed file alone: the lines of its page as they stand there, sums, and the vectors.
 try_packed() {
-    tar -C "$outside" -xzf "$packed"
-    (cd "$outside/$name" && sha256sum --quiet -c SHA256SUMS) || fail "a sum in $packed is wrong"
+    mkdir "$outside/stranger"
+    cp "$packed" "$outside/stranger/"
     (
-        cd "$outside/$name"
-        "$CC" -std=c11 examples/first.c -Iinclude -Llib -lsmallwood -o "$outside/first"
-        "$outside/first"
-        "$CC" -shared -Wl,--whole-archive lib/libsmallwood.a -Wl,--no-whole-archive -o "$outside/libsmallwood.so"
-        python3 vectors/run.py "$outside/libsmallwood.so"
+        cd "$outside/stranger"
+        tar -xzOf "$(basename "$packed")" "$name/README.md" | sed -n 's/^    //p' > lines
+        [ "$(wc -l < lines)" = 3 ] || fail "the release's page has not its three lines"
+        if command -v pkg-config > /dev/null 2>&1; then
+            sh -eu lines
+        else
+            tar -xzf "$(basename "$packed")"
+            "$CC" -std=c11 "$name/examples/first.c" -I"$name/include" -L"$name/lib" -lsmallwood -o first
+            ./first
+        fi
+        cd "$name"
+        sha256sum --quiet -c SHA256SUMS || fail "a sum in $packed is wrong"
+        "$CC" -shared -Wl,--whole-archive lib/libsmallwood.a -Wl,--no-whole-archive -o ../libsmallwood.so
+        python3 vectors/run.py ../libsmallwood.so
+        cmp lib/libsmallwood.a "$archive" || fail "another archive is packed"
     )
-    [ "$(sum_of "$outside/$name/lib/libsmallwood.a")" = "$(sum_of "$archive")" ] || fail "another archive is packed"
 }
 
 case $words in
