@@ -6,7 +6,7 @@
 #
 #     --archive FILE     installs this archive and does not build the library
 #
-# Needs rt unless an archive is given: it proves the library first, from nothing in about seven minutes on two cores.
+# Needs rt unless an archive is given: it proves the library first, from nothing in seven to eight minutes on two cores.
 
 set -eu
 . "$(dirname "$0")/common.sh"
