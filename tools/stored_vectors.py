@@ -27,7 +27,7 @@ from vectors_strings import string_groups
 
 FOLDER = Path(__file__).resolve().parent.parent / "vectors"
 ALGORITHM = "SmallWood polynomial commitment, q = 4294967291, SHAKE256 cut to 32 bytes"
-COUNTS = "<!-- counts, by tools/stored_vectors.py -->\n", "<!-- end of counts -->\n"
+COUNTS = "<!-- counts -->\n", "<!-- end of counts -->\n"
 UNCHANGED = "unchanged"  # the outputs of a refusal
 
 VECTORS = {
@@ -117,7 +117,7 @@ def whole(entry, groups):
         "algorithm": ALGORITHM,
         "entry": entry,
         "questionVersion": S.VERSION,
-        "generator": "tools/stored_vectors.py, by the second implementation in reference/",
+        "generator": "the second implementation, in Python",
         "fields": "vectors/README.md says what they mean",
         "numberOfTests": sum(len(group["tests"]) for group in groups),
         "notes": {flag: note for flag, note in NOTES.items() if flag in flags},
