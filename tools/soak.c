@@ -512,7 +512,7 @@ static void expect_none_below(struct instance *a, uint32_t kappa, uint32_t count
     uint32_t number;
 
     memcpy(kept, a->proof, a->proof_bytes);
-    number = prove_with(&library, a, kappa, counter);
+    number = counted(prove_with(&library, a, kappa, counter));
     if (number != 11 || a->proof_length != length || memcmp(kept, a->proof, a->proof_bytes) != 0)
         differ("no counter, commitment", which, number, 11);
     free(kept);
