@@ -77,7 +77,8 @@ look() {
             for (name in stopped) expected[name] += 0
             for (name in expected) {
                 function_name = name
-                if (stopped[name] + 0 != expected[name]) find("ud2 " (stopped[name] + 0) " times, expected " expected[name])
+                times = stopped[name] + 0
+                if (times != expected[name]) find("ud2 " times " times, expected " expected[name])
             }
             for (name in kinds) different++
             print (count + 0) " instructions, " (different + 0) " kinds"
@@ -144,10 +145,11 @@ later mulx "$number _mulx_u64(a, b, c); }" -mbmi2
 later movbe "$number __builtin_bswap64(*c) + a + b; }" -mmovbe
 later adcx "$number ({ __asm__(\"adcx %1, %0\" : \"+r\"(a) : \"r\"(b)); a + *c; }); }" -madx
 later lahf "$number ({ __asm__(\"lahf\" ::: \"rax\"); a + b + *c; }); }" -msahf
-later 'lock cmpxchg16b' 'int control(__int128 *a, __int128 b) { return __sync_bool_compare_and_swap(a, b, b + 1); }' -mcx16
+later 'lock cmpxchg16b' 'int control(__int128 *a) { return __sync_bool_compare_and_swap(a, 1, 2); }' -mcx16
 later 'ud2 1 times, expected 0' 'void control(void) { __builtin_trap(); }' -march=x86-64
 
 controls=$((controls + 1))
 ! grep -v "ud2" "$build/code" | look > "$build/looked" || miss "a ud2 that is gone is not found"
 [ "$missed" = 0 ] || exit 1
-echo "instructions: $found, all of the x86-64 baseline; ud2 in $(echo "$stops" | wc -w) functions as expected; $controls controls found"
+stop_count=$(echo "$stops" | wc -w)
+echo "instructions: $found, all of the x86-64 baseline; ud2 in $stop_count functions as expected; $controls controls found"

@@ -6,13 +6,14 @@
 
 A line `file:line: name` for each name that is not there, and a summary; exit status 1 if there is one. A name is
 
-    tools/sizes.py    a path through a folder of FOLDERS, from the page's own or the release's; also behind the release's
-                      name, PREFIX or $PWD; and what a compiler's -I or -L has
+    tools/sizes.py    a path through a folder of FOLDERS, from the page's own or the release's; also behind the
+                      release's name, PREFIX or $PWD; and what a compiler's -I or -L has
     badge.c           a word with an ending of ENDINGS: somewhere the release has a file that is called so
     scheme/Reading    a place of the definitions, which are the repository's: no release has them
 
 {a,b} and * stand for all that fits. What a command of the same page writes (-o NAME) is there, and so is what its
-reader brings: OWN. Pages, notes and pictures are read whole, of C and Python the comments and strings.
+reader brings: OWN. Pages, notes and pictures are read whole, of C the comments and strings, of Python the comments and
+docstrings.
 """
 
 import io
@@ -38,7 +39,6 @@ ENDED = re.compile(r"[\w*{},-]+\.(?:%s)|lib\w+\.(?:a|so)" % "|".join(ENDINGS))
 PLACE = re.compile(r"[a-z_]+/[A-Z]\w*")
 WRITTEN = re.compile(r"-o (\S+)")
 C_TEXT = re.compile(r"""/\*.*?\*/|//[^\n]*|"(?:\\.|[^"\\\n])*"|'(?:\\.|[^'\\\n])'|<smallwood[^\n]*""", re.S)
-PYTHON_TEXT = {"COMMENT", "STRING", "FSTRING_MIDDLE"}
 
 
 # ---- What is read -----------------------------------------------------------------------------------
@@ -52,7 +52,8 @@ def pieces(path):
             yield 1 + text.count("\n", 0, found.start()), found[0]
     elif path.suffix == ".py":
         for token in tokenize.generate_tokens(io.StringIO(text).readline):
-            if tokenize.tok_name[token.type] in PYTHON_TEXT:
+            documents = token.type == tokenize.STRING and not token.line[: token.start[1]].strip()
+            if documents or token.type == tokenize.COMMENT:
                 yield token.start[0], token.string
     else:
         yield 1, text
@@ -160,7 +161,7 @@ SAMPLE = {  # file: text, and how many names it has
     "lib/made.pc": ("prefix=${pcfiledir}/..\nlibs=-L${prefix}/lib\n# more/more.pc\n", 2),
     "lib/more/more.pc": ("", 0),
     "vectors/made.json": ('{"fields": "vectors/run.py"}\n', 1),
-    "vectors/run.py": ('"""Runs made.json."""\na = b.c  # ../docs/\n', 2),
+    "vectors/run.py": ('"""Runs\nmade.json."""\na = b.c  # ../docs/\nd = "none.json"\n', 2),
 }  # fmt: skip
 BREAKS = (  # file, old text, new text, what is found
     ("README.md", "examples/first.c", "examples/third.c", "README.md:3: examples/third.c"),
@@ -187,8 +188,8 @@ BREAKS = (  # file, old text, new text, what is found
     ("lib/made.pc", "/lib", "/target", "lib/made.pc:2: target"),
     ("lib/made.pc", "more/more.pc", "none/more.pc", "lib/made.pc:3: none/more.pc"),
     ("vectors/made.json", "vectors/run.py", "tools/made.py", "vectors/made.json:1: tools/made.py"),
-    ("vectors/run.py", "made.json", "none.json", "vectors/run.py:1: none.json"),
-    ("vectors/run.py", "../docs/", "../tools/", "vectors/run.py:2: ../tools/"),
+    ("vectors/run.py", "made.json", "none.json", "vectors/run.py:2: none.json"),
+    ("vectors/run.py", "../docs/", "../tools/", "vectors/run.py:3: ../tools/"),
 )
 
 

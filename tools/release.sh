@@ -2,8 +2,8 @@
 # Packs a release: headers and archive as they are installed, the handbook, examples, vectors, sizes.py with what it
 # needs, what all was built from, and the sums of that. The same commit and the same kit give the same bytes.
 #
-#     tools/release.sh                  packs it into target/release/, unpacks it elsewhere and tries it: the commands on
-#                                       its pages as they stand there, its sums, the names of files in it
+#     tools/release.sh                  packs it into target/release/, unpacks it elsewhere and tries it: the commands
+#                                       on its pages as they stand there, its sums, the names of files in it
 #     tools/release.sh --twice          packs it in two fresh clones, all proved from nothing in each, and compares the
 #                                       sums: a quarter of an hour on two cores
 #     tools/release.sh --rebuilt        builds the archive once more, in a fresh clone that takes over the crates proved
