@@ -152,4 +152,4 @@ controls=$((controls + 1))
 ! grep -v "ud2" "$build/code" | look > "$build/looked" || miss "a ud2 that is gone is not found"
 [ "$missed" = 0 ] || exit 1
 stop_count=$(echo "$stops" | wc -w)
-echo "instructions: $found, all of the x86-64 baseline; ud2 in $stop_count functions as expected; $controls controls found"
+echo "instructions: $found, all of the x86-64 baseline; ud2 in $stop_count functions; $controls controls found"

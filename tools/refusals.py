@@ -51,6 +51,11 @@ EXTRA = {
     "conformance_faults.py": (("folder", "--cc", "no-such-compiler"), (TEXT,)),
     "growth_svg.py": (("--from", TEXT), ("--check", "--to", "absent.svg")),
     "house.py": (("--prune", "--selftest"),),
+    "references.py": ((), (TEXT,), (ABSENT,), ("--selftest", ".")),
+    "release.sh": (
+        ("--twice", "--rebuilt"), ("--references", "--references"), ("--references", "--archive", ARCHIVE),
+        ("--rebuilt", "--archive", ARCHIVE), ("--twice", "--archive", ARCHIVE),
+    ),
     "sizes.py": (
         (), ("--bits", "80"), ("--coefficients", "34", "--polynomials", "4"), ("--check", "--selftest"),
         ("--coefficients", "34", "--polynomials", "4", "--bits", "129"), ("--check", "--bits", "80"),
@@ -68,6 +73,7 @@ LACKING = {
     "bench_sponge.sh": tuple((("--before", ARCHIVE), tool) for tool in ("ld", "nm", "objcopy")),
     "conformance.sh": ((("--faults",), "gcc"), (("--archive", ARCHIVE), "rt"), (("--stand-in",), "ar")),
     "permutations.sh": ((("--stand-in",), "ar"),),
+    "release.sh": ((("--references",), "python3"),),
     "soak.sh": ((("5", "--stand-in"), "ar"),),
 }  # fmt: skip
 
