@@ -4,6 +4,8 @@
  * Eight entries: commit, open, check; for planners reply_length, permutations; without a conversation prove, check_proof; and apart from
  * commitments interpolate.
  * Each is proved to return the number and to leave the contents that the definitions give, for every input that keeps the rules below.
+ * Two headers beside it are a caller's to include or not: smallwood_draw.h draws elements, points and leaf indices from random bytes,
+ * writes the header of a question, and says whether a question is one that a badge may answer; smallwood_wipe.h overwrites secrets.
  * Link with libsmallwood.a: x86-64, ELF, System V calls, no instructions beyond SSE2. It needs memcpy and memset, and nothing else.
  * This header is C99, or C++11, and later.
  *
@@ -13,6 +15,9 @@
  *   Alignment   A pointer to 32-bit words is aligned for uint32_t, one to a 64-bit number for uint64_t.
  *   Numbers     The pointers to a 64-bit number, `length` and `count`, must not be NULL.
  *   Overlap     A slice or a number that a call writes overlaps no other of that call. Slices that a call only reads may overlap.
+ *   Changes     No lent slice changes during a call, by another thread, process or device. An entry tests what it was lent and reads it
+ *               again, so that what changes in between may be read or written out of bounds (seen: an open wrote past the reply, a check
+ *               read past its slices). What comes from shared memory is copied first, and the copy is lent.
  *   Threads     No entry keeps anything between calls: no globals, no heap, no files. Any number of threads may call at once on slices
  *               of their own; slices that are only read may be shared.
  *   Stack       Bytes that a call takes at most (measured): commit 19,000; open 7,500; prove 24,000; interpolate 5,600; check 52,000;
@@ -31,7 +36,8 @@
  *               at small sizes; not proved here). Every further point shows nu - 1 linear equations on the coefficients beside the value,
  *               and mu + beta different points show every coefficient. With nu = 1 there is one column, and its value is the polynomial's.
  *               An open or a prove compares neither m with beta nor, where the lengths are the same, a question's sizes with those that
- *               were committed, and with others it shows more: compare both before either call.
+ *               were committed, and with others it shows more: compare both before either call (smallwood_draw.h,
+ *               smallwood_question_fits and smallwood_proof_question_fits).
  *   Leaves      At each opened leaf it has the value of every row's polynomial. A row's l tails cover l opened leaves in all.
  *   Masks       A mask covers one batching answer.
  *
@@ -66,13 +72,25 @@
  *   challenges are drawn after root and salt are known, and indices only after all answers are. The answers, the first
  *   4 (w nu + l) (eta + m) bytes of a reply, do not depend on the indices: ask for them first, and compare them with the reply's.
  *
+ *   Asked so, one reply is worth what its committer leaves of it; d is width - 1, and C(a, b) are binomials. Where the committer is trusted
+ *   (whoever registers the root ran smallwood_commit himself), a false answer passes for C(d, l) of the C(N, l) sets of leaves: k bits.
+ *   Whoever committed, of two different answers for a point one passes for no more than C(floor((N + d) / 2), l) sets: b bits, about l and
+ *   at most 64, and prepared rows reach that. Only what a collection of accepted replies shows is proved, and that whoever committed. The
+ *   handbook has the bits by sizes, and the term of eta ("What an accepted answer is worth").
+ *
  * What an accepted proof shows
  *
- *   That its counter qualifies, and that its reply fits the question so drawn. Who proves draws for himself, and may try as many draws as
- *   he can hash: sizes and kappa have to stand against that work. Nothing binds a proof to a place, a time or a reader but the points:
- *   whoever checks draws them himself and afresh, when he already has root and salt from someone that he trusts, and takes one proof for them.
- *   With points that were known before, or that came with the proof, an old proof or a copied one is accepted as well as a new one. See
- *   the handbook, "Proofs without a conversation".
+ *   That its counter qualifies, and that its reply fits the question so drawn. Who proves draws for himself, as often as he can hash, so
+ *   that bits are work here, and kappa is added: k + kappa where the committer is trusted, b + kappa, about l + kappa, whoever committed.
+ *   For that much work there are two proofs for one question, root and salt, with different values, both accepted: who commits can choose
+ *   the batching answers anew for each proof. An honest badge has one list of them for a commitment and a header; where its digest is
+ *   registered beside root and salt, and compared before the check, no attack is known that is better than the lesser of k + kappa and the
+ *   term of eta, to which kappa adds nothing. Nothing of that is proved, and from proofs alone no collection is filled. See the handbook,
+ *   "What an accepted answer is worth".
+ *
+ *   Nothing binds a proof to a place, a time or a reader but the points: whoever checks draws them himself and afresh, when he already has
+ *   root and salt from someone that he trusts, and takes one proof for them. With points that were known before, or that came with the
+ *   proof, an old proof or a copied one is accepted as well as a new one. See "Proofs without a conversation" there.
  *
  * What a call returns
  *
@@ -143,9 +161,9 @@ extern "C" {
 
 /* Of this library, and of questions (their bytes 3 and 4): no other questions are taken. */
 #define SMALLWOOD_VERSION_MAJOR 1
-#define SMALLWOOD_VERSION_MINOR 0
+#define SMALLWOOD_VERSION_MINOR 1
 #define SMALLWOOD_VERSION_PATCH 0
-#define SMALLWOOD_VERSION "1.0.0"
+#define SMALLWOOD_VERSION "1.1.0"
 #define SMALLWOOD_QUESTION_VERSION 3
 
 /* The number of elements of the field. */
@@ -191,47 +209,77 @@ static inline const char *smallwood_verdict_text(uint32_t verdict)
     }
 }
 
+/* Of this header's own: a number as size_t, and whether there is a tree of that depth, as 0 or 1. */
+#ifdef __cplusplus
+#define SMALLWOOD_SIZE(x) (static_cast<size_t>(x))
+#else
+#define SMALLWOOD_SIZE(x) ((size_t)(x))
+#endif
+#define SMALLWOOD_HAS_DEPTH(h) SMALLWOOD_SIZE((h) >= 1 && (h) <= 12)
+
 /*
  * Lengths, in elements of the slice: constant expressions where the sizes are. The sizes stand in the order in which smallwood_commit
- * takes them, then m, and have to be within their ranges. What an entry's parameter NAME_length must be is SMALLWOOD_NAME_LENGTH.
+ * takes them, then m, and may be evaluated more than once. What an entry's parameter NAME_length must be is SMALLWOOD_NAME_LENGTH.
+ * With an h outside 1 to 12 a length is 0. Other sizes outside their ranges give some length, and no error: the entries refuse all with 1.
  */
-#define SMALLWOOD_LEAVES(h) ((size_t)1 << (h))
-#define SMALLWOOD_WIDTH(nu, w, l) ((size_t)(w) * (size_t)(nu) + (size_t)(l))
-#define SMALLWOOD_ROWS(mu, beta) ((size_t)(mu) + (size_t)(beta))
+#define SMALLWOOD_LEAVES(h) (SMALLWOOD_HAS_DEPTH(h) << ((h) & 15))
+#define SMALLWOOD_WIDTH(nu, w, l) (SMALLWOOD_SIZE(w) * SMALLWOOD_SIZE(nu) + SMALLWOOD_SIZE(l))
+#define SMALLWOOD_ROWS(mu, beta) (SMALLWOOD_SIZE(mu) + SMALLWOOD_SIZE(beta))
 
 /* Words. */
-#define SMALLWOOD_COEFFICIENTS_LENGTH(mu, nu, w, beta) ((size_t)(w) * ((size_t)(mu) * (size_t)(nu) + (size_t)(beta)))
-#define SMALLWOOD_TAILS_LENGTH(mu, l, beta) (SMALLWOOD_ROWS(mu, beta) * (size_t)(l))
-#define SMALLWOOD_BLINDS_LENGTH(nu, w, beta) ((size_t)(w) * ((size_t)(nu) - 1) * (size_t)(beta))
-#define SMALLWOOD_MASKS_LENGTH(nu, w, l, eta) ((size_t)(eta) * SMALLWOOD_WIDTH(nu, w, l))
-#define SMALLWOOD_TABLE_LENGTH(h, mu, eta, beta) (SMALLWOOD_LEAVES(h) * (SMALLWOOD_ROWS(mu, beta) + (size_t)(eta)))
+#define SMALLWOOD_COEFFICIENTS_LENGTH(mu, nu, w, beta) \
+    (SMALLWOOD_SIZE(w) * (SMALLWOOD_SIZE(mu) * SMALLWOOD_SIZE(nu) + SMALLWOOD_SIZE(beta)))
+#define SMALLWOOD_TAILS_LENGTH(mu, l, beta) (SMALLWOOD_ROWS(mu, beta) * SMALLWOOD_SIZE(l))
+#define SMALLWOOD_BLINDS_LENGTH(nu, w, beta) (SMALLWOOD_SIZE(w) * (SMALLWOOD_SIZE(nu) - SMALLWOOD_SIZE((nu) > 0)) * SMALLWOOD_SIZE(beta))
+#define SMALLWOOD_MASKS_LENGTH(nu, w, l, eta) (SMALLWOOD_SIZE(eta) * SMALLWOOD_WIDTH(nu, w, l))
+#define SMALLWOOD_TABLE_LENGTH(h, mu, eta, beta) (SMALLWOOD_LEAVES(h) * (SMALLWOOD_ROWS(mu, beta) + SMALLWOOD_SIZE(eta)))
 
 /* Bytes. The root is the last SMALLWOOD_ROOT_LENGTH bytes of the tree. */
-#define SMALLWOOD_ROOT_LENGTH ((size_t)32)
-#define SMALLWOOD_SALT_LENGTH ((size_t)32)
+#define SMALLWOOD_ROOT_LENGTH SMALLWOOD_SIZE(32)
+#define SMALLWOOD_SALT_LENGTH SMALLWOOD_SIZE(32)
 #define SMALLWOOD_NONCES_LENGTH(h) (32 * SMALLWOOD_LEAVES(h))
-#define SMALLWOOD_TREE_LENGTH(h) (SMALLWOOD_ROOT_LENGTH * (2 * SMALLWOOD_LEAVES(h) - 1))
-#define SMALLWOOD_VALUES_LENGTH(w, m) (4 * (size_t)(w) * (size_t)(m))
+#define SMALLWOOD_TREE_LENGTH(h) (SMALLWOOD_HAS_DEPTH(h) * SMALLWOOD_ROOT_LENGTH * (2 * SMALLWOOD_LEAVES(h) - 1))
+#define SMALLWOOD_VALUES_LENGTH(w, m) (4 * SMALLWOOD_SIZE(w) * SMALLWOOD_SIZE(m))
 
 /* Bytes: a question, what it begins with, and a question of a proof. */
-#define SMALLWOOD_HEADER_LENGTH ((size_t)15)
+#define SMALLWOOD_HEADER_LENGTH SMALLWOOD_SIZE(15)
 #define SMALLWOOD_NAMED_LENGTH (SMALLWOOD_HEADER_LENGTH + SMALLWOOD_ROOT_LENGTH + SMALLWOOD_SALT_LENGTH)
-#define SMALLWOOD_QUESTION_LENGTH(l, eta, m) (SMALLWOOD_NAMED_LENGTH + 4 * ((size_t)(eta) + (size_t)(m)) + 2 * (size_t)(l))
-#define SMALLWOOD_PROOF_QUESTION_LENGTH(m) (SMALLWOOD_NAMED_LENGTH + 4 * (size_t)(m))
+#define SMALLWOOD_QUESTION_LENGTH(l, eta, m) \
+    (SMALLWOOD_NAMED_LENGTH + 4 * (SMALLWOOD_SIZE(eta) + SMALLWOOD_SIZE(m)) + 2 * SMALLWOOD_SIZE(l))
+#define SMALLWOOD_PROOF_QUESTION_LENGTH(m) (SMALLWOOD_NAMED_LENGTH + 4 * SMALLWOOD_SIZE(m))
+
+/* Where it stands in a question, in bytes from the front: m in the header, root and salt; then in a conversation, and in a proof's. */
+#define SMALLWOOD_M_AT SMALLWOOD_SIZE(13)
+#define SMALLWOOD_ROOT_AT SMALLWOOD_HEADER_LENGTH
+#define SMALLWOOD_SALT_AT (SMALLWOOD_HEADER_LENGTH + SMALLWOOD_ROOT_LENGTH)
+#define SMALLWOOD_CHALLENGES_AT SMALLWOOD_NAMED_LENGTH
+#define SMALLWOOD_POINTS_AT(eta) (SMALLWOOD_NAMED_LENGTH + 4 * SMALLWOOD_SIZE(eta))
+#define SMALLWOOD_INDICES_AT(eta, m) (SMALLWOOD_NAMED_LENGTH + 4 * (SMALLWOOD_SIZE(eta) + SMALLWOOD_SIZE(m)))
+#define SMALLWOOD_PROOF_POINTS_AT SMALLWOOD_NAMED_LENGTH
 
 /*
- * Bytes: the answers that a reply begins with, batching before evaluation; what no reply to any indices exceeds (a reply's own length is
- * smallwood_reply_length's); and the prover's buffer, the proof_length of smallwood_prove.
+ * Bytes: the answers that a reply begins with, batching before evaluation; the counter, which in a proof stands before them; what no reply
+ * to any indices exceeds (a reply's own length is smallwood_reply_length's); and the prover's buffer, the proof_length of smallwood_prove.
  */
-#define SMALLWOOD_BATCHING_LENGTH(nu, w, l, eta) (4 * SMALLWOOD_WIDTH(nu, w, l) * (size_t)(eta))
-#define SMALLWOOD_EVALUATION_LENGTH(nu, w, l, m) (4 * SMALLWOOD_WIDTH(nu, w, l) * (size_t)(m))
+#define SMALLWOOD_BATCHING_LENGTH(nu, w, l, eta) (4 * SMALLWOOD_WIDTH(nu, w, l) * SMALLWOOD_SIZE(eta))
+#define SMALLWOOD_EVALUATION_LENGTH(nu, w, l, m) (4 * SMALLWOOD_WIDTH(nu, w, l) * SMALLWOOD_SIZE(m))
+#define SMALLWOOD_COUNTER_LENGTH SMALLWOOD_SIZE(4)
 #define SMALLWOOD_REPLY_BOUND(h, mu, nu, w, l, eta, beta, m)                                                          \
-    (SMALLWOOD_BATCHING_LENGTH(nu, w, l, eta) + SMALLWOOD_EVALUATION_LENGTH(nu, w, l, m)                              \
-     + (size_t)(l) * (4 * (SMALLWOOD_ROWS(mu, beta) + (size_t)(eta)) + 32 + 32 * (size_t)(h)))
-#define SMALLWOOD_PROOF_LENGTH(h, mu, nu, w, l, eta, beta, m) (4 + SMALLWOOD_REPLY_BOUND(h, mu, nu, w, l, eta, beta, m))
+    (SMALLWOOD_HAS_DEPTH(h)                                                                                           \
+     * (SMALLWOOD_BATCHING_LENGTH(nu, w, l, eta) + SMALLWOOD_EVALUATION_LENGTH(nu, w, l, m)                           \
+        + SMALLWOOD_SIZE(l) * (4 * (SMALLWOOD_ROWS(mu, beta) + SMALLWOOD_SIZE(eta)) + 32 + 32 * SMALLWOOD_SIZE(h))))
+#define SMALLWOOD_PROOF_LENGTH(h, mu, nu, w, l, eta, beta, m) \
+    (SMALLWOOD_HAS_DEPTH(h) * SMALLWOOD_COUNTER_LENGTH + SMALLWOOD_REPLY_BOUND(h, mu, nu, w, l, eta, beta, m))
 
 /* The most points of smallwood_interpolate. */
 #define SMALLWOOD_MOST_POINTS 320
+
+/* Of this header's own: a call whose number is not looked at is a warning, where the compiler can say so. */
+#if defined(__GNUC__)
+#define SMALLWOOD_USE_RESULT __attribute__((warn_unused_result))
+#else
+#define SMALLWOOD_USE_RESULT
+#endif
 
 /*
  * Commits to w polynomials of mu nu + beta coefficients each.
@@ -259,7 +307,7 @@ uint32_t smallwood_commit(uint32_t h, uint32_t mu, uint32_t nu, uint32_t w, uint
                           const uint8_t *nonces, size_t nonces_length,
                           const uint8_t *salt, size_t salt_length,
                           uint32_t *table, size_t table_length,
-                          uint8_t *tree, size_t tree_length);
+                          uint8_t *tree, size_t tree_length) SMALLWOOD_USE_RESULT;
 
 /*
  * Gives the length of a question's reply, before it is made and from the question alone.
@@ -269,7 +317,7 @@ uint32_t smallwood_commit(uint32_t h, uint32_t mu, uint32_t nu, uint32_t w, uint
  *
  * Returns 0, or the first of: 6, for under 15 bytes; 5; 1; 6, for another length than the header's; 3; 4.
  */
-uint32_t smallwood_reply_length(const uint8_t *question, size_t question_length, uint64_t *length);
+uint32_t smallwood_reply_length(const uint8_t *question, size_t question_length, uint64_t *length) SMALLWOOD_USE_RESULT;
 
 /*
  * Gives the work of a question's check in permutations of Keccak, before there is a reply and from the question alone.
@@ -282,7 +330,7 @@ uint32_t smallwood_reply_length(const uint8_t *question, size_t question_length,
  *
  * Returns 0, or the same numbers in the same order as smallwood_reply_length.
  */
-uint32_t smallwood_permutations(const uint8_t *question, size_t question_length, uint64_t *count);
+uint32_t smallwood_permutations(const uint8_t *question, size_t question_length, uint64_t *count) SMALLWOOD_USE_RESULT;
 
 /*
  * Opens a commitment: writes the reply to a question, from what was lent to smallwood_commit and what it left in table and tree.
@@ -305,7 +353,7 @@ uint32_t smallwood_open(const uint8_t *question, size_t question_length,
                         const uint8_t *salt, size_t salt_length,
                         const uint8_t *tree, size_t tree_length,
                         uint8_t *reply, size_t reply_length,
-                        uint64_t *length);
+                        uint64_t *length) SMALLWOOD_USE_RESULT;
 
 /*
  * Checks a reply to a question, and on 0 hands out the polynomials' values.
@@ -319,7 +367,7 @@ uint32_t smallwood_open(const uint8_t *question, size_t question_length,
  */
 uint32_t smallwood_check(const uint8_t *question, size_t question_length,
                          const uint8_t *reply, size_t reply_length,
-                         uint8_t *values, size_t values_length);
+                         uint8_t *values, size_t values_length) SMALLWOOD_USE_RESULT;
 
 /*
  * Proves without a conversation: draws the challenges, searches the least counter that qualifies, and writes it and the reply to the
@@ -354,7 +402,7 @@ uint32_t smallwood_prove(const uint8_t *question, size_t question_length,
                          const uint8_t *salt, size_t salt_length,
                          const uint8_t *tree, size_t tree_length,
                          uint8_t *proof, size_t proof_length,
-                         uint64_t *length);
+                         uint64_t *length) SMALLWOOD_USE_RESULT;
 
 /*
  * Checks a proof for a question, and on 0 hands out the polynomials' values. Any counter that qualifies is taken, the least or not.
@@ -372,7 +420,7 @@ uint32_t smallwood_prove(const uint8_t *question, size_t question_length,
 uint32_t smallwood_check_proof(const uint8_t *question, size_t question_length,
                                uint32_t kappa,
                                const uint8_t *proof, size_t proof_length,
-                               uint8_t *values, size_t values_length);
+                               uint8_t *values, size_t values_length) SMALLWOOD_USE_RESULT;
 
 /*
  * Interpolates over points of the caller's own: finds the one polynomial of degree below the number of points that has the values there.
@@ -391,7 +439,9 @@ uint32_t smallwood_check_proof(const uint8_t *question, size_t question_length,
  */
 uint32_t smallwood_interpolate(const uint32_t *points, size_t points_length,
                                const uint32_t *values, size_t values_length,
-                               uint32_t *coefficients, size_t coefficients_length);
+                               uint32_t *coefficients, size_t coefficients_length) SMALLWOOD_USE_RESULT;
+
+#undef SMALLWOOD_USE_RESULT
 
 #ifdef __cplusplus
 }

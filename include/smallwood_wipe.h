@@ -35,10 +35,16 @@
 #define SMALLWOOD_WITHIN static inline
 #endif
 
+#ifdef __cplusplus
+#define SMALLWOOD_BYTES(memory) static_cast<volatile uint8_t *>(memory)
+#else
+#define SMALLWOOD_BYTES(memory) (memory)
+#endif
+
 /* Overwrites memory with zeros, also where it is not read any more. */
 static inline void smallwood_wipe(void *memory, size_t size)
 {
-    volatile uint8_t *byte = (volatile uint8_t *)memory;
+    volatile uint8_t *byte = SMALLWOOD_BYTES(memory);
 
     while (size-- > 0)
         *byte++ = 0;
@@ -69,5 +75,6 @@ SMALLWOOD_WITHIN void smallwood_wipe_stack(void)
 
 #undef SMALLWOOD_APART
 #undef SMALLWOOD_WITHIN
+#undef SMALLWOOD_BYTES
 
 #endif
