@@ -1,28 +1,28 @@
-/* The header's lengths and names against the library:  header DRAWS
+/* The header's lengths, offsets and names against the library:  header DRAWS
  *
  * For drawn sizes each entry is called with slices of the lengths that the macros give and one word that is no element,
  * so that the number says how far its tests went: 3 where all lengths are right, 2 (or 6, for a question) where one of
- * them has one element more or less. Nothing is committed, so that many sizes are tried in little time. Where one leaf
- * is opened, every node beside its path is missing, and the bound on replies is their length.
+ * them has one element more or less. Nothing is committed, so that many sizes are tried in little time; but for where
+ * root and salt stand, at one small size. Where one leaf is opened, every node beside its path is missing, and the bound
+ * on replies is their length. Offsets are seen by what a damaged question is refused with.
  * Exit status 1 after a difference. */
 #include <inttypes.h>
 #include <stdio.h>
 #include <stdlib.h>
 #include <string.h>
 
+#include "drawn_sizes.h"
 #include "entries.h"
 #include "smallwood.h"
 
 ENTRIES(smallwood); /* declared twice: where the two differ, this is no C */
 
+#define PROOFS_APART 16 /* a check of a proof hashes: it is tried at one of so many sizes */
+
 /* The largest lengths of all sizes. */
 enum {
     MOST_WORDS = 4096 * 68 + 1,
     MOST_BYTES = 32 * 8191 + 1
-};
-
-struct sizes {
-    uint32_t h, mu, nu, w, l, eta, beta, m;
 };
 
 static uint32_t words[MOST_WORDS], written_words[MOST_WORDS];
@@ -47,50 +47,9 @@ static void expect_equal(uint64_t found, uint64_t expected, const char *what, co
     expect(found == expected ? SMALLWOOD_OK : SMALLWOOD_BAD_LENGTH, SMALLWOOD_OK, what, s);
 }
 
-/* ---- Sizes */
-
-static uint64_t state = 1;
-
-static uint32_t below(uint32_t bound)
-{
-    state = state * 6364136223846793005u + 1442695040888963407u;
-    return (uint32_t)((state >> 33) % bound);
-}
-
-static uint32_t least(uint32_t a, uint32_t b)
-{
-    return a < b ? a : b;
-}
-
-/* Small ones as often as large ones: at the ends of the ranges there is most to get wrong. */
-static uint32_t from_one_to(uint32_t most)
-{
-    switch (below(4)) {
-    case 0: return 1;
-    case 1: return most;
-    case 2: return 1 + below(least(most, 8));
-    default: return 1 + below(most);
-    }
-}
-
-static struct sizes draw_sizes(void)
-{
-    struct sizes s;
-
-    s.h = from_one_to(12);
-    s.mu = from_one_to(64);
-    s.w = from_one_to(least(256, (1u << s.h) - 1));
-    s.nu = from_one_to(least(256, (1u << s.h) - 1) / s.w);
-    s.l = from_one_to(least(64, (1u << s.h) - s.w * s.nu));
-    s.eta = from_one_to(4);
-    s.beta = from_one_to(1 + least(16, least(s.mu, 64 - s.mu))) - 1;
-    s.m = from_one_to(8);
-    return s;
-}
-
 /* ---- Questions: zeros but for the header and rising indices */
 
-static uint8_t question[256];
+static uint8_t question[255 + 8]; /* and room for a word too far */
 
 static void write_half(uint8_t *to, uint32_t x)
 {
@@ -281,6 +240,192 @@ static void try_reply(struct sizes s)
     expect_equal(length_for(&s), SMALLWOOD_REPLY_BOUND(s.h, s.mu, s.nu, s.w, s.l, s.eta, s.beta, s.m), "a reply", &s);
 }
 
+/* ---- Offsets */
+
+static const uint8_t no_element[4] = {0xfb, 0xff, 0xff, 0xff}; /* q */
+
+/* The number for a question with q in it, so far from its front. A byte too early or too late it makes elements below q. */
+static uint32_t with_q_at(const struct sizes *s, size_t at)
+{
+    uint64_t length = 0;
+
+    write_question(s, SMALLWOOD_QUESTION_VERSION);
+    memcpy(question + at, no_element, sizeof no_element);
+    return smallwood_reply_length(question, SMALLWOOD_QUESTION_LENGTH(s->l, s->eta, s->m), &length);
+}
+
+/* Elements stand from the first challenge to the last point. In the indices after them q makes one that is not below N. */
+static void try_elements_at(const struct sizes *s)
+{
+    size_t challenges = SMALLWOOD_CHALLENGES_AT, points = SMALLWOOD_POINTS_AT(s->eta);
+
+    expect(with_q_at(s, challenges - 4), SMALLWOOD_OK, "q before the challenges", s);
+    expect(with_q_at(s, challenges - 1), SMALLWOOD_OK, "q a byte before the challenges", s);
+    for (uint32_t k = 0; k < s->eta; k++)
+        expect(with_q_at(s, challenges + 4 * k), SMALLWOOD_BAD_ELEMENT, "q for a challenge", s);
+    expect(with_q_at(s, points - 1), SMALLWOOD_OK, "q a byte before the points", s);
+    for (uint32_t p = 0; p < s->m; p++)
+        expect(with_q_at(s, points + 4 * p), SMALLWOOD_BAD_ELEMENT, "q for a point", s);
+    expect(with_q_at(s, points + 4 * s->m), SMALLWOOD_BAD_INDICES, "q after the points", s);
+}
+
+static void try_indices_at(const struct sizes *s)
+{
+    size_t length = SMALLWOOD_QUESTION_LENGTH(s->l, s->eta, s->m), indices = SMALLWOOD_INDICES_AT(s->eta, s->m);
+    uint64_t number = 0;
+
+    for (uint32_t a = 0; a < s->l; a++) {
+        write_question(s, SMALLWOOD_QUESTION_VERSION);
+        write_half(question + indices + 2 * a, 1u << s->h);
+        expect(smallwood_reply_length(question, length, &number), SMALLWOOD_BAD_INDICES, "N for an index", s);
+    }
+    write_question(s, SMALLWOOD_QUESTION_VERSION);
+    write_half(question + indices - 2, 0xff00);
+    expect(smallwood_reply_length(question, length, &number), SMALLWOOD_OK, "the last point's upper half", s);
+}
+
+/* Another m, though it is in its range, gives another length; no other byte of the header does so with this one. */
+static void try_m_at(const struct sizes *s)
+{
+    struct sizes other_m = *s;
+    size_t length;
+    uint64_t number = 0;
+
+    other_m.m = s->m % 8 + 1;
+    length = SMALLWOOD_QUESTION_LENGTH(s->l, s->eta, other_m.m);
+    write_question(&other_m, SMALLWOOD_QUESTION_VERSION);
+    question[SMALLWOOD_M_AT] = (uint8_t)s->m;
+    expect(smallwood_reply_length(question, length, &number), SMALLWOOD_BAD_QUESTION_LENGTH, "another m", s);
+    question[SMALLWOOD_M_AT] = (uint8_t)other_m.m;
+    expect(smallwood_reply_length(question, length, &number), SMALLWOOD_OK, "its m again", s);
+}
+
+/* With one leaf every proof has one length, and zeros come as far as the root. */
+static uint32_t check_zeros(const struct sizes *s, size_t question_at, size_t proof_at)
+{
+    static uint8_t proof[65536];
+    size_t length = SMALLWOOD_COUNTER_LENGTH + (size_t)length_for(s);
+    uint32_t verdict;
+
+    write_question(s, SMALLWOOD_QUESTION_VERSION);
+    memset(question + 79, 0, sizeof question - 79);
+    if (question_at > 0)
+        memcpy(question + question_at, no_element, sizeof no_element);
+    if (proof_at > 0)
+        memcpy(proof + proof_at, no_element, sizeof no_element);
+    verdict = smallwood_check_proof(question, SMALLWOOD_PROOF_QUESTION_LENGTH(s->m), 0, proof, length, written_bytes,
+                                    SMALLWOOD_VALUES_LENGTH(s->w, s->m));
+    memset(proof + proof_at, 0, sizeof no_element);
+    return verdict;
+}
+
+static void try_proof_at(struct sizes s)
+{
+    s.l = 1;
+    expect(check_zeros(&s, 0, 0), SMALLWOOD_BAD_ROOT, "a proof of zeros", &s);
+    for (uint32_t p = 0; p < s.m; p++)
+        expect(check_zeros(&s, SMALLWOOD_PROOF_POINTS_AT + 4 * p, 0), SMALLWOOD_BAD_ELEMENT, "q for a point", &s);
+    expect(check_zeros(&s, SMALLWOOD_PROOF_POINTS_AT - 1, 0), SMALLWOOD_BAD_ROOT, "q a byte before the points", &s);
+    expect(check_zeros(&s, 0, SMALLWOOD_COUNTER_LENGTH), SMALLWOOD_BAD_ELEMENT, "q after the counter", &s);
+    expect(check_zeros(&s, 0, SMALLWOOD_COUNTER_LENGTH - 1), SMALLWOOD_BAD_ROOT, "q a byte before that", &s);
+}
+
+/* ---- Root and salt, of a commitment to zeros */
+
+enum { H = 3, MU = 2, NU = 2, W = 1, L = 2, ETA = 1, BETA = 1, M = 1 };
+
+static const struct sizes small = {H, MU, NU, W, L, ETA, BETA, M};
+static uint32_t zeros[64], table[SMALLWOOD_TABLE_LENGTH(H, MU, ETA, BETA)];
+static uint8_t nonces[SMALLWOOD_NONCES_LENGTH(H)], salt[SMALLWOOD_SALT_LENGTH], tree[SMALLWOOD_TREE_LENGTH(H)];
+
+static uint32_t commit_small(void)
+{
+    return smallwood_commit(H, MU, NU, W, L, ETA, BETA, zeros, SMALLWOOD_COEFFICIENTS_LENGTH(MU, NU, W, BETA), zeros,
+                            SMALLWOOD_TAILS_LENGTH(MU, L, BETA), zeros, SMALLWOOD_BLINDS_LENGTH(NU, W, BETA), zeros,
+                            SMALLWOOD_MASKS_LENGTH(NU, W, L, ETA), nonces, sizeof nonces, salt, sizeof salt, table,
+                            sizeof table / 4, tree, sizeof tree);
+}
+
+static uint32_t open_small(void)
+{
+    uint64_t length = 0;
+    uint32_t sized = smallwood_reply_length(question, SMALLWOOD_QUESTION_LENGTH(L, ETA, M), &length);
+
+    if (sized != SMALLWOOD_OK)
+        return sized;
+    return smallwood_open(question, SMALLWOOD_QUESTION_LENGTH(L, ETA, M), zeros,
+                          SMALLWOOD_COEFFICIENTS_LENGTH(MU, NU, W, BETA), zeros, SMALLWOOD_TAILS_LENGTH(MU, L, BETA),
+                          zeros, SMALLWOOD_BLINDS_LENGTH(NU, W, BETA), zeros, SMALLWOOD_MASKS_LENGTH(NU, W, L, ETA),
+                          table, sizeof table / 4, nonces, sizeof nonces, salt, sizeof salt, tree, sizeof tree,
+                          written_bytes, (size_t)length, &length);
+}
+
+/* Each byte of the 32 that stand there: changed it is refused, and taken where the lent one is changed alike. */
+static void try_bytes_at(size_t at, uint8_t *lent, const char *what)
+{
+    for (size_t i = 0; i < 32; i++) {
+        question[at + i] ^= 1;
+        expect(open_small(), SMALLWOOD_BAD_ROOT, what, &small);
+        lent[i] ^= 1;
+        expect(open_small(), SMALLWOOD_OK, what, &small);
+        lent[i] ^= 1;
+        question[at + i] ^= 1;
+    }
+}
+
+static void try_root_and_salt(void)
+{
+    uint8_t *root = tree + sizeof tree - SMALLWOOD_ROOT_LENGTH;
+
+    for (size_t i = 0; i < sizeof salt; i++)
+        salt[i] = (uint8_t)(i + 1);
+    expect(commit_small(), SMALLWOOD_OK, "a small commitment", &small);
+    write_question(&small, SMALLWOOD_QUESTION_VERSION);
+    memcpy(question + SMALLWOOD_ROOT_AT, root, SMALLWOOD_ROOT_LENGTH);
+    memcpy(question + SMALLWOOD_SALT_AT, salt, sizeof salt);
+    expect(open_small(), SMALLWOOD_OK, "an open of it", &small);
+    try_bytes_at(SMALLWOOD_ROOT_AT, root, "a byte of the root");
+    try_bytes_at(SMALLWOOD_SALT_AT, salt, "a byte of the salt");
+}
+
+/* ---- Sizes out of range: an h gives the length 0, as a constant and as a variable of any type */
+
+#define LENGTHS_WITH(h)                                                                                          \
+    {SMALLWOOD_LEAVES(h), SMALLWOOD_TABLE_LENGTH(h, MU, ETA, BETA), SMALLWOOD_NONCES_LENGTH(h), SMALLWOOD_TREE_LENGTH(h), \
+     SMALLWOOD_REPLY_BOUND(h, MU, NU, W, L, ETA, BETA, M), SMALLWOOD_PROOF_LENGTH(h, MU, NU, W, L, ETA, BETA, M)}
+
+enum { OUTSIDE = 6, LENGTHS = 6 };
+
+static void expect_nothing(const size_t lengths[LENGTHS])
+{
+    for (int i = 0; i < LENGTHS; i++)
+        expect_equal(lengths[i], 0, "a length with an h out of range", &small);
+}
+
+static void try_out_of_range(void)
+{
+    static const size_t constant[OUTSIDE][LENGTHS] = {
+        LENGTHS_WITH(0), LENGTHS_WITH(13), LENGTHS_WITH(64), LENGTHS_WITH(70), LENGTHS_WITH(-1), LENGTHS_WITH(UINT32_MAX),
+    };
+    static volatile int64_t depths[OUTSIDE] = {0, 13, 64, 70, -1, UINT32_MAX};
+
+    for (int i = 0; i < OUTSIDE; i++) {
+        int64_t wide = depths[i];
+        int narrow = (int)wide;
+        uint32_t word = (uint32_t)wide;
+        uint8_t byte = (uint8_t)wide;
+        const size_t of_wide[LENGTHS] = LENGTHS_WITH(wide), of_narrow[LENGTHS] = LENGTHS_WITH(narrow);
+        const size_t of_word[LENGTHS] = LENGTHS_WITH(word), of_byte[LENGTHS] = LENGTHS_WITH(byte);
+
+        expect_nothing(constant[i]);
+        expect_nothing(of_wide);
+        expect_nothing(of_narrow);
+        expect_nothing(of_word);
+        expect_nothing(of_byte);
+    }
+    expect_equal(SMALLWOOD_BLINDS_LENGTH(0, W, BETA), 0, "blinds without columns", &small);
+}
+
 /* ---- What does not depend on sizes */
 
 static void try_points(void)
@@ -332,6 +477,11 @@ int main(int argc, char **argv)
         try_checks(&s);
         try_answers(s);
         try_reply(s);
+        try_elements_at(&s);
+        try_indices_at(&s);
+        try_m_at(&s);
+        if (i % PROOFS_APART == 0)
+            try_proof_at(s);
         for (change = -1; change <= 1; change += 2)
             for (other = 0; other < 9; other++) {
                 try_commit(&s);
@@ -339,9 +489,11 @@ int main(int argc, char **argv)
                 try_prove(&s);
             }
     }
+    try_root_and_salt();
+    try_out_of_range();
     try_points();
     try_texts();
     try_version();
-    printf("header: %ld sizes, %" PRIu64 " calls, lengths and names as the library takes them\n", draws, calls);
+    printf("header: %ld sizes, %" PRIu64 " calls, lengths, offsets and names as the library takes them\n", draws, calls);
     return 0;
 }
