@@ -57,6 +57,37 @@ build_and_run() {
     says "$outside/first"
 }
 
+# Every header that the repository has, in one program in C++ that has no cast of C in it, and runs what they add.
+with_headers() {
+    for header in "$root"/include/*.h; do echo "#include <${header##*/}>"; done > "$outside/headers.cc"
+    cat >> "$outside/headers.cc" << 'PROGRAM'
+static int counted(void *context, void *to, size_t count)
+{
+    while (count-- > 0)
+        static_cast<unsigned char *>(to)[count] = ++*static_cast<unsigned char *>(context);
+    return 0;
+}
+
+int main()
+{
+    unsigned char state = 0, header[SMALLWOOD_HEADER_LENGTH];
+    uint32_t indices[3];
+
+    smallwood_put_header(header, 4, 3, 3, 1, 3, 2, 3, 1);
+    if (smallwood_draw_indices(indices, 4, 3, counted, &state) != 0 || indices[0] >= indices[1] || indices[1] >= indices[2])
+        return 1;
+    smallwood_wipe_stack();
+    return !smallwood_header_fits(header, 4, 3, 3, 1, 3, 2, 3);
+}
+PROGRAM
+    (
+        cd "$outside"
+        # shellcheck disable=SC2086
+        env -u CPATH -u CPLUS_INCLUDE_PATH g++ -std=c++11 -O2 $warnings -Wold-style-cast headers.cc $flags -o headers
+    )
+    "$outside/headers" || fail "the installed headers do not do what they say"
+}
+
 # As C, as C++, at fixed and at any address, without shared libraries, optimised over all files, and inside a shared library.
 by_compiler() {
     flags "$1"
@@ -73,6 +104,7 @@ by_compiler() {
         "$CC" main.c -L. -lfirst -Wl,-rpath,"$outside" -o shared
     )
     says "$outside/shared"
+    with_headers
 }
 
 by_cmake() {

@@ -79,9 +79,9 @@ s/ || l > SMALLWOOD_LEAVES(h) ?/ ?/
 s/tries < SMALLWOOD_MOST_TRIES ?/tries < UINT32_MAX ?/
 s/tries++ < SMALLWOOD_MOST_TRIES ? smallwood/tries++ < UINT32_MAX ? smallwood/
 s/tries++ < SMALLWOOD_MOST_TRIES ? source/tries++ < UINT32_MAX ? source/
-/smallwood_draw_elements(/,/^}/s/return failed;/return 0;/
-/smallwood_draw_points(/,/^}/s/return failed;/return 0;/
-/smallwood_draw_indices(/,/^}/s/return failed;/return 0;/
+/int smallwood_draw_elements(/,/^}/s/return failed;/return 0;/
+/int smallwood_draw_points(/,/^}/s/return failed;/return 0;/
+/int smallwood_draw_indices(/,/^}/s/return failed;/return 0;/
 s/elements\[i \/ 4\] >> 8 \* (i % 4)/elements[i \/ 4] >> 8 * (3 - i % 4)/
 s/indices\[i \/ 2\] >> 8 \* (i % 2)/indices[i \/ 2] >> 8 * (1 - i % 2)/
 s/from\[2\] \* 65536u/from[2] * 65535u/

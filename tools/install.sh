@@ -26,14 +26,17 @@ filled() {
 }
 
 include=$prefix/include lib=$prefix/lib
+headers='smallwood.h smallwood_wipe.h smallwood_draw.h'
 mkdir -p "$include" "$lib/pkgconfig" "$lib/cmake/smallwood" 2> /dev/null || fail "cannot write to $prefix"
-cp "$root/include/smallwood.h" "$root/include/smallwood_wipe.h" "$include/"
+for header in $headers; do cp "$root/include/$header" "$include/"; done
 cp "$archive" "$lib/libsmallwood.a"
 filled smallwood.pc.in > "$lib/pkgconfig/smallwood.pc"
 filled smallwood-config.cmake > "$lib/cmake/smallwood/smallwood-config.cmake"
 filled smallwood-config-version.cmake.in > "$lib/cmake/smallwood/smallwood-config-version.cmake"
-for file in "$include/smallwood.h" "$include/smallwood_wipe.h" "$lib/libsmallwood.a" "$lib/pkgconfig/smallwood.pc" \
-    "$lib/cmake/smallwood/smallwood-config.cmake" "$lib/cmake/smallwood/smallwood-config-version.cmake"; do
-    chmod 644 "$file"
-    echo "$file"
+installed=
+for header in $headers; do installed="$installed include/$header"; done
+installed="$installed lib/libsmallwood.a lib/pkgconfig/smallwood.pc"
+for file in $installed lib/cmake/smallwood/smallwood-config.cmake lib/cmake/smallwood/smallwood-config-version.cmake; do
+    chmod 644 "$prefix/$file"
+    echo "$prefix/$file"
 done

@@ -3,16 +3,18 @@
  *
  *     marked commit | open | prove | interpolate    rows of a table: what was marked, the number returned, the reports;
  *                                                   exit status 1 where a row is not as it has to be
+ *     marked draw                                   the same of smallwood_draw_elements
  *     marked control NAME                           a call that has to be reported, NAME being one of `controls` below:
  *                                                   its row; exit status 1 where it is not reported
  *     marked controls                               their names
  *
- * One branch of a call may depend on secrets: whether all lent words are below q. What a call leaves has to be right,
- * and undefined, so that no mark was lost on the way. */
+ * One branch of a call may depend on secrets: whether all lent words are below q; of a draw, for each word by itself,
+ * whether it is. What a call leaves has to be right, and undefined, so that no mark was lost on the way. */
 #include <stdio.h>
 #include <string.h>
 #include <valgrind/memcheck.h>
 
+#include "../include/smallwood_draw.h"
 #include "secrets.h"
 
 #define OLD_BYTE 0xcc /* stands where a call is to write */
@@ -196,6 +198,53 @@ static int show_interpolation(void)
     return good & show_samples(prepare_equal_samples(MOST_SAMPLES, 0));
 }
 
+/* ---- Drawing ------------------------------------------------------------------------------------- */
+
+#define DRAWN 320
+
+/* What the source gives: the elements but for the fourth and the last, and then what these are drawn again as. */
+static uint32_t elements[DRAWN], random_words[DRAWN + 4], *next_word = random_words;
+
+static int give_words(void *context, void *to, size_t count)
+{
+    (void)context;
+    memcpy(to, next_word, count);
+    next_word += count / sizeof *next_word;
+    return 0;
+}
+
+/* Apart, so that the places of the reports have a name. */
+__attribute__((noinline)) static int draw_marked(void)
+{
+    return smallwood_draw_elements(elements, DRAWN, give_words, NULL);
+}
+
+/* A word is tested once, the four that are drawn again too. */
+static int show_draw(void)
+{
+    static uint32_t right[DRAWN];
+    struct part drawn = {"elements", elements, sizeof elements, 1};
+    unsigned before, reports;
+    int number, good;
+
+    for (size_t i = 0; i < DRAWN + 4; i++)
+        random_words[i] = draw_below(Q);
+    memcpy(right, random_words, sizeof right);
+    right[3] = random_words[DRAWN + 1];
+    right[DRAWN - 1] = random_words[DRAWN + 3];
+    random_words[3] = random_words[DRAWN + 2] = Q;
+    random_words[DRAWN] = random_words[DRAWN - 1] = ~(uint32_t)0;
+    (void)VALGRIND_MAKE_MEM_UNDEFINED(random_words, sizeof random_words);
+    before = VALGRIND_COUNT_ERRORS;
+    number = draw_marked();
+    reports = VALGRIND_COUNT_ERRORS - before;
+    good = number == 0 && reports == DRAWN + 4 && is_undefined(&drawn);
+    (void)VALGRIND_MAKE_MEM_DEFINED(elements, sizeof elements);
+    good &= memcmp(elements, right, sizeof right) == 0;
+    printf("| draw_elements | %d elements | random bytes | %d | %u | %s |\n", DRAWN, number, reports, good ? "" : "not as it has to be");
+    return good;
+}
+
 /* ---- Controls: what has to be reported ----------------------------------------------------------- */
 
 static int control_call(const struct implementation *with, struct lent lent, const char *what, const struct part *parts,
@@ -306,8 +355,10 @@ int main(int count, char **words)
         for (size_t i = 0; i < CONTROLS; i++)
             if (strcmp(controls[i].name, words[2]) == 0)
                 return !controls[i].run();
+    if (count == 2 && strcmp(mode, "draw") == 0)
+        return !show_draw();
     for (enum entry entry = 0; count == 2 && entry < SECRET_ENTRIES; entry++)
         if (strcmp(entry_names[entry], mode) == 0)
             return !(entry == INTERPOLATE ? show_interpolation() : show_entry(entry));
-    fail("usage: marked commit | open | prove | interpolate | control NAME | controls");
+    fail("usage: marked commit | open | prove | interpolate | draw | control NAME | controls");
 }

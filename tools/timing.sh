@@ -2,8 +2,8 @@
 # What the time of a call depends on. Secrets are marked as undefined, and valgrind's memcheck reports every branch and
 # every address that depends on them. Of a commit, an open and an interpolate it is to be one branch: whether all lent
 # words are below q. So of a prove, where what enters its answers is not marked. Nothing that a commit or an open calls
-# is to divide. Prints Markdown tables and a summary; exit status 1 where something is otherwise, or where a control is
-# not reported.
+# is to divide. Of smallwood_draw_elements it is to be whether a word is drawn again. Prints Markdown tables and a
+# summary; exit status 1 where something is otherwise, or where a control is not reported.
 #
 #     tools/timing.sh
 #
@@ -86,7 +86,7 @@ controls=$("$build/marked" controls)
 
 printf 'Secrets marked: reports of one call.\n\n%s\n' "$head"
 rows=0
-for entry in $entries; do run "$entry" "$entry"; done
+for entry in $entries draw; do run "$entry" "$entry"; done
 calls=$rows
 printf '\nControls, which have to be reported.\n\n%s\n' "$head"
 for control in $controls; do run "$control-control" control "$control"; done
@@ -102,6 +102,9 @@ for entry in $entries; do
         interpolate) [ -n "$divides" ] || faulty="$faulty divisions-control" ;;
     esac
 done
+divides=$(dividing draw_marked | xargs)
+show_places draw "$divides"
+[ "$(LC_ALL=C sort -u "$build/places.draw")$divides" = "branch draw_marked" ] || faulty="$faulty draw"
 for control in $controls; do show_places "$control-control" ""; done
 for kind in branch address; do
     [ "$(count "$kind" question-control)" -gt 0 ] || faulty="$faulty question-control"
