@@ -2,13 +2,20 @@
  * The badge's side of a conversation. It commits to its polynomials, sends root and salt, and answers one question, piece by piece as it
  * is asked. Its secrets stay here between commit and open, and are wiped before the reply goes out.
  *
- *     badge POLYNOMIALS < from the reader > to the reader
+ * It is run as `badge POLYNOMIALS`, and standard input and output are its line to the reader (conversation.h). POLYNOMIALS is a file that
+ * stands for the badge's own memory: W polynomials of EACH coefficients, lowest first, 4 bytes each, little-endian, below q; with the sizes
+ * of sides.h that is 4 times 35, so 140. In the folder that has include/, lib/ and examples/ these lines build badge and reader, draw such
+ * a file, and join the two by pipes. Both open the pipes in one order, or neither would begin.
  *
- * POLYNOMIALS stands for the badge's own memory: W polynomials of EACH coefficients, lowest first, 4 bytes each, little-endian, below q.
+ *     cc -std=c11 -O2 -Iinclude examples/badge.c -Llib -lsmallwood -o badge
+ *     cc -std=c11 -O2 -Iinclude examples/reader.c -Llib -lsmallwood -o reader
+ *     python3 -c 'import os, secrets; [os.write(1, secrets.randbelow(2**32 - 5).to_bytes(4, "little")) for _ in range(140)]' > polynomials
+ *     mkfifo to-badge to-reader
+ *     ./badge polynomials < to-badge > to-reader &
+ *     ./reader > to-badge < to-reader
+ *
  * Exit status 0 after the one reply; 1 where it refuses, and standard error says why; 2 for wrong words. Everything that the reader sends
  * is taken as hostile.
- *
- *     gcc -std=c11 -O2 -Wall -Wextra -Wpedantic -Werror -Iinclude examples/badge.c target/staticlib/libsmallwood.a -o badge
  */
 #include "conversation.h"
 
@@ -50,17 +57,17 @@ static void read_polynomials(const char *name)
     if (size != 4 * COEFFICIENTS)
         refuse("the file has not the length of the polynomials");
     for (size_t i = 0; i < COEFFICIENTS; i++)
-        secret.coefficients[i] = word_at(secret.file + 4 * i);
+        secret.coefficients[i] = smallwood_element_at(secret.file + 4 * i);
 }
 
-/* All is drawn anew for each commitment. The salt is no secret. */
+/* All is drawn anew for each commitment, each element as likely as any other. The salt is no secret. */
 static void draw_secrets(void)
 {
-    need_drawn(draw_elements(secret.tails, TAILS));
-    need_drawn(draw_elements(secret.blinds, BLINDS)); /* each as likely as any other, or columns would show coefficients after all */
-    need_drawn(draw_elements(secret.masks, MASKS));
-    need_drawn(draw_bytes(secret.nonces, NONCES));
-    need_drawn(draw_bytes(named + SALT_AT, SALT));
+    need_drawn(smallwood_draw_elements(secret.tails, TAILS, system_random, NULL));
+    need_drawn(smallwood_draw_elements(secret.blinds, BLINDS, system_random, NULL));
+    need_drawn(smallwood_draw_elements(secret.masks, MASKS, system_random, NULL));
+    need_drawn(system_random(NULL, secret.nonces, NONCES));
+    need_drawn(system_random(NULL, named + SALT_AT, SALT));
 }
 
 static void commit(void)
@@ -108,26 +115,28 @@ static void answer(size_t from, size_t count)
  */
 static void take_challenges(void)
 {
-    hear(question, FIRST);
-    m = question[M_AT];
+    hear(question, FIRST_LENGTH);
+    m = question[SMALLWOOD_M_AT];
     if (m < 1 || m > BETA)
         refuse("the question has no points, or more than there are blinding rows");
-    write_header(named, m);
-    if (memcmp(question, named, NAMED) != 0)
+    if (!smallwood_header_fits(question, H, MU, NU, W, L, ETA, BETA) || memcmp(question + ROOT_AT, named + ROOT_AT, ROOT + SALT) != 0)
         refuse("the question has other sizes, or is about another commitment");
-    put_stand_ins(question + FIRST + POINTS_LENGTH(m)); /* the points are 0 still */
+    put_stand_ins(question + SMALLWOOD_INDICES_AT(ETA, m)); /* the points are 0 still */
 }
 
 static void take_points(void)
 {
-    hear(question + FIRST, POINTS_LENGTH(m));
-    if (has_point_0(question + FIRST, m))
-        refuse("the point 0 is asked");
+    const uint8_t *points = question + POINTS_AT;
+
+    hear(question + POINTS_AT, POINTS_LENGTH(m));
+    for (size_t p = 0; p < m; p++)
+        if (!smallwood_points_fit(points + 4 * p, 1))
+            refuse(smallwood_element_at(points + 4 * p) == 0 ? "the point 0 is asked" : smallwood_verdict_text(SMALLWOOD_BAD_ELEMENT));
 }
 
 static void take_indices(void)
 {
-    hear(question + FIRST + POINTS_LENGTH(m), INDICES_LENGTH);
+    hear(question + SMALLWOOD_INDICES_AT(ETA, m), INDICES_LENGTH);
 }
 
 int main(int count, char **words)

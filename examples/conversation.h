@@ -26,26 +26,10 @@
 
 #include "sides.h"
 
-/* Lengths in bytes. The pieces of a question with m points: */
-enum { FIRST = NAMED + 4 * ETA };
+/* The pieces of a question with m points, in bytes: up to the challenges, the points, the indices. */
+#define FIRST_LENGTH SMALLWOOD_POINTS_AT(ETA)
 #define POINTS_LENGTH(m) (4 * (size_t)(m))
 #define INDICES_LENGTH (2 * (size_t)L)
-
-/* The question with M points; where its indices stand; what its reply begins with, and does not exceed: */
-enum {
-    QUESTION = SMALLWOOD_QUESTION_LENGTH(L, ETA, M),
-    INDICES_AT = FIRST + POINTS_LENGTH(M),
-    BATCHING = SMALLWOOD_BATCHING_LENGTH(NU, W, L, ETA),
-    EVALUATION = SMALLWOOD_EVALUATION_LENGTH(NU, W, L, M),
-    REPLY_BOUND = SMALLWOOD_REPLY_BOUND(H, MU, NU, W, L, ETA, BETA, M)
-};
-
-/* The leaves 0 to L - 1, as long as others have not been asked. */
-static inline void put_stand_ins(uint8_t *indices)
-{
-    for (uint32_t a = 0; a < L; a++)
-        put_half(indices + 2 * a, a);
-}
 
 /* All that one conversation may take: who is silent, or sends a byte now and then, holds nobody longer. */
 enum { SECONDS = 10 };
@@ -133,9 +117,10 @@ static inline void tell(const void *from, size_t size)
     }
 }
 
-static inline void need_drawn(bool drawn)
+/* Of what a function that draws gives. */
+static inline void need_drawn(int failed)
 {
-    if (!drawn)
+    if (failed)
         refuse("the system gives no random bytes");
 }
 

@@ -3,12 +3,15 @@
  * it prints what smallwood_check alone says of it. It hides nothing, so it draws nothing: but for the coefficients 1, 2, 3 and so on, all
  * that it commits with is zeros.
  *
- *     forger CHEAT < from the reader > to the reader     the cheats are in the list below; `none` is honest
- *     forger misuse                                      no conversation: entries that are called wrongly, and what they return
+ * It is run as `forger CHEAT` in the badge's place, beside a reader that has been built (reader.c); `forger --help` lists the cheats:
  *
- * Exit status 0 where it came to its end, 1 where not, 2 for wrong words.
+ *     cc -std=c11 -O2 -Iinclude examples/forger.c -Llib -lsmallwood -o forger
+ *     mkfifo to-badge to-reader
+ *     ./forger knows < to-badge > to-reader &
+ *     ./reader > to-badge < to-reader
  *
- *     gcc -std=c11 -O2 -Wall -Wextra -Wpedantic -Werror -Iinclude examples/forger.c target/staticlib/libsmallwood.a -o forger
+ * `forger misuse` has no conversation: entries that are called wrongly, and what they return. Exit status 0 where it came to its end,
+ * 1 where not, 2 for wrong words.
  */
 #include "conversation.h"
 
@@ -61,70 +64,83 @@ static uint32_t check(void)
 
 /* ---- The cheats */
 
-static void add_to_word(uint8_t *word, uint64_t x)
+static void add_to_element(uint8_t *element, uint64_t x)
 {
-    put_word(word, (uint32_t)((word_at(word) + x) % SMALLWOOD_Q));
+    put_element(element, (uint32_t)((smallwood_element_at(element) + x) % SMALLWOOD_Q));
 }
 
 /* Adds to the first evaluation answer the polynomial that is 0 at these leaves and at no other; an answer has the values at N, N + 1, .. */
-static void shift(const uint8_t *indices, size_t count)
+static void shift(const uint32_t *leaves, size_t count)
 {
     for (uint32_t t = 0; t < WIDTH; t++) {
         uint64_t product = 1;
 
         for (size_t a = 0; a < count; a++)
-            product = product * (N + t - half_at(indices + 2 * a)) % SMALLWOOD_Q;
-        add_to_word(reply + BATCHING + 4 * t, product);
+            product = product * (N + t - leaves[a]) % SMALLWOOD_Q;
+        add_to_element(reply + BATCHING + 4 * t, product);
     }
 }
 
-static void shift_at_opened(void) { shift(question + INDICES_AT, L); }
+static void shift_at_opened(void)
+{
+    const uint8_t *indices = question + INDICES_AT;
+    uint32_t leaves[L];
 
-/* As many leaves as a shift can vanish at. It passes where all that are opened are among them: the leaf term of the handbook, 2^-81.8. */
+    for (size_t a = 0; a < L; a++)
+        leaves[a] = (uint32_t)indices[2 * a] | (uint32_t)indices[2 * a + 1] << 8;
+    shift(leaves, L);
+}
+
+/*
+ * As many leaves as a shift can vanish at, d = WIDTH - 1. It passes where all that are opened are among them: C(d, L) of C(N, L) sets, the
+ * bits against a trusted committer (sides.h), since the rows are as smallwood_commit makes them. Who makes his own has it cheaper:
+ * proof_forger.c.
+ */
 static void shift_at_guessed(void)
 {
-    uint8_t indices[2 * (WIDTH - 1)];
+    uint32_t leaves[WIDTH - 1];
 
     for (uint32_t a = 0; a < WIDTH - 1; a++)
-        put_half(indices + 2 * a, a);
-    shift(indices, WIDTH - 1);
+        leaves[a] = a;
+    shift(leaves, WIDTH - 1);
 }
 
 /* No basis polynomial is 0 at a leaf, so each opened leaf shows it. */
-static void change_column(void) { add_to_word(reply + BATCHING, 1); }
+static void change_column(void) { add_to_element(reply + BATCHING, 1); }
 
 /* A constant coefficient; another one would not show at the leaf 0. */
-static void change_batching(void) { add_to_word(reply, 1); }
+static void change_batching(void) { add_to_element(reply, 1); }
 
 /* Two encodings of one element: q is refused, not reduced. */
-static void write_q(void) { put_word(reply, SMALLWOOD_Q); }
+static void write_q(void) { put_element(reply, SMALLWOOD_Q); }
 
-static void change_leaf(void) { add_to_word(reply + BATCHING + EVALUATION, 1); }
+static void change_leaf(void) { add_to_element(reply + BATCHING + EVALUATION, 1); }
 static void change_node(void) { reply[size - 1] ^= 1; }
 static void cut(void) { size--; }
 static void lengthen(void) { reply[size++] = 0; }
 
 static const struct cheat {
-    const char *name;
+    const char *name, *text;
     void (*change)(void); /* of the reply */
     bool always; /* of the answers before it, too: the reader sees the same ones twice */
 } cheats[] = {
-    {"none", NULL, false},
-    {"knows", shift_at_opened, false}, /* the check accepts it: only that the answers are other ones tells */
-    {"guesses", shift_at_guessed, true},
-    {"column", change_column, true},
-    {"batching", change_batching, true},
-    {"element", write_q, true},
-    {"leaf", change_leaf, false},
-    {"node", change_node, false},
-    {"cut", cut, false},
-    {"longer", lengthen, false},
-    {"salt", NULL, false}, /* another salt than it committed with is sent */
-    {"polynomial", NULL, false}, /* answers are for another polynomial than the committed one */
-    {"early", NULL, false}, /* a byte too many after the batching answers */
-    {"gone", NULL, false}, /* nothing after root and salt */
-    {"silent", NULL, false} /* nothing either, and it stays */
+    {"none", "does not cheat", NULL, false},
+    {"knows", "makes false answers that fit when it knows the leaves: the check accepts, the comparison tells", shift_at_opened, false},
+    {"guesses", "gives false answers that fit as many leaves as can be, before it knows which are opened", shift_at_guessed, true},
+    {"column", "gives a false column value", change_column, true},
+    {"batching", "gives a false batching answer", change_batching, true},
+    {"element", "writes q for an element", write_q, true},
+    {"leaf", "changes the record of an opened leaf", change_leaf, false},
+    {"node", "changes a node of the tree", change_node, false},
+    {"cut", "sends a byte less", cut, false},
+    {"longer", "sends a byte more", lengthen, false},
+    {"salt", "sends another salt than it committed with", NULL, false},
+    {"polynomial", "answers for another polynomial than the committed one", NULL, false},
+    {"early", "sends a byte too many after the batching answers", NULL, false},
+    {"gone", "sends nothing after root and salt, and ends", NULL, false},
+    {"silent", "sends nothing after root and salt, and stays", NULL, false}
 };
+enum { CHEATS = sizeof cheats / sizeof *cheats };
 
 static const struct cheat *cheat;
 
@@ -171,7 +187,8 @@ static void finish(void)
     verdict = check();
     fprintf(stderr, "forger: the check alone gives %" PRIu32, verdict);
     if (verdict == SMALLWOOD_OK)
-        fprintf(stderr, ": polynomial 1 at %" PRIu32 " is %" PRIu32 "\n", word_at(question + FIRST), word_at(values));
+        fprintf(stderr, ": polynomial 1 at %" PRIu32 " is %" PRIu32 "\n", smallwood_element_at(question + POINTS_AT),
+                smallwood_element_at(values));
     else
         fprintf(stderr, "%s\n", memcmp(values, untouched, VALUES) == 0 ? ", and no value" : ", but writes values");
     tell(reply, size);
@@ -180,13 +197,13 @@ static void finish(void)
 static void converse(void)
 {
     begin();
-    hear(question, FIRST);
-    if (question[M_AT] != M)
+    hear(question, FIRST_LENGTH);
+    if (question[SMALLWOOD_M_AT] != M)
         refuse("the reader asks for another number of points");
     answer(0, BATCHING);
     if (cheats_by("early"))
         tell("", 1);
-    hear(question + FIRST, POINTS_LENGTH(M));
+    hear(question + POINTS_AT, POINTS_LENGTH(M));
     answer(BATCHING, EVALUATION);
     hear(question + INDICES_AT, INDICES_LENGTH);
     finish();
@@ -208,7 +225,7 @@ static void misuse(void)
     expect(commit(L, SALT - 1) == SMALLWOOD_BAD_LENGTH, "a salt that is not of 32 bytes is refused with 2");
     expect(commit(N, SALT) == SMALLWOOD_BAD_SIZES, "sizes that do not fit are refused with 1");
     expect(commit(L, SALT) == SMALLWOOD_OK, "the commitment is made");
-    write_header(question, M);
+    smallwood_put_header(question, H, MU, NU, W, L, ETA, BETA, M);
     memcpy(question + ROOT_AT, tree + TREE - ROOT, ROOT);
     put_stand_ins(question + INDICES_AT);
     make_reply();
@@ -220,9 +237,9 @@ static void misuse(void)
     expect(open_in(question, size, &number) == SMALLWOOD_BAD_ROOT, "another salt is refused with 8");
     expect(check() == SMALLWOOD_BAD_ROOT && memcmp(values, untouched, VALUES) == 0, "so is the reply under it, and no value is written");
     question[SALT_AT] ^= 1;
-    put_half(question + VERSION_AT, SMALLWOOD_QUESTION_VERSION - 1);
+    question[VERSION_AT]--;
     expect(check() == SMALLWOOD_BAD_MARK, "a question of version 2, which had no salt, is refused with 5");
-    put_half(question + VERSION_AT, SMALLWOOD_QUESTION_VERSION);
+    question[VERSION_AT]++;
     expect(smallwood_check(question, QUESTION, reply, size, values, VALUES - 1) == SMALLWOOD_BAD_LENGTH,
            "a shorter value buffer is refused with 2");
     expect(smallwood_check(NULL, 0, NULL, 0, NULL, 0) == SMALLWOOD_BAD_QUESTION_LENGTH, "nothing at all is refused with 6");
@@ -230,18 +247,31 @@ static void misuse(void)
     expect(check() == SMALLWOOD_OK, "the reply is accepted again");
 }
 
+static void list_cheats(FILE *to)
+{
+    fprintf(to, "usage: forger CHEAT, or forger misuse. The cheats:\n");
+    for (size_t i = 0; i < CHEATS; i++)
+        fprintf(to, "    %-12s%s\n", cheats[i].name, cheats[i].text);
+}
+
 int main(int count, char **words)
 {
+    const char *word = count == 2 ? words[1] : "";
+
     memset(untouched, 0xAA, VALUES);
-    if (count == 2 && strcmp(words[1], "misuse") == 0) {
+    if (strcmp(word, "--help") == 0) {
+        list_cheats(stdout);
+        return 0;
+    }
+    if (strcmp(word, "misuse") == 0) {
         misuse();
         return 0;
     }
-    for (size_t i = 0; count == 2 && i < sizeof cheats / sizeof *cheats; i++)
-        if (strcmp(words[1], cheats[i].name) == 0)
+    for (size_t i = 0; i < CHEATS; i++)
+        if (strcmp(word, cheats[i].name) == 0)
             cheat = &cheats[i];
     if (cheat == NULL) {
-        fprintf(stderr, "usage: forger CHEAT, or forger misuse\n");
+        list_cheats(stderr);
         return 2;
     }
     line_opens();

@@ -2,12 +2,15 @@
  * The reader's side of a conversation. It asks a badge for the values of its polynomials at points that it draws, and sees root, salt,
  * answers and the reply, never a secret. It prints the values where all is as it should be.
  *
- *     reader < from the badge > to the badge
+ * It is run as `reader`, and standard input and output are its line to the badge, so what is for people goes to standard error. Built, and
+ * joined by two pipes to a badge that has been built (badge.c has all the lines, and what the file `polynomials` is):
  *
- * Standard output is the line, so what is for people goes to standard error. Exit status 0 after values were printed, 1 where it refuses.
- * Everything that the badge sends is taken as hostile. Nothing is allocated.
+ *     cc -std=c11 -O2 -Iinclude examples/reader.c -Llib -lsmallwood -o reader
+ *     mkfifo to-badge to-reader
+ *     ./badge polynomials < to-badge > to-reader &
+ *     ./reader > to-badge < to-reader
  *
- *     gcc -std=c11 -O2 -Wall -Wextra -Wpedantic -Werror -Iinclude examples/reader.c target/staticlib/libsmallwood.a -o reader
+ * Exit status 0 after values were printed, 1 where it refuses. Everything that the badge sends is taken as hostile. Nothing is allocated.
  */
 #include "conversation.h"
 
@@ -17,7 +20,7 @@
 
 _Static_assert(M >= 1 && M <= BETA, "a badge answers at most BETA points");
 
-static uint8_t question[QUESTION], answers[BATCHING + EVALUATION], values[VALUES];
+static uint8_t question[QUESTION], answers[ANSWERS], values[VALUES];
 static uint8_t reply[REPLY_BOUND + 1]; /* a byte more, so that a longer reply is seen to be longer */
 static uint32_t points[M];
 
@@ -33,30 +36,15 @@ static _Noreturn void refuse_with(uint32_t verdict)
     exit(1);
 }
 
-/* L different leaves, each set as likely as any other, in rising order. N is a power of 2, so H bits give each leaf alike. */
 static void draw_indices(void)
 {
     uint32_t indices[L];
 
-    for (size_t count = 0; count < L;) {
-        uint32_t index;
-        size_t at = 0;
-
-        need_drawn(draw_bytes(&index, sizeof index));
-        index &= N - 1;
-        while (at < count && indices[at] < index)
-            at++;
-        if (at < count && indices[at] == index)
-            continue;
-        memmove(indices + at + 1, indices + at, (count - at) * sizeof *indices);
-        indices[at] = index;
-        count++;
-    }
+    need_drawn(smallwood_draw_indices(indices, H, L, system_random, NULL));
+    smallwood_put_indices(question + INDICES_AT, indices, L);
     fprintf(stderr, "leaves");
-    for (size_t a = 0; a < L; a++) {
-        put_half(question + INDICES_AT + 2 * a, indices[a]);
+    for (size_t a = 0; a < L; a++)
         fprintf(stderr, " %" PRIu32, indices[a]);
-    }
     fprintf(stderr, "\n");
 }
 
@@ -70,15 +58,15 @@ static void ask(void)
 {
     uint32_t challenges[ETA];
 
-    write_header(question, M);
+    smallwood_put_header(question, H, MU, NU, W, L, ETA, BETA, M);
     hear(question + ROOT_AT, ROOT + SALT);
-    need_drawn(draw_elements(challenges, ETA));
-    put_words(question + NAMED, challenges, ETA);
-    tell(question, FIRST);
+    need_drawn(smallwood_draw_elements(challenges, ETA, system_random, NULL));
+    smallwood_put_elements(question + SMALLWOOD_CHALLENGES_AT, challenges, ETA);
+    tell(question, FIRST_LENGTH);
     hear(answers, BATCHING);
-    need_drawn(draw_points(points, M));
-    put_words(question + FIRST, points, M);
-    tell(question + FIRST, POINTS_LENGTH(M));
+    need_drawn(smallwood_draw_points(points, M, system_random, NULL));
+    smallwood_put_elements(question + POINTS_AT, points, M);
+    tell(question + POINTS_AT, POINTS_LENGTH(M));
     hear(answers + BATCHING, EVALUATION);
     draw_indices();
 }
@@ -127,7 +115,8 @@ int main(void)
     compare_answers();
     for (size_t p = 0; p < M; p++)
         for (size_t i = 0; i < W; i++)
-            fprintf(stderr, "polynomial %zu at %" PRIu32 " is %" PRIu32 "\n", i + 1, points[p], word_at(values + 4 * (p * W + i)));
+            fprintf(stderr, "polynomial %zu at %" PRIu32 " is %" PRIu32 "\n", i + 1, points[p],
+                    smallwood_element_at(values + 4 * (p * W + i)));
     fprintf(stderr, "reader: accepted\n");
     return 0;
 }

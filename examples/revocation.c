@@ -6,7 +6,8 @@
  *
  * Nothing here is secret. Whoever interpolates secrets overwrites the stack after the call, as examples/badge.c does.
  *
- *     gcc -std=c11 -Wall -Wextra -Wpedantic -Werror -Iinclude examples/revocation.c target/staticlib/libsmallwood.a
+ *     cc -std=c11 -O2 -Iinclude examples/revocation.c -Llib -lsmallwood -o revocation
+ *     ./revocation
  */
 #include <stdbool.h>
 #include <stdio.h>

@@ -1,5 +1,5 @@
 /*
- * What both sides of a commitment share: the sizes, the lengths that follow from them, words in bytes, a question's header, drawing.
+ * What both sides of a commitment share: the sizes, the lengths that follow from them, and the system's random bytes.
  */
 #ifndef SIDES_H
 #define SIDES_H
@@ -10,13 +10,26 @@
 #include <sys/random.h>
 
 #include "smallwood.h"
+#include "smallwood_draw.h"
 
 /*
- * Four polynomials of 34 coefficients, in four columns each; 256 leaves, 26 of them opened; four repetitions, two points. BETA is M: each
- * point shows a value of every column, and each column but a polynomial's last has a blind for each of them. A draw of leaves fits false
- * answers with a probability of 2^-81.8. For other sizes see the handbook, "Choosing h, l and eta", and change this line alone.
+ * Four polynomials of 35 coefficients, in three columns each; 1,024 leaves, 42 of them opened; four repetitions, two points. BETA is M:
+ * each point shows a value of every column, and each column but a polynomial's last has a blind for each of them.
+ *
+ * What one accepted answer is worth here, in bits, with d = W NU + L - 1 (docs/HANDBOOK.md, "What an accepted answer is worth"):
+ *
+ *      40.1   whoever committed: log2 of C(N, L) / C((N + d) / 2, L), with (N + d) / 2 rounded down
+ *     212.7   a trusted committer: log2 of C(N, L) / C(d, L)
+ *     113.2   all challenges guessed, the eta term: -log2 of ((MU + BETA) / q)^ETA
+ *
+ * A proof has kappa bits more of the first two. For other sizes change this line alone; a program that has its own defines SIZES before it
+ * includes this.
  */
-enum { H = 8, MU = 8, NU = 4, W = 4, L = 26, ETA = 4, BETA = 2, M = 2 };
+#ifndef SIZES
+#define SIZES H = 10, MU = 11, NU = 3, W = 4, L = 42, ETA = 4, BETA = 2, M = 2
+#endif
+
+enum { SIZES };
 
 /* Lengths of slices, in words and then in bytes. */
 enum {
@@ -28,6 +41,7 @@ enum {
     BLINDS = SMALLWOOD_BLINDS_LENGTH(NU, W, BETA),
     BLINDS_ROOM = BLINDS > 0 ? BLINDS : 1, /* with NU = 1 there are none, and C has no array of none */
     MASKS = SMALLWOOD_MASKS_LENGTH(NU, W, L, ETA),
+    RECORD = SMALLWOOD_ROWS(MU, BETA) + ETA, /* values of a leaf */
     TABLE = SMALLWOOD_TABLE_LENGTH(H, MU, ETA, BETA),
     NONCES = SMALLWOOD_NONCES_LENGTH(H),
     ROOT = SMALLWOOD_ROOT_LENGTH,
@@ -36,108 +50,67 @@ enum {
     VALUES = SMALLWOOD_VALUES_LENGTH(W, M)
 };
 
-/* A question begins with header, root and salt. Where they stand, and in the header the number of points. */
+/* In bytes: a question with M points; what its reply begins with, and does not exceed. */
 enum {
-    HEADER = SMALLWOOD_HEADER_LENGTH,
-    NAMED = SMALLWOOD_NAMED_LENGTH,
-    VERSION_AT = 3,
-    M_AT = 13,
-    ROOT_AT = HEADER,
-    SALT_AT = ROOT_AT + ROOT
+    QUESTION = SMALLWOOD_QUESTION_LENGTH(L, ETA, M),
+    BATCHING = SMALLWOOD_BATCHING_LENGTH(NU, W, L, ETA),
+    EVALUATION = SMALLWOOD_EVALUATION_LENGTH(NU, W, L, M),
+    ANSWERS = BATCHING + EVALUATION,
+    REPLY_BOUND = SMALLWOOD_REPLY_BOUND(H, MU, NU, W, L, ETA, BETA, M)
 };
 
-/* ---- Bytes: all numbers are little-endian */
+/* Where it is in the question: the version's lower byte, root and salt, the points, the indices. */
+enum {
+    VERSION_AT = 3,
+    ROOT_AT = SMALLWOOD_ROOT_AT,
+    SALT_AT = SMALLWOOD_SALT_AT,
+    NAMED = SMALLWOOD_NAMED_LENGTH,
+    POINTS_AT = SMALLWOOD_POINTS_AT(ETA),
+    INDICES_AT = SMALLWOOD_INDICES_AT(ETA, M)
+};
 
-static inline void put_half(uint8_t *to, uint32_t x)
+static inline void put_element(uint8_t *to, uint32_t x)
 {
-    to[0] = (uint8_t)x;
-    to[1] = (uint8_t)(x >> 8);
+    smallwood_put_elements(to, &x, 1);
 }
 
-static inline uint32_t half_at(const uint8_t *from)
+/* The leaves 0 to L - 1, as long as others have not been asked. */
+static inline void put_stand_ins(uint8_t *indices)
 {
-    return (uint32_t)from[0] | (uint32_t)from[1] << 8;
+    uint32_t leaves[L];
+
+    for (uint32_t a = 0; a < L; a++)
+        leaves[a] = a;
+    smallwood_put_indices(indices, leaves, L);
 }
 
-static inline void put_word(uint8_t *to, uint32_t x)
+/* The value of a polynomial, straight from its coefficients. */
+static inline uint32_t evaluate(const uint32_t *coefficients, size_t count, uint32_t z)
 {
-    put_half(to, x);
-    put_half(to + 2, x >> 16);
+    uint64_t value = 0;
+
+    while (count-- > 0)
+        value = (value * z + coefficients[count]) % SMALLWOOD_Q;
+    return (uint32_t)value;
 }
 
-static inline void put_words(uint8_t *to, const uint32_t *words, size_t count)
-{
-    for (size_t i = 0; i < count; i++)
-        put_word(to + 4 * i, words[i]);
-}
-
-static inline uint32_t word_at(const uint8_t *from)
-{
-    return half_at(from) | half_at(from + 2) << 16;
-}
-
-static inline void write_header(uint8_t *to, uint8_t m)
-{
-    memcpy(to, "SWQ", 3);
-    put_half(to + VERSION_AT, SMALLWOOD_QUESTION_VERSION);
-    to[5] = H;
-    to[6] = MU;
-    put_half(to + 7, NU);
-    put_half(to + 9, W);
-    to[11] = L;
-    to[12] = ETA;
-    to[M_AT] = m;
-    to[14] = BETA;
-}
-
-/* ---- Drawing: all randomness is the system's (getrandom, Linux). False where it gives none */
-
-static inline bool draw_bytes(void *to, size_t count)
+/* All randomness is the system's (getrandom, Linux). A smallwood_random: 0, or -1 where it gives none. */
+static inline int system_random(void *context, void *to, size_t count)
 {
     uint8_t *next = to;
 
+    (void)context;
     while (count > 0) {
         ssize_t got = getrandom(next, count, 0);
 
         if (got < 0 && errno == EINTR)
             continue;
         if (got <= 0)
-            return false;
+            return -1;
         next += got;
         count -= (size_t)got;
     }
-    return true;
-}
-
-/* A word that is not below q is drawn again: a remainder would make small elements likelier. */
-static inline bool draw_elements(uint32_t *words, size_t count)
-{
-    if (!draw_bytes(words, count * sizeof *words))
-        return false;
-    for (size_t i = 0; i < count; i++)
-        while (words[i] >= SMALLWOOD_Q)
-            if (!draw_bytes(&words[i], sizeof words[i]))
-                return false;
-    return true;
-}
-
-/* Points of a question. A badge refuses the point 0, which is drawn once in q times. */
-static inline bool draw_points(uint32_t *points, size_t count)
-{
-    for (size_t p = 0; p < count; p++)
-        do
-            if (!draw_elements(&points[p], 1))
-                return false;
-        while (points[p] == 0);
-    return true;
-}
-
-static inline bool has_point_0(const uint8_t *points, size_t count)
-{
-    for (size_t p = 0; p < count; p++)
-        if (word_at(points + 4 * p) == 0)
-            return true;
-    return false;
+    return 0;
 }
 
 #endif
