@@ -4,11 +4,17 @@
     python3 example.py values FILE LOG      compares what a reader printed with the polynomials in FILE
     python3 example.py forged LOG           that a check alone gave a forger a false value; `honest LOG`: a true one
     python3 example.py readers BADGE FILE   asks a badge, rightly and wrongly, and compares what it does
+    python3 example.py digests LIBRARY      compares examples/digest.h, in a shared library, with hashlib
+    python3 example.py lists QUESTION FIRST SECOND LOG
+                                            that two proofs for one question, by a forger with this log, are accepted
 
 Exit status 1 at the first thing that is not as it should be, 2 for wrong words.
 """
 
+import ctypes
 import fcntl
+import hashlib
+import os
 import re
 import sys
 import threading
@@ -42,9 +48,9 @@ def constant(file, name):
     return int(found[1])
 
 
-def example_sizes(m=None):
-    h, mu, nu, w, l, eta, beta = (constant("sides.h", name) for name in "H MU NU W L ETA BETA".split())
-    return Sizes(h, mu, nu, w, l, eta, constant("sides.h", "M") if m is None else m, beta)
+def example_sizes(m=None, file="sides.h"):
+    h, mu, nu, w, l, eta, beta = (constant(file, name) for name in "H MU NU W L ETA BETA".split())
+    return Sizes(h, mu, nu, w, l, eta, constant(file, "M") if m is None else m, beta)
 
 
 # ---- Polynomials and their values
@@ -93,6 +99,50 @@ def compare_forged(log, is_true):
     must(found, "the check alone accepts")
     true = evaluate(range(1, example_sizes().each + 1), int(found[1]))
     must((int(found[2]) == true) == is_true, "the value is %s" % ("true" if is_true else "false"))
+
+
+# ---- Digests, and proofs of two lists
+
+DIGEST_LENGTHS = *range(301), 1000, 4096, 10000, 100003  # of strings; beyond two blocks, and some long ones
+DIGEST_COUNTS = 0, 1, 32, 135, 136, 137, 272, 600  # of output; around a block, and the most that is tried
+
+
+def compare_digests(path):
+    """Each string is taken in two pieces, cut at a place that is drawn; some output of every length is compared."""
+    library = ctypes.CDLL(os.path.abspath(path))
+    sizes = ctypes.c_size_t
+    compared = 0
+    for length in DIGEST_LENGTHS:
+        string = os.urandom(length)
+        for count in DIGEST_COUNTS:
+            room = ctypes.create_string_buffer(b"\xaa" * (count + 1), count + 1)
+            library.in_two(room, sizes(count), string, sizes(length), sizes(random.randint(0, length)))
+            true = hashlib.shake_256(string).digest(count) + b"\xaa"
+            must(room.raw == true, "SHAKE256 of %d bytes to %d is hashlib's" % (length, count))
+            compared += 1
+    print("ok: %d outputs of examples/digest.h are hashlib's" % compared)
+
+
+def compare_lists(question, first, second, log):
+    """The second implementation accepts both proofs, with the values and after the draws that the forger printed."""
+    s, text = example_sizes(file="proof_forger.c"), Path(log).read_text()
+    kappa = int(re.search(r"; kappa (\d+)\n", text)[1])
+    lines = re.findall(r"list \d: (\d+) draws; the check gives 0: polynomial 1 at (\d+) is (\d+)\n", text)
+    must(len(lines) == 2, "the forger prints two accepted proofs")
+    asked = Path(question).read_bytes()
+    must(asked.startswith(smallwood.write_header(s)), "the question has the forger's sizes")
+    batchings, accepted = [], []
+    for (draws, point, value), path in zip(lines, (first, second)):
+        proof = Path(path).read_bytes()
+        number, values = smallwood.check_proof(asked, kappa, proof, [0] * (s.w * s.m))
+        must(number == 0, "the second implementation accepts, and does not say %d" % number)
+        must([values[0], to_words(proof[:4])[0] + 1] == [int(value), int(draws)], "value and draws are as printed")
+        must(int(point) == to_words(asked[smallwood.AFTER_SALT :])[0], "the point is the question's")
+        batchings.append(proof[4 : 4 + 4 * s.eta * s.width])
+        accepted.append(values)
+    must(all(one != two for one, two in zip(*accepted)), "all values differ")
+    must(batchings[0] != batchings[1], "R differ")
+    print("ok: the second implementation accepts both proofs for one question, with different values")
 
 
 # ---- Readers
@@ -299,6 +349,8 @@ TASKS = {
     "honest": (lambda log: compare_forged(log, True), (present,)),
     "forged": (lambda log: compare_forged(log, False), (present,)),
     "readers": (try_readers, (runnable, present)),
+    "digests": (compare_digests, (present,)),
+    "lists": (compare_lists, (present,) * 4),
 }
 
 

@@ -1,13 +1,14 @@
 #!/bin/sh
 # Builds the examples for C with warnings as errors and runs them: badge and reader, forgers, wrong readers, a proof
-# without a conversation, interpolation. Exit status 1 at the first result that is not as it should be.
+# without a conversation and one who forges it, interpolation. Then the lines that stand in their comments are run as
+# they stand there, in a folder laid out as a release. Exit status 1 at the first result that is not as it should be.
 #
 #     tools/example.sh
 #
 #     --archive FILE     uses this archive and does not build the library
 #     --stand-in         uses the plain C implementation, to test examples and script
 #
-# Needs gcc, python3, timeout and mkfifo, and rt unless an archive is given. Takes about 20 seconds: two times the
+# Needs gcc, python3, timeout and mkfifo, and rt unless an archive is given. Takes about 25 seconds: two times the
 # examples' time limit, which silent sides are let run into.
 
 set -eu
@@ -26,9 +27,18 @@ limit=60 # seconds; the programs have a shorter time of their own
 flags='-std=c11 -O2 -Wall -Wextra -Wpedantic -Werror'
 programs=$build/examples
 mkdir -p "$programs"
-for example in badge reader forger offline_door revocation; do
+examples='first badge reader forger offline_door proof_forger revocation'
+
+# compile NAME SOURCE [WORDS...]
+compile() {
+    program=$1
+    shift
     # shellcheck disable=SC2086
-    "$CC" $flags -I"$root/include" -o "$programs/$example" "$root/examples/$example.c" "$archive"
+    "$CC" $flags -I"$root/include" -I"$root/examples" -o "$programs/$program" "$@" "$archive"
+}
+
+for example in $examples; do
+    compile "$example" "$root/examples/$example.c"
 done
 
 scratch=$(mktemp -d)
@@ -103,15 +113,18 @@ python3 "$tools/example.py" readers "$programs/badge" "$scratch/polynomials"
 
 echo "== examples/forger.c and examples/reader.c"
 alone='forger: the check alone gives'
+other_answers='the answers are not those that came before the leaves were drawn'
 converse "$programs/forger" none
 accepted "a forger that does not cheat"
 python3 "$tools/example.py" honest "$scratch/other.log"
 converse "$programs/forger" knows
-refused knows "$alone 0:" 'reader: refused: the answers are not those that came before'
+refused knows "$alone 0:" "reader: refused: $other_answers"
 python3 "$tools/example.py" forged "$scratch/other.log"
+tried=
 for pair in guesses:10 column:10 batching:9 element:3 leaf:8 node:8 cut:7 longer:7 salt:8 polynomial:9; do
     cheat=${pair%:*}
     number=${pair#*:}
+    tried="$tried $cheat"
     converse "$programs/forger" "$cheat"
     refused "$cheat" "$alone $number, and no value" "reader: refused with $number:"
 done
@@ -121,11 +134,98 @@ converse "$programs/forger" gone
 refused gone '' 'reader: refused: the other side ended too soon'
 converse "$programs/forger" silent
 refused silent '' 'reader: refused: the other side took too long'
-ends_with 2 "$programs/forger"
-ends_with 2 "$programs/forger" unheard-of
 "$programs/forger" misuse
+"$programs/forger" --help > "$scratch/help"
+for words in '' unheard-of 'none none'; do
+    # shellcheck disable=SC2086
+    ends_with 2 "$programs/forger" $words
+    cmp -s "$scratch/printed" "$scratch/help" || wrong "forger $words: does not list the cheats"
+done
+# shellcheck disable=SC2046
+set -- $(sed -n 's/^    \([a-z]*\)  *[a-z].*/\1/p' "$scratch/help")
+[ "$*" = "none knows$tried early gone silent" ] || wrong "forger --help: lists other cheats than were tried: $*"
 
 for example in offline_door revocation; do
     echo "== examples/$example.c"
     "$programs/$example"
 done
+
+echo "== examples/digest.h"
+cat > "$scratch/in_two.c" << 'SOURCE'
+#include "digest.h"
+
+void in_two(uint8_t *to, size_t count, const uint8_t *from, size_t length, size_t cut);
+
+void in_two(uint8_t *to, size_t count, const uint8_t *from, size_t length, size_t cut)
+{
+    struct shake first = {{0}, 0}, whole;
+
+    shake_take(&first, from, cut);
+    whole = first;
+    shake_take(&whole, from + cut, length - cut);
+    shake_give(&whole, to, count);
+}
+SOURCE
+compile in_two.so "$scratch/in_two.c" -shared -fPIC
+python3 "$tools/example.py" digests "$programs/in_two.so"
+
+echo "== examples/proof_forger.c"
+for words in '0 any' '0 any' '0 any' '0 close' '4 any'; do
+    # shellcheck disable=SC2086
+    set -- $words "$scratch/question" "$scratch/one" "$scratch/two"
+    timeout "$limit" "$programs/proof_forger" "$@" > "$scratch/forged" ||
+        wrong "proof_forger $words: $(tail -n 1 "$scratch/forged")"
+    cat "$scratch/forged"
+    python3 "$tools/example.py" lists "$3" "$4" "$5" "$scratch/forged"
+done
+ends_with 2 "$programs/proof_forger" ''
+for words in 9 -1 00 '4 far' '4 any one' '4 any one two' '4 any one two three four'; do
+    # shellcheck disable=SC2086
+    ends_with 2 "$programs/proof_forger" $words
+done
+
+# An open whose answers are others when the leaves are known: the check accepts them, so the comparison has to tell.
+echo "== examples/first.c"
+"$programs/first"
+for late in 0 1; do
+    compile late "$root/examples/first.c" "$tools/late_open.c" -DLATE_BATCHING="$late" -Wl,--wrap=smallwood_open
+    ends_with 1 "$programs/late"
+    [ "$(sort "$scratch/printed" | tr '\n' ';')" = "late_open: the check alone gives 0;$other_answers;" ] ||
+        wrong "first.c takes answers that were made late: $(cat "$scratch/printed")"
+done
+echo "ok: first.c refuses answers that the check accepts, but that were made when the leaves were known"
+
+# The lines in the examples' comments. A release has these folders; cc is the compiler that is used here.
+release=$scratch/release
+mkdir -p "$release/lib" "$scratch/bin"
+cp -r "$root/include" "$root/examples" "$release/"
+cp "$archive" "$release/lib/libsmallwood.a"
+ln -s "$(command -v "$CC")" "$scratch/bin/cc"
+
+# as_written EXAMPLE STATUS LAST: the commands in the program's first comment, all that is indented there by four, run
+# in the folder and end with this status and this last line.
+as_written() {
+    sed -n -e '/\*\//q' -e 's/^ \*     //p' "$root/examples/$1.c" > "$scratch/lines"
+    grep -q "^cc .* examples/$1\.c " "$scratch/lines" || wrong "$1.c: does not say how it is built"
+    rm -f "$release/to-badge" "$release/to-reader"
+    status=0
+    (cd "$release" && PATH=$scratch/bin:$PATH timeout "$limit" sh -eu "$scratch/lines") \
+        > "$scratch/reader.log" 2>&1 || status=$?
+    [ "$status" = "$2" ] || wrong "$1.c: its lines end with $status, not with $2"
+    # shellcheck disable=SC2254
+    case $(tail -n 1 "$scratch/reader.log") in
+        $3) ;;
+        *) wrong "$1.c: its lines print something else at the end than '$3'" ;;
+    esac
+    echo "ok: the lines in $1.c, as they stand in a release's folder"
+}
+
+echo "== lines in comments"
+as_written badge 0 'reader: accepted'
+python3 "$tools/example.py" values "$release/polynomials" "$scratch/reader.log"
+as_written reader 0 'reader: accepted'
+as_written forger 1 "reader: refused: $other_answers"
+as_written first 0 "smallwood $(library_version): * the value at 10 is 987654321"
+as_written offline_door 0 'ok: *'
+as_written proof_forger 0 'a door that has R of list 2 opens to list 2'
+as_written revocation 0 'ok: *'
