@@ -54,6 +54,12 @@ wrong() {
     exit 1
 }
 
+# section TITLE: what the conversations before it left is not shown any more
+section() {
+    rm -f "$scratch/other.log" "$scratch/reader.log"
+    echo "== $1"
+}
+
 # converse PROGRAM [WORDS...]: the reader, with that program on the badge's side. Sets reader_status and other_status,
 # and leaves reader.log and other.log. No process but the two has the line open, or neither would see the other's end.
 converse() {
@@ -98,7 +104,7 @@ ends_with() {
     [ "$status" = "$expected" ] || wrong "$*: ends with $status, not with $expected"
 }
 
-echo "== examples/badge.c and examples/reader.c"
+section "examples/badge.c and examples/reader.c"
 python3 "$tools/example.py" polynomials "$scratch/polynomials"
 for run in 1 2 3; do
     converse "$programs/badge" "$scratch/polynomials"
@@ -111,7 +117,7 @@ ends_with 2 "$programs/badge" one two
 ends_with 1 "$programs/reader"
 python3 "$tools/example.py" readers "$programs/badge" "$scratch/polynomials"
 
-echo "== examples/forger.c and examples/reader.c"
+section "examples/forger.c and examples/reader.c"
 alone='forger: the check alone gives'
 other_answers='the answers are not those that came before the leaves were drawn'
 converse "$programs/forger" none
@@ -146,11 +152,11 @@ set -- $(sed -n 's/^    \([a-z]*\)  *[a-z].*/\1/p' "$scratch/help")
 [ "$*" = "none knows$tried early gone silent" ] || wrong "forger --help: lists other cheats than were tried: $*"
 
 for example in offline_door revocation; do
-    echo "== examples/$example.c"
+    section "examples/$example.c"
     "$programs/$example"
 done
 
-echo "== examples/digest.h"
+section "examples/digest.h"
 cat > "$scratch/in_two.c" << 'SOURCE'
 #include "digest.h"
 
@@ -169,7 +175,7 @@ SOURCE
 compile in_two.so "$scratch/in_two.c" -shared -fPIC
 python3 "$tools/example.py" digests "$programs/in_two.so"
 
-echo "== examples/proof_forger.c"
+section "examples/proof_forger.c"
 for words in '0 any' '0 any' '0 any' '0 close' '4 any'; do
     # shellcheck disable=SC2086
     set -- $words "$scratch/question" "$scratch/one" "$scratch/two"
@@ -185,7 +191,7 @@ for words in 9 -1 00 '4 far' '4 any one' '4 any one two' '4 any one two three fo
 done
 
 # An open whose answers are others when the leaves are known: the check accepts them, so the comparison has to tell.
-echo "== examples/first.c"
+section "examples/first.c"
 "$programs/first"
 for late in 0 1; do
     compile late "$root/examples/first.c" "$tools/late_open.c" -DLATE_BATCHING="$late" -Wl,--wrap=smallwood_open
@@ -220,7 +226,7 @@ as_written() {
     echo "ok: the lines in $1.c, as they stand in a release's folder"
 }
 
-echo "== lines in comments"
+section "lines in comments"
 as_written badge 0 'reader: accepted'
 python3 "$tools/example.py" values "$release/polynomials" "$scratch/reader.log"
 as_written reader 0 'reader: accepted'
