@@ -7,24 +7,24 @@
 
 #define QUESTIONS 16 /* whose replies are checked in turn: how many nodes a check hashes depends on the leaves */
 
-/* Sizes with the least l for so many bits, by the leaf term. */
+/* Sizes with the least l for so many bits against that committer. */
 struct choice {
-    char product[32];
+    char product[32], committer[32];
     uint32_t bits;
     struct sizes s;
 };
 
-/* From product,bits,h,mu,nu,w,l,eta,m,beta. */
+/* From product,committer,bits,h,mu,nu,w,l,eta,m,beta. */
 static struct choice read_choice(const char *word)
 {
     struct choice c;
     struct sizes *s = &c.s;
     int end = -1;
 
-    sscanf(word, "%31[^,],%u,%u,%u,%u,%u,%u,%u,%u,%u%n", c.product, &c.bits, &s->h, &s->mu, &s->nu, &s->w, &s->l,
-           &s->eta, &s->m, &s->beta, &end);
+    sscanf(word, "%31[^,],%31[^,],%u,%u,%u,%u,%u,%u,%u,%u,%u%n", c.product, c.committer, &c.bits, &s->h, &s->mu,
+           &s->nu, &s->w, &s->l, &s->eta, &s->m, &s->beta, &end);
     if (end < 0 || word[end] != '\0' || s->h < 1 || s->h > 12)
-        fail("a choice is product,bits,h,mu,nu,w,l,eta,m,beta");
+        fail("a choice is product,committer,bits,h,mu,nu,w,l,eta,m,beta");
     return c;
 }
 
@@ -143,7 +143,7 @@ static void show_choice(const struct choice *c)
     converse(&talk);
     check = time_of_checks(&talk);
     end_conversation(&talk);
-    printf("| %s | %u ", c->product, c->bits);
+    printf("| %s | %s | %u ", c->product, c->committer, c->bits);
     print_sizes(&c->s);
     printf("| %zu | %.0f ", a->proof_bytes - COUNTER_BYTES,
            (double)a->reply_bytes + ROOT_BYTES * (mean_nodes_above(&a->s) - (double)nodes_above(a)));
@@ -165,9 +165,9 @@ static void begin_products(void)
            "least (median) of %d runs. Checks are those of %d drawn questions in turn, and their permutations the mean "
            "of these.\n\n",
            ROUNDS, QUESTIONS);
-    puts("| product | k " SIZES_HEAD "| reply bound | mean reply | commit permutations | commit | open | check "
+    puts("| product | committer | bits " SIZES_HEAD "| reply bound | mean reply | commit permutations | commit | open | check "
          "permutations | check |");
-    for (int i = 0; i < SIZES_COLUMNS + 9; i++)
+    for (int i = 0; i < SIZES_COLUMNS + 10; i++)
         printf("|---");
     puts("|");
 }

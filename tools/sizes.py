@@ -1,18 +1,23 @@
 #!/usr/bin/env python3
-"""Sizes for a product: how many leaves to open, and what it costs.
+"""Sizes for a product: how many leaves to open, how many bits that gives against whom, and what it costs.
 
-  tools/sizes.py --coefficients 34 --polynomials 4 --bits 80 [--points 2] [--beta 2] [--eta 4]
-                               choices of h and of rows by columns, a line each
-  tools/sizes.py --leaves 4096 --columns 256 --bits 80
+  tools/sizes.py --coefficients 34 --polynomials 4 --bits 40 [--points 2] [--beta 2] [--eta 4]
+                               choices of h and of rows by columns that no other choice beats, a line each
+  tools/sizes.py --leaves 4096 --columns 256 --bits 40
                                the least number of leaves to open, alone
+  --committer trusted          the bits are wanted against a trusted committer alone, not against anyone
+  --kappa 16                   the bits are wanted of a proof with this kappa
+  --all                        all choices, those that none beats with a mark
+
   tools/sizes.py --tables      the tables of docs/HANDBOOK.md, "Choosing h, l and eta", as computed
   tools/sizes.py --check       compares these, and the sizes in the benchmark's table of worked products; names each
                                cell that differs, and then has exit status 1
-  tools/sizes.py --choices     the sizes of the worked products, as tools/bench.sh measures them
+  tools/sizes.py --choices     the sizes of the worked products, as the benchmark measures them
   tools/sizes.py --selftest    the formulas against counting at small sizes, and whether --check finds changed cells
 
-Points are those of the one question that a commitment answers; beta, unless given, is their number. Exit status 2 where
-words are wrong or a table is missing.
+Points are those of the one question that a commitment answers; beta, unless given, is their number. Every line has the
+bits against a trusted committer and against anyone, both with kappa, the eta term, and the least of these three, which
+are the bits. Exit status 1 where no sizes hold what is wanted, 2 where words are wrong or a table is missing.
 """
 
 import sys
@@ -26,28 +31,35 @@ from sizing import S
 from tables import Malformed
 
 MODES = "tables", "check", "choices", "selftest"
-PLANNED = "coefficients", "polynomials", "points", "beta", "eta"
+WANTED = "bits", "committer", "kappa"
+PLANNED = "coefficients", "polynomials", "points", "beta", "eta", "all"
 COUNTED = "leaves", "columns"
+MOST_ROWS, MOST_COLUMNS, MOST_ETA = 64, 256, 4
+WHOM = {sizing.TRUSTED: "a trusted committer", sizing.ANYONE: "whoever committed"}
 
 
 # ---- A planner's table ------------------------------------------------------------------------------
 
 
 def splits(options):
-    """(mu, nu) with room for the coefficients: the fewest columns, and powers of two, but none that save no row."""
+    """(mu, nu) with room for the coefficients: each number of rows with the fewest columns."""
     found = {}
-    for nu in range(1, 256 // options.polynomials + 1):
+    for nu in range(1, MOST_COLUMNS // options.polynomials + 1):
         mu = max(1, options.beta, -(-(options.coefficients - options.beta) // nu))
-        if mu + options.beta <= 64 and (not found or nu & nu - 1 == 0):
+        if mu + options.beta <= MOST_ROWS:
             found.setdefault(mu, nu)
     return found.items()
 
 
+def least_opened(options, leaves, columns):
+    return sizing.least_opened(leaves, columns, max(0, options.bits - options.kappa), options.committer)
+
+
 def planned(options):
-    """The sizes to choose from: for each split and depth the least number of leaves."""
+    """The sizes to choose from: for each split and depth the least number of leaves, whatever the eta term is."""
     for mu, nu in splits(options):
-        for h in T.DEPTHS:
-            opened = sizing.least_opened(1 << h, nu * options.polynomials, options.bits)
+        for h in sizing.DEPTHS:
+            opened = least_opened(options, 1 << h, nu * options.polynomials)
             if opened is not None:
                 yield S.Sizes(h, mu, nu, options.polynomials, opened, options.eta, options.points, options.beta)
 
@@ -57,55 +69,69 @@ def costs(s):
     return sizing.replies(s)[1], sizing.permutations_to_commit(s), sizing.permutations_to_check(s)[1]
 
 
-def beaten(s, every):
+def beaten(own, every):
     """Whether another choice costs less in one way, and more in none."""
-    own = costs(s)
     return any(other != own and all(a <= b for a, b in zip(other, own)) for other in every)
 
 
 GROUPS = {
     "sizes": ("h", "mu", "nu", "l", "width"),
-    "terms, as 2^": ("leaf", "guessed"),
+    "bits": ("trusted", "anyone", "eta term", "least"),
     "bytes of a reply": ("bound", "most", "mean"),
     "bytes kept": ("table", "tree", "nonces"),
     "permutations": ("commit", "check, least", "mean", "most"),
 }
 
 
-def cells(s):
+def cells(s, kappa):
     _, mean, most = sizing.replies(s)
     yield from (s.h, s.mu, s.nu, s.l, s.width)
-    yield T.one_decimal(sizing.leaf_term(s))
-    yield T.one_decimal(sizing.guessed(s.rows, s.eta))
+    yield from T.bits_cells(s, kappa)
     yield from (S.reply_bound(s), most, round(mean))
     yield from (sizing.table_bytes(s), sizing.tree_bytes(s), sizing.nonce_bytes(s))
     least, mean, most = sizing.permutations_to_check(s)
     yield from (sizing.permutations_to_commit(s), least, T.one_decimal(mean), most)
 
 
-def show_choices(options):
-    every = list(planned(options))
-    if not every:
-        return "sizes.py: no sizes of the library hold that (docs/HANDBOOK.md has the ranges)"
-    every_cost = [costs(s) for s in every]
-    rows = [[name for names in GROUPS.values() for name in names]] + [list(map(str, cells(s))) for s in every]
+def show_lines(lines, kappa):
+    """(sizes, whether they are marked)"""
+    rows = [[name for names in GROUPS.values() for name in names]] + [list(map(str, cells(s, kappa))) for s, _ in lines]
     widths = [max(map(len, column)) + 2 for column in zip(*rows)]
-    print(about(options))
     at = 0
     for group, names in GROUPS.items():
         print(group.rjust(sum(widths[at : at + len(names)])), end="")
         at += len(names)
     print()
-    for row, marked in zip(rows, [False] + [not beaten(s, every_cost) for s in every]):
+    for row, marked in zip(rows, [False] + [marked for _, marked in lines]):
         print("".join(cell.rjust(width) for cell, width in zip(row, widths)) + " *" * marked)
-    print("* no other line is as good in mean reply, commit and mean check, and better in one of them")
+
+
+def show_choices(options):
+    found = list(planned(options))
+    every = [s for s in found if sizing.reaches(sizing.prepared(s.rows, s.eta), options.bits)]
+    left_out = "left out: %d choices, since their eta term is below %d bits" % (len(found) - len(every), options.bits)
+    if not every:
+        why = left_out if found else "docs/HANDBOOK.md has the ranges"
+        return "sizes.py: no sizes of the library hold that (%s)" % why
+    every_cost = [costs(s) for s in every]
+    kept = [s for s, own in zip(every, every_cost) if not beaten(own, every_cost)]
+    print(about(options))
+    show_lines([(s, s in kept) for s in every] if options.all else [(s, False) for s in kept], options.kappa)
+    better = "better in mean reply, commit or mean check, and in none of them worse"
+    if options.all:
+        print("* no other line is " + better)
+    elif len(kept) < len(every):
+        print("not shown: %d choices, since another is %s (--all)" % (len(every) - len(kept), better))
+    if len(every) < len(found):
+        print(left_out)
     return 0
 
 
 def about(options):
-    held = "%d polynomials of %d coefficients, m = %d, beta = %d, eta = %d; leaf term at most 2^-%d"
+    held = "%d polynomials of %d coefficients, m = %d, beta = %d, eta = %d, kappa = %d; at least %d bits against %s"
     return held % (
-        options.polynomials, options.coefficients, options.points, options.beta, options.eta, options.bits,
+        options.polynomials, options.coefficients, options.points, options.beta, options.eta, options.kappa,
+        options.bits, WHOM[options.committer],
     )  # fmt: skip
 
 
@@ -113,8 +139,17 @@ def about(options):
 
 
 def show_least(options):
-    opened = sizing.least_opened(options.leaves, options.columns, options.bits)
-    print("none" if opened is None else opened)
+    opened = least_opened(options, options.leaves, options.columns)
+    rows = [n for n in range(1, MOST_ROWS + 1) if sizing.reaches(sizing.prepared(n, MOST_ETA), options.bits)]
+    if opened is None:
+        print("none")
+    elif not rows:
+        print("none: no eta term has %d bits" % options.bits)
+    else:
+        s = S.Sizes(options.leaves.bit_length() - 1, 1, options.columns, 1, opened, 1, 1)
+        found = opened, *T.bits_cells(s, options.kappa)[:2]
+        print("l = %d: %s bits against a trusted committer, %s against whoever committed" % found)
+        print("the eta term has %d with eta = %d and up to %d rows mu + beta" % (options.bits, MOST_ETA, rows[-1]))
 
 
 def text_of(document):
@@ -139,13 +174,16 @@ def check():
 
 def selftest():
     sizing.selftest()
-    print(T.test_comparing(text_of(T.HANDBOOK), text_of(T.BENCHMARKS)))
+    if T.BENCHMARKS.exists():
+        print(T.test_comparing(text_of(T.HANDBOOK), text_of(T.BENCHMARKS)))
+    else:
+        print("comparison: left out, since there is no %s, as in a release" % T.BENCHMARKS.name)
 
 
 def show_words():
     for product in T.PRODUCTS:
-        for bits, s in T.choices(product):
-            print(",".join(map(str, (product.name, bits, *s))))
+        for target, s in T.choices(product):
+            print(",".join(map(str, (product.name, *target, *s))))
 
 
 def number_between(low, high):
@@ -157,19 +195,32 @@ def number_between(low, high):
     return read
 
 
-def read_words():
+def committer(word):
+    if word not in sizing.COMMITTERS:
+        raise ArgumentTypeError("'%s' is neither %s nor %s" % (word, *sizing.COMMITTERS))
+    return word
+
+
+def words_known():
     parser = Arguments(__doc__)
-    for mode in MODES:
+    for mode in (*MODES, "all"):
         parser.add_argument("--" + mode, action="store_true")
     for name, low, high in (
-        ("coefficients", 1, 64 * 256), ("polynomials", 1, 256), ("points", 1, 8), ("beta", 0, 16), ("eta", 1, 4),
-        ("leaves", 2, 4096), ("columns", 1, 256), ("bits", 0, 128),
+        ("coefficients", 1, MOST_ROWS * MOST_COLUMNS), ("polynomials", 1, MOST_COLUMNS), ("points", 1, 8),
+        ("beta", 0, 16), ("eta", 1, MOST_ETA), ("leaves", 2, 4096), ("columns", 1, MOST_COLUMNS), ("bits", 0, 128),
+        ("kappa", 0, S.MAX_KAPPA),
     ):  # fmt: skip
         parser.add_argument("--" + name, type=number_between(low, high), metavar="N", help="%d to %d" % (low, high))
+    parser.add_argument("--committer", type=committer, metavar="WHO", help="%s or %s" % sizing.COMMITTERS)
+    return parser
+
+
+def read_words():
+    parser = words_known()
     options = parser.parse_args()
     given = {name for name, value in vars(options).items() if value is not None and value is not False}
-    modes = given & set(MODES)
-    if len(given) != 1 if modes else given - {"bits"} - set(COUNTED) and given - {"bits"} - set(PLANNED):
+    modes, others = given & set(MODES), given - set(WANTED)
+    if len(given) != 1 if modes else others - set(COUNTED) and others - set(PLANNED):
         parser.error("these words do not go together: %s" % " ".join("--" + name for name in sorted(given)))
     needed = () if modes else ("leaves", "columns", "bits") if given & set(COUNTED) else PLANNED[:2] + ("bits",)
     if not given.issuperset(needed):
@@ -178,7 +229,9 @@ def read_words():
         parser.error("--leaves is a power of two")
     options.points = options.points or 2
     options.beta = options.points if options.beta is None else options.beta
-    options.eta = options.eta or 4
+    options.eta = options.eta or MOST_ETA
+    options.kappa = options.kappa or 0
+    options.committer = options.committer or sizing.ANYONE
     return options
 
 

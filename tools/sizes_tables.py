@@ -8,24 +8,28 @@ from collections import namedtuple
 from pathlib import Path
 
 import sizing
-from sizing import S
+from sizing import ANYONE, S, TRUSTED
 from tables import Malformed, Table, find, number
 
 DOCS = Path(__file__).resolve().parent.parent / "docs"
 HANDBOOK, BENCHMARKS = DOCS / "HANDBOOK.md", DOCS / "BENCHMARKS.md"
 
-BITS = 64, 80, 100, 128
 DEPTHS = range(8, 13)  # that the benchmark measures
 MINUS = "\u2212"
 PERMUTATION = 0.31e-6  # seconds, as the handbook has it
 
-# `name` is that of the benchmark's table, `depths` those in the handbook; `worked` has the depth and the bits of the
+# What is wanted of sizes: so many bits, against that committer.
+Target = namedtuple("Target", "committer bits")
+TRUSTED_BITS, ANYONES_BITS = (64, 80, 100), (40, 60)
+TARGETS = [Target(TRUSTED, bits) for bits in TRUSTED_BITS] + [Target(ANYONE, bits) for bits in ANYONES_BITS]
+
+# `name` is that of the benchmark's table, `depths` those in the handbook; `worked` has the target and the depth of the
 # sizes that are worked through.
 Product = namedtuple("Product", "name title mu nu w eta m beta depths worked", defaults=[None])
-PRODUCTS = (
-    Product("4x34", "four polynomials of 34 coefficients", 8, 4, 4, 4, 2, 2, (8, 10, 12), (8, 80)),
-    Product("16x258", "sixteen polynomials of 258 coefficients", 16, 16, 16, 4, 2, 2, (10, 11, 12), (12, 128)),
-    Product("16x258", "sixteen polynomials of 258 coefficients", 32, 8, 16, 4, 2, 2, (10, 11, 12)),
+SMALL, TALL, WIDE = PRODUCTS = (
+    Product("4x34", "four polynomials of 34 coefficients", 11, 3, 4, 4, 2, 2, (8, 10, 12), (Target(ANYONE, 40), 10)),
+    Product("16x258", "sixteen polynomials of 258 coefficients", 43, 6, 16, 4, 2, 2, (10, 11, 12), (Target(ANYONE, 60), 12)),
+    Product("16x258", "sixteen polynomials of 258 coefficients", 16, 16, 16, 4, 2, 2, (10, 11, 12)),
 )
 WORKED = [p for p in PRODUCTS if p.worked]
 
@@ -35,16 +39,16 @@ def sizes_of(product, h, opened):
 
 
 def choices(product):
-    """(bits, sizes) with the least number of leaves, for all bits and depths that have one."""
-    for bits in BITS:
+    """(target, sizes) with the least number of leaves, for all targets and depths that have one."""
+    for target in TARGETS:
         for h in DEPTHS:
-            opened = sizing.least_opened(1 << h, product.w * product.nu, bits)
+            opened = sizing.least_opened(1 << h, product.w * product.nu, target.bits, target.committer)
             if opened is not None:
-                yield bits, sizes_of(product, h, opened)
+                yield target, sizes_of(product, h, opened)
 
 
 def worked_sizes(product):
-    return next(s for bits, s in choices(product) if (s.h, bits) == product.worked)
+    return next(s for target, s in choices(product) if (target, s.h) == product.worked)
 
 
 # ---- How numbers are written --------------------------------------------------------------------------
@@ -66,21 +70,27 @@ def time(microseconds):
     return one_decimal(microseconds) if microseconds < 100 else grouped(microseconds)
 
 
-def both(values):
+def listed(values):
     return ", ".join(map(grouped, values))
+
+
+def bits_cells(s, kappa=0):
+    """Against a trusted committer and against anyone, the eta term, and the least of these."""
+    shares = sizing.shares(s, kappa)
+    return [one_decimal(sizing.bits(share)) for share in (*shares, max(shares))]
 
 
 # ---- The benchmark's table ----------------------------------------------------------------------------
 
-COMPUTED = "product", "k", *S.Sizes._fields, "reply bound", "mean reply", "commit permutations"
+COMPUTED = "product", "committer", "bits", *S.Sizes._fields, "reply bound", "mean reply", "commit permutations"
 TIMES = "commit", "open", "check"
-BENCHED = "| product | k |"
+BENCHED = "| product | committer |"
 
 
-def benched_cells(product, bits, s):
+def benched_cells(product, target, s):
     """Those of the benchmark's row under COMPUTED."""
     lengths = S.reply_bound(s), round(sizing.replies(s)[1])
-    return list(map(str, (product.name, bits, *s, *lengths, sizing.permutations_to_commit(s))))
+    return list(map(str, (product.name, *target, *s, *lengths, sizing.permutations_to_commit(s))))
 
 
 def least_time(cell):
@@ -89,21 +99,25 @@ def least_time(cell):
 
 
 def measured(text):
-    """The benchmark's table, and {(product, mu, bits, h): the least times} in it."""
+    """The benchmark's table, and the least times in it, by `key`."""
     table = find(text, BENCHED)
-    at = [table.column(name) for name in ("product", "mu", "k", "h")]
+    at = [table.column(name) for name in ("product", "mu", "committer", "bits", "h")]
     times = [table.column(name) for name in TIMES]
     return table, {tuple(row[i] for i in at): [least_time(row[i]) for i in times] for row in table.rows}
 
 
+def key(product, target, s):
+    return product.name, str(s.mu), target.committer, str(target.bits), str(s.h)
+
+
 def benchmark_differences(table):
     """Cells of the benchmark's table that are not as computed."""
-    wanted = [(p, bits, s) for p in PRODUCTS for bits, s in choices(p)]
+    wanted = [(p, target, s) for p in PRODUCTS for target, s in choices(p)]
     if len(table.rows) != len(wanted):
         yield "%s: %d rows of worked products, not %d" % (BENCHMARKS.name, len(table.rows), len(wanted))
         return
-    for line, row, (product, bits, s) in zip(table.at, table.rows, wanted):
-        for name, cell in zip(COMPUTED, benched_cells(product, bits, s)):
+    for line, row, (product, target, s) in zip(table.at, table.rows, wanted):
+        for name, cell in zip(COMPUTED, benched_cells(product, target, s)):
             yield from difference(BENCHMARKS, line, row[:4], name, row[table.column(name)], cell)
         least, _, most = sizing.permutations_to_check(s)
         if not least <= number(row[table.column("check permutations")], float) <= most:
@@ -114,19 +128,20 @@ def benchmark_differences(table):
 
 
 def least_table():
+    targets = [Target(TRUSTED, bits) for bits in (40, *TRUSTED_BITS)] + [Target(ANYONE, bits) for bits in range(20, 61, 10)]
     rows = []
-    for leaves in (256, 512, 1024, 2048, 4096):
-        for columns in (1, 16, 64, 128, 256):
-            found = [sizing.least_opened(leaves, columns, bits) for bits in (40, *BITS)]
+    for leaves in (256, 1024, 4096):
+        for columns in (1, 16, 64, 256):
+            found = [sizing.least_opened(leaves, columns, target.bits, target.committer) for target in targets]
             if any(found):
                 rows.append([str(leaves), str(columns), *(str(opened or "none") for opened in found)])
-    return Table(["N", "wν", "k = 40", *map(str, BITS)], rows)
+    return Table(["N", "wν", *("%s = %d" % ("kb"[t.committer == ANYONE], t.bits) for t in targets)], rows)
 
 
-def guess_table():
+def eta_table():
     """A row for each number of rows, those of the worked products among them."""
-    numbers = sorted({1, 8, 16, 64} | {p.mu + p.beta for p in PRODUCTS})
-    rows = [[str(n), *(one_decimal(-sizing.guessed(n, eta)) for eta in range(1, 5))] for n in numbers]
+    numbers = sorted({1, 8, 32, 64} | {p.mu + p.beta for p in PRODUCTS})
+    rows = [[str(n), *(one_decimal(sizing.bits(sizing.prepared(n, eta))) for eta in range(1, 5))] for n in numbers]
     return Table(["rows μ + β", "η = 1", "2", "3", "4"], rows)
 
 
@@ -134,19 +149,22 @@ def worked_cells(s):
     yield "h, μ, ν, w, ℓ, η, β, m", ", ".join(map(str, (*s[:6], s.beta, s.m)))
     yield "width", str(s.width)
     lent = s.w * s.each, s.rows * s.l, s.w * s.blinds_each, s.eta * s.width
-    yield "coefficients, tails, blinds, masks", both(4 * words for words in lent)
+    yield "coefficients, tails, blinds, masks", listed(4 * words for words in lent)
     yield "nonces", grouped(sizing.nonce_bytes(s))
     yield "table", grouped(sizing.table_bytes(s))
     yield "tree", grouped(sizing.tree_bytes(s))
     yield "question", grouped(S.question_bytes(s))
     shortest, mean, longest = sizing.replies(s)
     yield "reply, by the bound ℓh", grouped(S.reply_bound(s))
-    yield "reply, least, mean, most", both((shortest, mean, longest))
+    yield "reply, least, mean, most", listed((shortest, mean, longest))
     yield "permutations to commit", grouped(sizing.permutations_to_commit(s))
     yield "permutations to check", check_range(s)
-    yield "leaf term", power(sizing.leaf_term(s))
+    trusted, anyone, eta, least = bits_cells(s)
+    yield "k, a trusted committer", trusted
+    yield "b, whoever committed", anyone
+    yield "η term", eta
+    yield "**the bits**", "**%s**" % least
     yield "degree term", power(sizing.degree_term(s)) + " (says nothing)" * (sizing.degree_term(s) >= 0)
-    yield "all challenges guessed: ((μ+β)/q)^η", power(sizing.guessed(s.rows, s.eta))
 
 
 def check_range(s):
@@ -154,10 +172,26 @@ def check_range(s):
     return "%d to %d, mean %s" % (least, most, one_decimal(mean))
 
 
-def worked_table():
-    columns = [list(worked_cells(worked_sizes(p))) for p in WORKED]
+def by_worked(name, cells):
+    """A table with a column for each of the worked sizes."""
+    columns = [list(cells(worked_sizes(p))) for p in WORKED]
     rows = [[name, *(column[i][1] for column in columns)] for i, (name, _) in enumerate(columns[0])]
-    return Table(["Worked sizes", *(p.title for p in WORKED)], rows)
+    return Table([name, *(p.title for p in WORKED)], rows)
+
+
+def proof_cells(s):
+    """In "What is hashed for a proof", by its formulas."""
+    before = 1 + S.proof_question_bytes(s) + S.answer_bytes(s)
+    blocks = before // S.RATE_BYTES
+    each = S.permutations_for(before + S.COUNTER_BYTES) - blocks
+    drawn = S.permutations_for(S.DIGEST_BYTES + 8 * s.l - 1) - 1
+    yield "question of a proof", grouped(S.proof_question_bytes(s))
+    yield "the prover's buffer", grouped(S.proof_bound(s))
+    yield "n, b, t, e", listed((before, blocks, each, drawn))
+    yield "permutations of a proof's check beside those of the reply's", grouped(1 + blocks + each + drawn)
+    trusted, anyone, eta, least = bits_cells(s, S.MAX_KAPPA)
+    yield "with κ = %d: a trusted committer, whoever committed, η term" % S.MAX_KAPPA, ", ".join((trusted, anyone, eta))
+    yield "**the bits** of a proof, with κ = %d" % S.MAX_KAPPA, "**%s**" % least
 
 
 def memory(s):
@@ -166,22 +200,25 @@ def memory(s):
 
 def product_table(product, times):
     """The choices of the product, with the benchmark's times."""
-    head = ["k (%d rows, %d columns)" % (product.mu, product.nu), "h", "ℓ", "reply, bound", "reply, most", "reply, mean"]
-    head += ["kept", "permutations to commit", "permutations to check", "µs to commit", "µs to open", "µs to check"]
+    head = ["wanted (%d rows, %d columns)" % (product.mu, product.nu), "h", "ℓ", "k", "b", "η term", "the bits"]
+    head += ["reply, bound", "reply, most", "reply, mean", "kept", "permutations to commit", "permutations to check"]
+    head += ["µs to commit", "µs to open", "µs to check"]
     rows = []
-    for bits, s in choices(product):
+    for target, s in choices(product):
         if s.h in product.depths:
             lengths = S.reply_bound(s), *reversed(sizing.replies(s)[1:]), memory(s)
             hashed = grouped(sizing.permutations_to_commit(s)), check_range(s)
-            found = times.get((product.name, str(s.mu), str(bits), str(s.h)))
+            found = times.get(key(product, target, s))
             if found is None:
-                raise Malformed("no row for %s, k = %d, h = %d" % (product.name, bits, s.h))
-            rows.append([str(bits), str(s.h), str(s.l), *map(grouped, lengths), *hashed, *map(time, found)])
+                raise Malformed("no row for %s" % " ".join(key(product, target, s)))
+            row = ["%d, %s" % (target.bits, target.committer), str(s.h), str(s.l), *bits_cells(s)]
+            rows.append([*row, *map(grouped, lengths), *hashed, *map(time, found)])
     return Table(head, rows)
 
 
 def handbook_tables(times):
-    return [least_table(), guess_table(), worked_table(), *(product_table(p, times) for p in PRODUCTS)]
+    worked = by_worked("Worked sizes", worked_cells), by_worked("Worked sizes, a proof", proof_cells)
+    return [least_table(), eta_table(), *worked, *(product_table(p, times) for p in PRODUCTS)]
 
 
 # ---- The handbook's sentences with numbers -----------------------------------------------------------
@@ -209,9 +246,16 @@ def bound_phrases():
 
 def proof_phrases():
     """In "Proofs without a conversation"."""
-    kappa = 16
-    few = [sizing.least_opened(4096, 256, 80 - saved) for saved in (0, kappa)]
-    yield "for 80 bits at N = 4096 and wν = 256 it takes %d leaves with κ = 0 and %d with κ = %d" % (*few, kappa)
+    kappa = S.MAX_KAPPA
+    few = [
+        sizing.least_opened(4096, 256, bits - saved, committer)
+        for committer, bits in ((TRUSTED, 80), (ANYONE, 40))
+        for saved in (0, kappa)
+    ]
+    yield (
+        "for 80 bits at N = 4096 and wν = 256 it takes %d leaves with κ = 0 and %d with κ = 16 against a trusted "
+        "committer, and for 40 bits %d and %d against whoever committed" % tuple(few)
+    )
     alone, blinded = (sizing.best(lambda s: sizing.larger_term(s, kappa), *rows) for rows in ((1, 1, 0), (2, 1, 1)))
     yield "T · %s (%s, μ = 1, β = 0, η = 4, κ = 16)" % (power(sizing.larger_term(alone, kappa)), named(alone))
     term = power(sizing.larger_term(blinded, kappa))
@@ -226,40 +270,61 @@ def worked_phrases():
     repetitions = [S.reply_bytes(s, 0) - S.reply_bytes(s._replace(eta=s.eta - 1), 0) for s in worked]
     means = [sizing.replies(s)[1] for s in worked]
     yield "%s and %s bytes of mean replies of %s and %s" % (*map(grouped, repetitions), *map(grouped, means))
+    least = min(sizing.degree_term(s) for p in PRODUCTS for _, s in choices(p))
+    yield "it is at least %s at every line of the tables below" % power(least)
+
+
+def at_depths(product, target, of):
+    """What `of` says of the sizes for that target, for the handbook's depths."""
+    found = [str(of(s)) for other, s in choices(product) if other == target and s.h in product.depths]
+    *first, last = zip(found, map(str, product.depths))
+    return "%s and %s at h = %s and %s" % (", ".join(a for a, _ in first), last[0], ", ".join(b for _, b in first), last[1])
+
+
+def opened_phrases():
+    """What becomes of the other committer's bits, and of the number of leaves, as trees are deeper."""
+    yield "for k = 80 b is " + at_depths(SMALL, Target(TRUSTED, 80), lambda s: bits_cells(s)[1])
+    yield "for b = 40 ℓ is " + at_depths(SMALL, Target(ANYONE, 40), lambda s: s.l)
 
 
 def mean_reply_and_times(product, times):
-    """{(bits, h): mean bytes, microseconds to commit, to open, to check}"""
-    rows = ((bits, s, times[product.name, str(s.mu), str(bits), str(s.h)]) for bits, s in choices(product))
-    return {(bits, s.h): (float(sizing.replies(s)[1]), *found) for bits, s, found in rows}
+    """{(target, h): mean bytes, microseconds to commit, to open, to check}"""
+    rows = ((target, s, times[key(product, target, s)]) for target, s in choices(product))
+    return {(target, s.h): (float(sizing.replies(s)[1]), *found) for target, s, found in rows}
 
 
-def deeper_phrase(costs, low, high):
+def deeper_phrase(costs, committer, low, high):
     """What more levels cost and save."""
-    pairs = [(costs[bits, low], costs[bits, high]) for bits in BITS]
-    shorter, longer = ([after[i] / before[i] for before, after in pairs] for i in (0, 1))
-    saved, taken = span(shorter), span(longer, "%.1f")
-    return "from h = %d to %d the mean reply falls to %s and a commit takes %s times" % (low, high, saved, taken)
+    lower = {target: cost for (target, h), cost in costs.items() if (target.committer, h) == (committer, low)}
+    pairs = [(cost, costs[target, high]) for target, cost in lower.items()]
+    replies, commits = ([after[i] / before[i] for before, after in pairs] for i in (0, 1))
+    found = low, high, span(replies), span(commits, "%.1f")
+    return "from h = %d to %d the mean reply has %s times the bytes and a commit takes %s times the time" % found
 
 
-def split_phrase(wide, tall):
+def split_phrases(wide, tall):
     """What the second split takes of the first, where both have choices."""
     pairs = [(wide[at], tall[at]) for at in wide if at in tall]
     reply, commit, open_, check = (span([after[i] / before[i] for before, after in pairs]) for i in range(4))
     times = "%s to commit, %s to open and %s to check" % (commit, open_, check)
-    return "%s of the mean reply, and of the time %s" % (reply, times)
+    yield "%s of the mean reply, and of the time %s" % (reply, times)
+    most = len(TARGETS) * len(DEPTHS)
+    yield "of %d targets and depths it has an ℓ for %d, the other for %d" % (most, len(tall), len(wide))
 
 
 def phrases(times):
-    small, wide, tall = (mean_reply_and_times(product, times) for product in PRODUCTS)
+    small, tall, wide = (mean_reply_and_times(product, times) for product in PRODUCTS)
     yield from bound_phrases()
     yield from proof_phrases()
     yield from worked_phrases()
-    yield deeper_phrase(small, 8, 10)
-    yield deeper_phrase(small, 10, 12)
-    yield deeper_phrase(tall, 10, 11)
-    yield deeper_phrase(tall, 11, 12)
-    yield split_phrase(wide, tall)
+    yield from opened_phrases()
+    yield deeper_phrase(small, TRUSTED, 8, 10)
+    yield deeper_phrase(small, TRUSTED, 10, 12)
+    yield deeper_phrase(small, ANYONE, 8, 10)
+    yield deeper_phrase(tall, TRUSTED, 10, 11)
+    yield deeper_phrase(tall, TRUSTED, 11, 12)
+    yield deeper_phrase(tall, ANYONE, 10, 11)
+    yield from split_phrases(wide, tall)
 
 
 # ---- Comparing --------------------------------------------------------------------------------------

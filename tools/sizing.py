@@ -1,9 +1,13 @@
-"""What sizes give and what they cost. Counts are whole numbers and fractions; the terms are given as powers of two.
+"""What sizes give and what they cost. Counts are whole numbers and fractions; logarithms are for display alone, and for
+the least of the sources' bound.
 
-The terms are those of source document 000 (theorem 3; "Batching using powers") and of equation 6 of 001, the lengths of
-slices and strings those of the second implementation. `selftest` holds the formulas against counting at small sizes.
+What is given are three shares: of all sets of leaves those for which a false answer passes, if the committer is trusted
+and if it is not, and of all challenges those that rows can be prepared for. The sources' terms are those of source
+document 000 (theorem 3; "Batching using powers") and of equation 6 of 001, the lengths of slices and strings those of
+the second implementation. `selftest` holds the formulas against counting at small sizes.
 """
 
+from collections import namedtuple
 from fractions import Fraction
 from functools import lru_cache
 from itertools import combinations, product
@@ -15,6 +19,54 @@ import smallwood as S
 
 MOST_OPENED = 64
 DEPTHS = range(1, 13)
+COMMITTERS = TRUSTED, ANYONE = "trusted", "anyone"
+
+
+# ---- What sizes give, exactly ----------------------------------------------------------------------
+
+
+def most_fitting(leaves, columns, opened, committer):
+    """Leaves that a false answer can fit. Rows of a trusted committer have degrees below the width, and another answer
+    than theirs agrees at fewer leaves than that. Whoever committed: two different answers share no more leaves, so
+    that one of them fits at most half of these and of all."""
+    shared = columns + opened - 1
+    return shared if committer == TRUSTED else (leaves + shared) // 2
+
+
+def least_opened(leaves, columns, bits, committer):
+    """The least number of opened leaves for so many bits; None where there is none. No search by halves would do: from
+    some number of leaves on bits are lost again."""
+    for opened in range(1, min(MOST_OPENED, leaves - columns) + 1):
+        if comb(most_fitting(leaves, columns, opened, committer), opened) << bits <= comb(leaves, opened):
+            return opened
+    return None
+
+
+def passing(s, committer, kappa=0):
+    """The share of all sets of l leaves, and of the counters that qualify, with which a false answer passes."""
+    return Fraction(comb(most_fitting(s.leaves, s.columns, s.l, committer), s.l), comb(s.leaves, s.l) << kappa)
+
+
+def prepared(rows, eta):
+    """The share of all challenges for which rows of any degree can be prepared."""
+    return Fraction(rows, S.Q) ** eta
+
+
+Shares = namedtuple("Shares", "trusted anyone eta")
+
+
+def shares(s, kappa=0):
+    return Shares(*(passing(s, committer, kappa) for committer in COMMITTERS), prepared(s.rows, s.eta))
+
+
+def reaches(share, bits):
+    return share.numerator << bits <= share.denominator
+
+
+def bits(share):
+    """-log2 of it to the nearest tenth, from whole numbers: a power of 20 has twice as many tenths."""
+    halves = (share.denominator**20 // share.numerator**20).bit_length() - 1
+    return Fraction((halves + 1) // 2, 10)
 
 
 # ---- What the sources' bound is made of, as powers of two --------------------------------------------
@@ -25,22 +77,12 @@ def log2_choices(of, chosen):
     return log2(comb(of, chosen)) if chosen <= of else -inf
 
 
-def least_opened(leaves, columns, bits):
-    """The least number of opened leaves whose term is at most 2^-bits, by whole numbers; None where there is none. No
-    search by halves would do: from some number of leaves on the term grows again."""
-    for opened in range(1, min(MOST_OPENED, leaves - columns) + 1):
-        if comb(columns + opened - 1, opened) << bits <= comb(leaves, opened):
-            return opened
-    return None
-
-
 def leaf_term(s):
     """Of the share of all sets of l leaves that lie within width - 1 given ones."""
     return log2_choices(s.width - 1, s.l) - log2_choices(s.leaves, s.l)
 
 
 def guessed(rows, eta):
-    """Of the share of all challenges for which rows of any degree can be prepared."""
     return eta * (log2(rows) - log2(S.Q))
 
 
@@ -149,7 +191,26 @@ def expect(found, wanted, *where):
         raise Different("%s: %s, and not %s" % (where, found, wanted))
 
 
-def counted_share(leaves, columns, opened):
+def expect_shares(committer, counted):
+    """All numbers of columns and opened leaves at 2, 4 and 8 leaves, and the least numbers for 0 to 9 bits there."""
+    done = 0
+    for h in range(1, 4):
+        for columns in range(1, 1 << h):
+            found = {}
+            for opened in range(1, (1 << h) - columns + 1):
+                s = S.Sizes(h, 1, columns, 1, opened, 1, 1)
+                found[opened] = share = counted(1 << h, columns, opened)
+                expect(passing(s, committer), share, "share", committer, s)
+                expect(passing(s, committer, 3), share / 8, "share, with kappa", committer, s)
+            for wanted in range(10):
+                enough = [opened for opened, share in found.items() if share * 2**wanted <= 1]
+                least = least_opened(1 << h, columns, wanted, committer)
+                expect(least, min(enough, default=None), "least number of leaves", committer, h, columns, wanted)
+                done += 1
+    return done
+
+
+def counted_trusted(leaves, columns, opened):
     """The largest share, over all choices of width - 1 leaves, of the sets of opened leaves that lie within them."""
     every = [set(chosen) for chosen in combinations(range(leaves), opened)]
     return max(
@@ -158,25 +219,100 @@ def counted_share(leaves, columns, opened):
     )
 
 
-def test_leaf_term():
-    """All numbers of columns and opened leaves at 2, 4 and 8 leaves, and the least numbers for 0 to 9 bits there."""
-    done = 0
-    for h in range(1, 4):
-        for columns in range(1, 1 << h):
-            shares = {}
-            for opened in range(1, (1 << h) - columns + 1):
-                shares[opened] = share = counted_share(1 << h, columns, opened)
-                term = leaf_term(S.Sizes(h, 1, columns, 1, opened, 1, 1))
-                expect(round(term, 9), round(log2(share), 9), "leaf term", h, columns, opened)
-            for bits in range(10):
-                enough = [opened for opened, share in shares.items() if share * 2**bits <= 1]
-                least = least_opened(1 << h, columns, bits)
-                expect(least, min(enough, default=None), "least number of leaves", h, columns, bits)
-                done += 1
-    return "leaf term, and the least number of leaves: %d times by counting sets" % done
+@lru_cache(maxsize=None)
+def sets_inside(leaves, opened):
+    """For each set of leaves, as the bits of its number, the sets of opened leaves that lie within it."""
+    every = [sum(1 << leaf for leaf in chosen) for chosen in combinations(range(leaves), opened)]
+    return [sum(chosen & ~within == 0 for chosen in every) for within in range(1 << leaves)]
 
 
-def test_guessed():
+@lru_cache(maxsize=None)
+def pairs_of_sets(leaves):
+    """All pairs of sets of leaves by how many they share."""
+    found = {}
+    for one in range(1 << leaves):
+        for other in range(one + 1):
+            found.setdefault(bin(one & other).count("1"), []).append((one, other))
+    return found
+
+
+def counted_anyone(leaves, columns, opened):
+    """The largest share, over all pairs of sets that share fewer leaves than the width, of that of them which has fewer
+    sets of opened leaves within it."""
+    inside, by_shared = sets_inside(leaves, opened), pairs_of_sets(leaves)
+    pairs = (pair for shared in range(columns + opened) for pair in by_shared.get(shared, ()))
+    return Fraction(max(min(inside[one], inside[other]) for one, other in pairs), comb(leaves, opened))
+
+
+def test_shares():
+    done = expect_shares(TRUSTED, counted_trusted) + expect_shares(ANYONE, counted_anyone)
+    for h, columns, opened in ((3, 2, 3), (6, 1, 32), (12, 256, 64)):
+        s = S.Sizes(h, 1, columns, 1, opened, 1, 1)
+        share = passing(s, TRUSTED)
+        expect(round(leaf_term(s), 9), round(log2(share.numerator) - log2(share.denominator), 9), "leaf term", s)
+    return "shares of sets of leaves, and the least number of leaves: %d times by counting sets" % done
+
+
+def fitting(values, answers, q):
+    """How many leaves fit each answer, a polynomial by its coefficients."""
+    return [sum(sum(a * x**i for i, a in enumerate(answer)) % q == v for x, v in enumerate(values)) for answer in answers]
+
+
+def test_two_answers():
+    """In small fields, for every polynomial as the difference of two answers, one of them 0, and for all values of the
+    leaves that fit either: the answer that fits fewer leaves fits no more than the formula says, and some as many."""
+    tried = (5, 4, 1), (5, 4, 2), (5, 4, 3), (7, 6, 1), (11, 4, 2), (11, 6, 1), (13, 4, 1)
+    for q, leaves, degree in tried:
+        fewest = []
+        for chosen in product(range(q), repeat=degree + 1):
+            own = [sum(a * x**i for i, a in enumerate(chosen)) % q for x in range(leaves)]
+            if any(chosen):
+                expect(own.count(0) <= degree, True, "shared leaves", q, leaves, chosen)
+                fewest += (min(fitting(v, ((0,), chosen), q)) for v in product(*({0, value} for value in own)))
+        expect(max(fewest), most_fitting(leaves, degree, 1, ANYONE), "leaves of two answers", q, leaves, degree)
+    return "leaves that two different answers fit: in %d small fields by all differences" % len(tried)
+
+
+def test_two_accepted():
+    """The second implementation's evaluation test accepts two answers, each at as many sets of leaves as reckoned: leaf
+    values follow one answer at some leaves, the other at the rest, and both where these agree."""
+    done, z = 0, 7
+    for h, columns, opened in ((2, 1, 2), (3, 1, 2), (3, 2, 3), (3, 3, 2), (4, 3, 4)):
+        s = S.Sizes(h, 1, columns, 1, opened, 1, 1)
+        each = [S.weights(s.leaves, s.width, leaf) for leaf in range(s.leaves)]
+        agree = s.width - 1 - (s.leaves + s.width - 1) % 2  # so that the others are two halves
+        gap = [1] * s.width
+        for leaf in range(agree):
+            gap = [a * (point - leaf) % S.Q for a, point in zip(gap, S.grid_points(s))]
+        one = list(range(3, 3 + s.width))
+        other = [(a + b) % S.Q for a, b in zip(one, gap)]
+        half = agree + (s.leaves - agree) // 2
+        values = [S.dot(each[leaf], one if leaf < half else other) for leaf in range(s.leaves)]
+        for answer in one, other:
+            fits = [S.evaluation_holds(each[leaf], z, answer, [values[leaf]]) for leaf in range(s.leaves)]
+            count = sum(all(fits[leaf] for leaf in chosen) for chosen in combinations(range(s.leaves), s.l))
+            expect(Fraction(count, comb(s.leaves, s.l)), passing(s, ANYONE), "accepted sets", s)
+            done += 1
+    return "two answers for one point: %d accepted by the second implementation at as many sets as reckoned" % done
+
+
+def test_bits():
+    """Bits against whoever committed are at most the opened leaves, at all sizes: one column has the most. Rounding, at
+    powers of two and beside them."""
+    for h in DEPTHS:
+        for opened in range(1, min(MOST_OPENED, (1 << h) - 1) + 1):
+            s = S.Sizes(h, 1, 1, 1, opened, 1, 1)
+            expect(passing(s, ANYONE) * 2**opened >= 1, True, "bits and leaves", s)
+            wider = s._replace(nu=min(256, s.leaves - opened))
+            expect(passing(wider, ANYONE) >= passing(s, ANYONE), True, "more columns", s)
+    for exponent in (1, 40, 212):  # 2^(1/20) lies between 1.0352 and 1.0353, its inverse between 0.9659 and 0.966
+        for share, tenths in ((10352, 0), (10353, -1), (10000, 0), (9660, 0), (9659, 1)):
+            expect(bits(Fraction(share, 10000 << exponent)), exponent + Fraction(tenths, 10), "bits", share, exponent)
+            expect(reaches(Fraction(share, 10000 << exponent), exponent), share <= 10000, "reaches", share, exponent)
+    return "bits: at most one for each opened leaf whoever committed, at all sizes; rounded to tenths"
+
+
+def test_prepared():
     """In small fields: no u + v_1 X + .. + v_n X^n but 0 has more zeros than n, and some has n."""
     tried = (3, 1), (3, 2), (5, 1), (5, 2), (5, 3), (7, 2)
     for q, rows in tried:
@@ -185,7 +321,10 @@ def test_guessed():
             for chosen in product(range(q), repeat=rows + 1)
             if any(chosen)
         )
-        expect(max(zeros), rows, "zeros", q, rows)
+        most = max(zeros)
+        with patch.object(S, "Q", q):
+            for eta in range(1, 5):
+                expect(prepared(rows, eta), Fraction(most**eta, q**eta), "zeros", q, rows, eta)
     return "challenges that rows can be prepared for: as many as rows, %d times by counting zeros" % len(tried)
 
 
@@ -237,5 +376,5 @@ def test_costs():
 
 
 def selftest():
-    for test in (test_leaf_term, test_guessed, test_nodes, test_costs):
+    for test in (test_shares, test_two_answers, test_two_accepted, test_bits, test_prepared, test_nodes, test_costs):
         print(test())
