@@ -27,28 +27,17 @@ import paths  # noqa: F401  (makes the module below importable)
 import sizes_tables as T
 import sizing
 from arguments import Arguments
-from sizing import S
+from sizing import MOST_COLUMNS, MOST_ETA, MOST_ROWS, S
 from tables import Malformed
 
 MODES = "tables", "check", "choices", "selftest"
 WANTED = "bits", "committer", "kappa"
 PLANNED = "coefficients", "polynomials", "points", "beta", "eta", "all"
 COUNTED = "leaves", "columns"
-MOST_ROWS, MOST_COLUMNS, MOST_ETA = 64, 256, 4
 WHOM = {sizing.TRUSTED: "a trusted committer", sizing.ANYONE: "whoever committed"}
 
 
 # ---- A planner's table ------------------------------------------------------------------------------
-
-
-def splits(options):
-    """(mu, nu) with room for the coefficients: each number of rows with the fewest columns."""
-    found = {}
-    for nu in range(1, MOST_COLUMNS // options.polynomials + 1):
-        mu = max(1, options.beta, -(-(options.coefficients - options.beta) // nu))
-        if mu + options.beta <= MOST_ROWS:
-            found.setdefault(mu, nu)
-    return found.items()
 
 
 def least_opened(options, leaves, columns):
@@ -57,21 +46,11 @@ def least_opened(options, leaves, columns):
 
 def planned(options):
     """The sizes to choose from: for each split and depth the least number of leaves, whatever the eta term is."""
-    for mu, nu in splits(options):
+    for mu, nu in sizing.splits(options.coefficients, options.polynomials, options.beta):
         for h in sizing.DEPTHS:
             opened = least_opened(options, 1 << h, nu * options.polynomials)
             if opened is not None:
                 yield S.Sizes(h, mu, nu, options.polynomials, opened, options.eta, options.points, options.beta)
-
-
-def costs(s):
-    """What is to be small: mean bytes of a reply, permutations to commit, mean permutations to check."""
-    return sizing.replies(s)[1], sizing.permutations_to_commit(s), sizing.permutations_to_check(s)[1]
-
-
-def beaten(own, every):
-    """Whether another choice costs less in one way, and more in none."""
-    return any(other != own and all(a <= b for a, b in zip(other, own)) for other in every)
 
 
 GROUPS = {
@@ -106,15 +85,20 @@ def show_lines(lines, kappa):
         print("".join(cell.rjust(width) for cell, width in zip(row, widths)) + " *" * marked)
 
 
+def limits(options):
+    most = sizing.MOST_OPENED + options.kappa
+    if options.committer == sizing.ANYONE and options.bits > most:
+        return "against whoever committed there are no more than %d bits" % most
+    return "docs/HANDBOOK.md has the ranges"
+
+
 def show_choices(options):
     found = list(planned(options))
     every = [s for s in found if sizing.reaches(sizing.prepared(s.rows, s.eta), options.bits)]
     left_out = "left out: %d choices, since their eta term is below %d bits" % (len(found) - len(every), options.bits)
     if not every:
-        why = left_out if found else "docs/HANDBOOK.md has the ranges"
-        return "sizes.py: no sizes of the library hold that (%s)" % why
-    every_cost = [costs(s) for s in every]
-    kept = [s for s, own in zip(every, every_cost) if not beaten(own, every_cost)]
+        return "sizes.py: no sizes of the library hold that (%s)" % (left_out if found else limits(options))
+    kept = sizing.unbeaten(every)
     print(about(options))
     show_lines([(s, s in kept) for s in every] if options.all else [(s, False) for s in kept], options.kappa)
     better = "better in mean reply, commit or mean check, and in none of them worse"

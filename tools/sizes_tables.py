@@ -25,30 +25,30 @@ TARGETS = [Target(TRUSTED, bits) for bits in TRUSTED_BITS] + [Target(ANYONE, bit
 
 # `name` is that of the benchmark's table, `depths` those in the handbook; `worked` has the target and the depth of the
 # sizes that are worked through.
-Product = namedtuple("Product", "name title mu nu w eta m beta depths worked", defaults=[None])
+Product = namedtuple("Product", "name title coefficients mu nu w eta m beta depths worked", defaults=[None])
+FOUR, SIXTEEN = "four polynomials of 34 coefficients", "sixteen polynomials of 258 coefficients"
 SMALL, TALL, WIDE = PRODUCTS = (
-    Product("4x34", "four polynomials of 34 coefficients", 11, 3, 4, 4, 2, 2, (8, 10, 12), (Target(ANYONE, 40), 10)),
-    Product("16x258", "sixteen polynomials of 258 coefficients", 43, 6, 16, 4, 2, 2, (10, 11, 12), (Target(ANYONE, 60), 12)),
-    Product("16x258", "sixteen polynomials of 258 coefficients", 16, 16, 16, 4, 2, 2, (10, 11, 12)),
+    Product("4x34", FOUR, 34, 11, 3, 4, 4, 2, 2, (8, 10, 12), (Target(ANYONE, 40), 10)),
+    Product("16x258", SIXTEEN, 258, 43, 6, 16, 4, 2, 2, (9, 10, 11, 12), (Target(ANYONE, 60), 12)),
+    Product("16x258", SIXTEEN, 258, 16, 16, 16, 4, 2, 2, (10, 11, 12)),
 )
 WORKED = [p for p in PRODUCTS if p.worked]
 
 
-def sizes_of(product, h, opened):
-    return S.Sizes(h, product.mu, product.nu, product.w, opened, product.eta, product.m, product.beta)
+def sizes_for(product, target, h):
+    """With the least number of leaves; None where there is none."""
+    opened = sizing.least_opened(1 << h, product.w * product.nu, target.bits, target.committer)
+    return opened and S.Sizes(h, product.mu, product.nu, product.w, opened, product.eta, product.m, product.beta)
 
 
 def choices(product):
-    """(target, sizes) with the least number of leaves, for all targets and depths that have one."""
-    for target in TARGETS:
-        for h in DEPTHS:
-            opened = sizing.least_opened(1 << h, product.w * product.nu, target.bits, target.committer)
-            if opened is not None:
-                yield target, sizes_of(product, h, opened)
+    """(target, sizes) for all targets and depths that have some."""
+    every = ((target, sizes_for(product, target, h)) for target in TARGETS for h in DEPTHS)
+    return ((target, s) for target, s in every if s)
 
 
 def worked_sizes(product):
-    return next(s for target, s in choices(product) if (target, s.h) == product.worked)
+    return sizes_for(product, *product.worked)
 
 
 # ---- How numbers are written --------------------------------------------------------------------------
@@ -72,6 +72,11 @@ def time(microseconds):
 
 def listed(values):
     return ", ".join(map(grouped, values))
+
+
+def enumerated(values):
+    *first, last = map(str, values)
+    return "%s and %s" % (", ".join(first), last)
 
 
 def bits_cells(s, kappa=0):
@@ -128,7 +133,8 @@ def benchmark_differences(table):
 
 
 def least_table():
-    targets = [Target(TRUSTED, bits) for bits in (40, *TRUSTED_BITS)] + [Target(ANYONE, bits) for bits in range(20, 61, 10)]
+    targets = [Target(TRUSTED, bits) for bits in (40, *TRUSTED_BITS)]
+    targets += [Target(ANYONE, bits) for bits in (20, 30, 40, 50, 60)]
     rows = []
     for leaves in (256, 1024, 4096):
         for columns in (1, 16, 64, 256):
@@ -190,7 +196,8 @@ def proof_cells(s):
     yield "n, b, t, e", listed((before, blocks, each, drawn))
     yield "permutations of a proof's check beside those of the reply's", grouped(1 + blocks + each + drawn)
     trusted, anyone, eta, least = bits_cells(s, S.MAX_KAPPA)
-    yield "with κ = %d: a trusted committer, whoever committed, η term" % S.MAX_KAPPA, ", ".join((trusted, anyone, eta))
+    three = ", ".join((trusted, anyone, eta))
+    yield "with κ = %d: a trusted committer, whoever committed, η term" % S.MAX_KAPPA, three
     yield "**the bits** of a proof, with κ = %d" % S.MAX_KAPPA, "**%s**" % least
 
 
@@ -276,9 +283,8 @@ def worked_phrases():
 
 def at_depths(product, target, of):
     """What `of` says of the sizes for that target, for the handbook's depths."""
-    found = [str(of(s)) for other, s in choices(product) if other == target and s.h in product.depths]
-    *first, last = zip(found, map(str, product.depths))
-    return "%s and %s at h = %s and %s" % (", ".join(a for a, _ in first), last[0], ", ".join(b for _, b in first), last[1])
+    found = [of(s) for other, s in choices(product) if other == target and s.h in product.depths]
+    return "%s at h = %s" % (enumerated(found), enumerated(product.depths))
 
 
 def opened_phrases():
@@ -312,18 +318,40 @@ def split_phrases(wide, tall):
     yield "of %d targets and depths it has an ℓ for %d, the other for %d" % (most, len(tall), len(wide))
 
 
+def best_split(product, target, s):
+    """Whether no other split of the same depth beats this one."""
+    every = sizing.splits(product.coefficients, product.w, product.beta)
+    found = (sizes_for(product._replace(mu=mu, nu=nu), target, s.h) for mu, nu in every)
+    return s in sizing.unbeaten([other for other in found if other])
+
+
+def choice_phrase():
+    counts = []
+    for product in WORKED:
+        found = [best_split(product, *choice) for choice in choices(product)]
+        counts += sum(found), len(found)
+    return "at %d of %d lines of the first product, and at %d of %d of the second" % tuple(counts)
+
+
+def work_phrase():
+    days, years = (PERMUTATION * 2**bits / 86400 / unit for bits, unit in ((40, 1), (60, 365)))
+    return "40 bits are %.0f days of one core and 60 are %s years" % (days, grouped(round(years, -2)))
+
+
 def phrases(times):
     small, tall, wide = (mean_reply_and_times(product, times) for product in PRODUCTS)
     yield from bound_phrases()
     yield from proof_phrases()
     yield from worked_phrases()
+    yield work_phrase()
+    yield choice_phrase()
     yield from opened_phrases()
     yield deeper_phrase(small, TRUSTED, 8, 10)
     yield deeper_phrase(small, TRUSTED, 10, 12)
     yield deeper_phrase(small, ANYONE, 8, 10)
     yield deeper_phrase(tall, TRUSTED, 10, 11)
     yield deeper_phrase(tall, TRUSTED, 11, 12)
-    yield deeper_phrase(tall, ANYONE, 10, 11)
+    yield deeper_phrase(tall, ANYONE, 9, 10)
     yield from split_phrases(wide, tall)
 
 

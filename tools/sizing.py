@@ -17,7 +17,7 @@ from unittest.mock import patch
 import paths  # noqa: F401  (makes the second implementation importable)
 import smallwood as S
 
-MOST_OPENED = 64
+MOST_ROWS, MOST_COLUMNS, MOST_OPENED, MOST_ETA = 64, 256, 64, 4
 DEPTHS = range(1, 13)
 COMMITTERS = TRUSTED, ANYONE = "trusted", "anyone"
 
@@ -106,9 +106,9 @@ def best(bound, columns, mu, beta):
     more rows and fewer repetitions only make it larger."""
     return min(
         (
-            S.Sizes(h, mu, count, 1, opened, 4, 1, beta)
+            S.Sizes(h, mu, count, 1, opened, MOST_ETA, 1, beta)
             for h in DEPTHS
-            for count in range(columns, min(256, (1 << h) - 1) + 1)
+            for count in range(columns, min(MOST_COLUMNS, (1 << h) - 1) + 1)
             for opened in range(1, min(MOST_OPENED, (1 << h) - count) + 1)
         ),
         key=bound,
@@ -177,6 +177,31 @@ def tree_bytes(s):
 
 def nonce_bytes(s):
     return S.NONCE_BYTES * s.leaves
+
+
+# ---- What there is to choose from -----------------------------------------------------------------
+
+
+def splits(coefficients, polynomials, beta):
+    """(mu, nu) with room for the coefficients: each number of rows with the fewest columns."""
+    found = {}
+    for nu in range(1, MOST_COLUMNS // polynomials + 1):
+        mu = max(1, beta, -(-(coefficients - beta) // nu))
+        if mu + beta <= MOST_ROWS:
+            found.setdefault(mu, nu)
+    return found.items()
+
+
+def costs(s):
+    """What is to be small: mean bytes of a reply, permutations to commit, mean permutations to check."""
+    return replies(s)[1], permutations_to_commit(s), permutations_to_check(s)[1]
+
+
+def unbeaten(every):
+    """Those of the sizes that no others beat: cost less in one way, and more in none."""
+    found = [(s, costs(s)) for s in every]
+    distinct = {own for _, own in found}
+    return [s for s, own in found if not any(c != own and all(a <= b for a, b in zip(c, own)) for c in distinct)]
 
 
 # ---- Tests against counting ------------------------------------------------------------------------
@@ -253,9 +278,13 @@ def test_shares():
     return "shares of sets of leaves, and the least number of leaves: %d times by counting sets" % done
 
 
+def value_at(coefficients, x, q):
+    return sum(a * x**i for i, a in enumerate(coefficients)) % q
+
+
 def fitting(values, answers, q):
     """How many leaves fit each answer, a polynomial by its coefficients."""
-    return [sum(sum(a * x**i for i, a in enumerate(answer)) % q == v for x, v in enumerate(values)) for answer in answers]
+    return [sum(value_at(answer, x, q) == v for x, v in enumerate(values)) for answer in answers]
 
 
 def test_two_answers():
@@ -265,7 +294,7 @@ def test_two_answers():
     for q, leaves, degree in tried:
         fewest = []
         for chosen in product(range(q), repeat=degree + 1):
-            own = [sum(a * x**i for i, a in enumerate(chosen)) % q for x in range(leaves)]
+            own = [value_at(chosen, x, q) for x in range(leaves)]
             if any(chosen):
                 expect(own.count(0) <= degree, True, "shared leaves", q, leaves, chosen)
                 fewest += (min(fitting(v, ((0,), chosen), q)) for v in product(*({0, value} for value in own)))
@@ -303,7 +332,7 @@ def test_bits():
         for opened in range(1, min(MOST_OPENED, (1 << h) - 1) + 1):
             s = S.Sizes(h, 1, 1, 1, opened, 1, 1)
             expect(passing(s, ANYONE) * 2**opened >= 1, True, "bits and leaves", s)
-            wider = s._replace(nu=min(256, s.leaves - opened))
+            wider = s._replace(nu=min(MOST_COLUMNS, s.leaves - opened))
             expect(passing(wider, ANYONE) >= passing(s, ANYONE), True, "more columns", s)
     for exponent in (1, 40, 212):  # 2^(1/20) lies between 1.0352 and 1.0353, its inverse between 0.9659 and 0.966
         for share, tenths in ((10352, 0), (10353, -1), (10000, 0), (9660, 0), (9659, 1)):
@@ -317,15 +346,32 @@ def test_prepared():
     tried = (3, 1), (3, 2), (5, 1), (5, 2), (5, 3), (7, 2)
     for q, rows in tried:
         zeros = (
-            sum(sum(c * x**i for i, c in enumerate(chosen)) % q == 0 for x in range(q))
+            sum(value_at(chosen, x, q) == 0 for x in range(q))
             for chosen in product(range(q), repeat=rows + 1)
             if any(chosen)
         )
         most = max(zeros)
         with patch.object(S, "Q", q):
-            for eta in range(1, 5):
+            for eta in range(1, MOST_ETA + 1):
                 expect(prepared(rows, eta), Fraction(most**eta, q**eta), "zeros", q, rows, eta)
     return "challenges that rows can be prepared for: as many as rows, %d times by counting zeros" % len(tried)
+
+
+def test_splits():
+    """Every split with room for the coefficients has as many columns as one that is found, or more; and of sizes that
+    differ in one way alone the smaller are left."""
+    tried = (1, 1, 0), (34, 4, 2), (35, 4, 2), (258, 16, 2), (64 * 256, 1, 0), (7, 100, 3), (2000, 16, 1)
+    for coefficients, polynomials, beta in tried:
+        wanted = {}
+        for mu in range(max(1, beta), MOST_ROWS - beta + 1):
+            room = [nu for nu in range(1, MOST_COLUMNS // polynomials + 1) if mu * nu + beta >= coefficients]
+            if room and min(room) not in wanted.values():
+                wanted[mu] = min(room)
+        expect(dict(splits(coefficients, polynomials, beta)), wanted, "splits", coefficients, polynomials, beta)
+    s = S.Sizes(8, 8, 4, 4, 26, 4, 2, 2)
+    every = [s._replace(l=opened) for opened in (27, 26, 28)] + [s._replace(h=7, l=40)]
+    expect(unbeaten(every), [every[1], every[3]], "unbeaten sizes")
+    return "splits into rows and columns: %d times by trying all" % len(tried)
 
 
 def test_nodes():
@@ -376,5 +422,6 @@ def test_costs():
 
 
 def selftest():
-    for test in (test_shares, test_two_answers, test_two_accepted, test_bits, test_prepared, test_nodes, test_costs):
+    shares_tested = test_shares, test_two_answers, test_two_accepted, test_bits, test_prepared
+    for test in (*shares_tested, test_splits, test_nodes, test_costs):
         print(test())

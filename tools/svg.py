@@ -50,12 +50,6 @@ def grid_times(low, high):
     return [step for step in steps if first <= step <= last]
 
 
-def grid_steps(high):
-    """From 0 to `high`, by the least 1, 2 or 5 times a power of ten that is at least a tenth of it."""
-    step = next(step for step in grid_times(high / 10, high) if step >= high / 10)
-    return [step * i for i in range(floor(high / step) + 1)]
-
-
 def document(width, height, drawn):
     size = decimals(width), decimals(height)
     head = '<svg xmlns="http://www.w3.org/2000/svg" width="%s" height="%s" viewBox="0 0 %s %s"' % (size + size)
