@@ -1,7 +1,7 @@
 /*
  * A first program: one polynomial of twelve coefficients is committed, asked for its value at one point, opened and checked. Both sides
  * are in one place, in the order that a reader needs who asks once; as two programs they are badge.c and reader.c.
- * The sizes are for show: an accepted answer is worth 2 bits, 6 where the committer is trusted. That is no security; for other sizes see
+ * The sizes are for show: an accepted answer is worth 2 bits, 5 where the committer is trusted. That is no security; for other sizes see
  * sides.h.
  *
  *     cc -std=c11 -Iinclude examples/first.c -Llib -lsmallwood -o first

@@ -20,7 +20,7 @@
  *
  *      40.1   whoever committed: log2 of C(N, L) / C((N + d) / 2, L), with (N + d) / 2 rounded down
  *     212.7   a trusted committer: log2 of C(N, L) / C(d, L)
- *     113.2   all challenges guessed, the eta term: -log2 of ((MU + BETA) / q)^ETA
+ *     113.1   all challenges guessed, the eta term: -log2 of ((MU + BETA) / q)^ETA
  *
  * A proof has kappa bits more of the first two. For other sizes change this line alone; a program that has its own defines SIZES before it
  * includes this.

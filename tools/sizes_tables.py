@@ -13,6 +13,7 @@ from tables import Malformed, Table, find, number
 
 DOCS = Path(__file__).resolve().parent.parent / "docs"
 HANDBOOK, BENCHMARKS = DOCS / "HANDBOOK.md", DOCS / "BENCHMARKS.md"
+EXAMPLES = DOCS.parent / "examples"
 
 DEPTHS = range(8, 13)  # that the benchmark measures
 MINUS = "\u2212"
@@ -269,6 +270,27 @@ def proof_phrases():
     yield "T · %s (wν = %d, ℓ = %d, μ = β = 1" % (term, blinded.columns, blinded.l)
 
 
+EARLIER = S.Sizes(12, 8, 4, 4, 11, 4, 2, 2)  # those of examples/proof_forger.c
+
+
+def earlier_phrases():
+    """Of sizes that the handbook once called 80 and 128 bits."""
+    yield "12, 8, 4, 4, 11: k is %s, b is %s" % tuple(bits_cells(EARLIER)[:2])
+    yield "ℓ = 18: k is %s, b is %s" % tuple(bits_cells(EARLIER._replace(l=18))[:2])
+
+
+def example_differences():
+    """The bits in the examples' comments."""
+    k, b, eta, _ = bits_cells(worked_sizes(SMALL))
+    earlier = bits_cells(EARLIER)
+    for name, phrases_there in (
+        ("sides.h", ("%5s   whoever" % b, "%s   a trusted" % k, "%s   all challenges" % eta)),
+        ("proof_forger.c", ("b = %s" % earlier[1], "k = %s" % earlier[0])),
+    ):
+        text = (EXAMPLES / name).read_text(encoding="utf-8")
+        yield from ("%s: there is no '%s', as computed" % (name, each) for each in phrases_there if each not in text)
+
+
 def worked_phrases():
     worked = [worked_sizes(p) for p in WORKED]
     plain = [s._replace(beta=0) for s in worked]
@@ -342,6 +364,7 @@ def phrases(times):
     small, tall, wide = (mean_reply_and_times(product, times) for product in PRODUCTS)
     yield from bound_phrases()
     yield from proof_phrases()
+    yield from earlier_phrases()
     yield from worked_phrases()
     yield work_phrase()
     yield choice_phrase()
@@ -383,6 +406,7 @@ def differences(handbook, benchmarks):
     for wanted in handbook_tables(times):
         yield from table_differences(handbook, wanted)
     yield from missing_phrases(handbook, phrases(times))
+    yield from example_differences()
 
 
 def missing_phrases(handbook, computed):

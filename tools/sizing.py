@@ -14,6 +14,7 @@ from itertools import combinations, product
 from math import comb, inf, log2
 from unittest.mock import patch
 
+import accepted_sets
 import paths  # noqa: F401  (makes the second implementation importable)
 import smallwood as S
 
@@ -64,9 +65,8 @@ def reaches(share, bits):
 
 
 def bits(share):
-    """-log2 of it to the nearest tenth, from whole numbers: a power of 20 has twice as many tenths."""
-    halves = (share.denominator**20 // share.numerator**20).bit_length() - 1
-    return Fraction((halves + 1) // 2, 10)
+    """-log2 of it, rounded down to tenths, from whole numbers: a power of 10 has as many bits as it has tenths."""
+    return Fraction((share.denominator**10 // share.numerator**10).bit_length() - 1, 10)
 
 
 # ---- What the sources' bound is made of, as powers of two --------------------------------------------
@@ -302,27 +302,8 @@ def test_two_answers():
     return "leaves that two different answers fit: in %d small fields by all differences" % len(tried)
 
 
-def test_two_accepted():
-    """The second implementation's evaluation test accepts two answers, each at as many sets of leaves as reckoned: leaf
-    values follow one answer at some leaves, the other at the rest, and both where these agree."""
-    done, z = 0, 7
-    for h, columns, opened in ((2, 1, 2), (3, 1, 2), (3, 2, 3), (3, 3, 2), (4, 3, 4)):
-        s = S.Sizes(h, 1, columns, 1, opened, 1, 1)
-        each = [S.weights(s.leaves, s.width, leaf) for leaf in range(s.leaves)]
-        agree = s.width - 1 - (s.leaves + s.width - 1) % 2  # so that the others are two halves
-        gap = [1] * s.width
-        for leaf in range(agree):
-            gap = [a * (point - leaf) % S.Q for a, point in zip(gap, S.grid_points(s))]
-        one = list(range(3, 3 + s.width))
-        other = [(a + b) % S.Q for a, b in zip(one, gap)]
-        half = agree + (s.leaves - agree) // 2
-        values = [S.dot(each[leaf], one if leaf < half else other) for leaf in range(s.leaves)]
-        for answer in one, other:
-            fits = [S.evaluation_holds(each[leaf], z, answer, [values[leaf]]) for leaf in range(s.leaves)]
-            count = sum(all(fits[leaf] for leaf in chosen) for chosen in combinations(range(s.leaves), s.l))
-            expect(Fraction(count, comb(s.leaves, s.l)), passing(s, ANYONE), "accepted sets", s)
-            done += 1
-    return "two answers for one point: %d accepted by the second implementation at as many sets as reckoned" % done
+def test_accepted():
+    return accepted_sets.selftest(expect)
 
 
 def test_bits():
@@ -334,11 +315,11 @@ def test_bits():
             expect(passing(s, ANYONE) * 2**opened >= 1, True, "bits and leaves", s)
             wider = s._replace(nu=min(MOST_COLUMNS, s.leaves - opened))
             expect(passing(wider, ANYONE) >= passing(s, ANYONE), True, "more columns", s)
-    for exponent in (1, 40, 212):  # 2^(1/20) lies between 1.0352 and 1.0353, its inverse between 0.9659 and 0.966
-        for share, tenths in ((10352, 0), (10353, -1), (10000, 0), (9660, 0), (9659, 1)):
+    for exponent in (1, 40, 212):  # 2^(1/10) lies between 1.0717 and 1.0718, its inverse between 0.933 and 0.9331
+        for share, tenths in ((10718, -2), (10717, -1), (10001, -1), (10000, 0), (9331, 0), (9330, 1)):
             expect(bits(Fraction(share, 10000 << exponent)), exponent + Fraction(tenths, 10), "bits", share, exponent)
             expect(reaches(Fraction(share, 10000 << exponent), exponent), share <= 10000, "reaches", share, exponent)
-    return "bits: at most one for each opened leaf whoever committed, at all sizes; rounded to tenths"
+    return "bits: at most one for each opened leaf whoever committed, at all sizes; rounded down"
 
 
 def test_prepared():
@@ -422,6 +403,6 @@ def test_costs():
 
 
 def selftest():
-    shares_tested = test_shares, test_two_answers, test_two_accepted, test_bits, test_prepared
+    shares_tested = test_shares, test_two_answers, test_accepted, test_bits, test_prepared
     for test in (*shares_tested, test_splits, test_nodes, test_costs):
         print(test())
