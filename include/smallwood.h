@@ -72,21 +72,21 @@
  *   challenges are drawn after root and salt are known, and indices only after all answers are. The answers, the first
  *   4 (w nu + l) (eta + m) bytes of a reply, do not depend on the indices: ask for them first, and compare them with the reply's.
  *
- *   Asked so, one reply is worth what its committer leaves of it; d is width - 1, and C(a, b) are binomials. Where the committer is trusted
- *   (whoever registers the root ran smallwood_commit himself), a false answer passes for C(d, l) of the C(N, l) sets of leaves: k bits.
- *   Whoever committed, of two different answers for a point one passes for no more than C(floor((N + d) / 2), l) sets: b bits, about l and
- *   at most 64, and prepared rows reach that. Only what a collection of accepted replies shows is proved, and that whoever committed. The
- *   handbook has the bits by sizes, and the term of eta ("What an accepted answer is worth").
+ *   Asked so, what one reply is worth depends on who committed; d is width - 1, and C(a, b) are binomials. Where the committer is trusted
+ *   (whoever registers the root ran smallwood_commit himself), a false answer passes for at most C(d, l) of the C(N, l) sets of leaves: k
+ *   bits. Whoever committed, of two different answers for a point one passes for at most C(floor((N + d) / 2), l) sets: b bits, about l and
+ *   at most 64, and prepared rows reach that. Proved is only what a collection of accepted replies shows, whoever committed. The handbook
+ *   has the bits for sizes, and the term of eta beside them ("What an accepted answer is worth").
  *
  * What an accepted proof shows
  *
  *   That its counter qualifies, and that its reply fits the question so drawn. Who proves draws for himself, as often as he can hash, so
  *   that bits are work here, and kappa is added: k + kappa where the committer is trusted, b + kappa, about l + kappa, whoever committed.
- *   For that much work there are two proofs for one question, root and salt, with different values, both accepted: who commits can choose
- *   the batching answers anew for each proof. An honest badge has one list of them for a commitment and a header; where its digest is
- *   registered beside root and salt, and compared before the check, no attack is known that is better than the lesser of k + kappa and the
- *   term of eta, to which kappa adds nothing. Nothing of that is proved, and from proofs alone no collection is filled. See the handbook,
- *   "What an accepted answer is worth".
+ *   With that work there are two accepted proofs for one question with different values, since who commits can choose the batching answers
+ *   (SMALLWOOD_BATCHING_LENGTH bytes after the counter) anew for each proof; an honest badge has one list of them for a commitment and a
+ *   header. Where its digest is registered beside root and salt, and whoever checks compares it, the best attack known takes the lesser of
+ *   k + kappa and the term of eta, to which kappa adds nothing. Nothing of this is proved, and proofs alone never fill a collection. See
+ *   the handbook, "What an accepted answer is worth".
  *
  *   Nothing binds a proof to a place, a time or a reader but the points: whoever checks draws them himself and afresh, when he already has
  *   root and salt from someone that he trusts, and takes one proof for them. With points that were known before, or that came with the
@@ -248,7 +248,7 @@ static inline const char *smallwood_verdict_text(uint32_t verdict)
     (SMALLWOOD_NAMED_LENGTH + 4 * (SMALLWOOD_SIZE(eta) + SMALLWOOD_SIZE(m)) + 2 * SMALLWOOD_SIZE(l))
 #define SMALLWOOD_PROOF_QUESTION_LENGTH(m) (SMALLWOOD_NAMED_LENGTH + 4 * SMALLWOOD_SIZE(m))
 
-/* Where it stands in a question, in bytes from the front: m in the header, root and salt; then in a conversation, and in a proof's. */
+/* Offsets in a question, in bytes: m in the header, root, salt; what follows in a conversation; and the points of a proof's question. */
 #define SMALLWOOD_M_AT SMALLWOOD_SIZE(13)
 #define SMALLWOOD_ROOT_AT SMALLWOOD_HEADER_LENGTH
 #define SMALLWOOD_SALT_AT (SMALLWOOD_HEADER_LENGTH + SMALLWOOD_ROOT_LENGTH)
