@@ -39,16 +39,18 @@ run_with() {
     echo "$*: $(cat "$build/draw.log")"
 }
 
-# damage CHANGE [COMPILER WORDS...]: the header with that change has to be found, by the test or by what it is compiled with
+# damage CHANGE COMPILER [WORDS...]: the header with that change has to be found, by the test or by a sanitizer
 damage() {
     change=$1
     shift
     sed "$change" "$root/include/smallwood_draw.h" > "$build/damaged/smallwood_draw.h"
-    ! cmp -s "$root/include/smallwood_draw.h" "$build/damaged/smallwood_draw.h" || fail "no such text in the header: $change"
+    ! cmp -s "$root/include/smallwood_draw.h" "$build/damaged/smallwood_draw.h" ||
+        fail "no such text in the header: $change"
     compile "$build/damaged" "$@"
     status=0
     "$build/draw" 50 > "$build/draw.log" 2>&1 || status=$?
-    [ "$status" != 0 ] && grep -q 'DIFFERENT\|Sanitizer' "$build/draw.log" || fail "the header with $change is not found"
+    [ "$status" != 0 ] && grep -q 'DIFFERENT\|Sanitizer' "$build/draw.log" ||
+        fail "the header with $change is not found"
     damages=$((damages + 1))
 }
 

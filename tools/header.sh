@@ -71,7 +71,7 @@ call() {
 arrays() {
     name=$1
     sizes=$(echo "${2:+($2)}" | tr '[:lower:]' '[:upper:]')
-    echo "extern unsigned char array_$name[1 + $name$sizes];"
+    echo "extern unsigned char array_${name}[1 + $name$sizes];"
     wrong=0
     case $sizes in
         *H*) set -- H "$outside" ;;
@@ -80,7 +80,7 @@ arrays() {
     for value in $2; do
         wrong=$((wrong + 1))
         out=$(echo "$sizes" | sed "s/\([(, ]\)$1\([,)]\)/\1$value\2/")
-        echo "extern unsigned char outside_${name}_$wrong[1 + $name$out], outside_${name}_$wrong[1];"
+        echo "extern unsigned char outside_${name}_${wrong}[1 + $name$out], outside_${name}_${wrong}[1];"
     done
 }
 
@@ -99,7 +99,9 @@ write_users() {
         printf 'int main(void)\n{\n    smallwood_wipe_stack();\n    smallwood_wipe(NULL, 0);\n'
         printf '    smallwood_put_elements(NULL, NULL, 0);\n    smallwood_put_indices(NULL, NULL, 0);\n'
         printf '    smallwood_put_header(NULL, H, MU, NU, W, L, ETA, BETA, M);\n'
-        results | while read -r name count; do echo "    if ($(call "$name" "$count") != 0) return SMALLWOOD_NOT_DRAWN;"; done
+        results | while read -r name count; do
+            echo "    if ($(call "$name" "$count") != 0) return SMALLWOOD_NOT_DRAWN;"
+        done
         printf '    return smallwood_verdict_text(0)[0] == 0 || smallwood_element_at(NULL) < SMALLWOOD_Q;\n}\n'
     } > "$build/both.c"
     cp "$build/both.c" "$build/both.cc"
@@ -129,8 +131,8 @@ compile_all() {
     compiled=0
     compile_by c 'c99 c11 c17' "$CC" clang
     compile_by cc 'c++11 c++17' g++ clang++
-    echo "header: compiled $compiled times, as C99, C11, C17, C++11 and C++17, without a warning, with $numbers macros as sizes" \
-        "of arrays, and $wrong times 0 for sizes out of range"
+    echo "header: compiled $compiled times, as C99, C11, C17, C++11 and C++17, without a warning, with $numbers macros" \
+        "as sizes of arrays, and $wrong times 0 for sizes out of range"
 }
 
 # refuse_change CHANGE HEADER COMPILER STANDARD FILE WHY: a copy with the change must be refused, for that reason
