@@ -69,8 +69,8 @@
  * What an accepted reply shows
  *
  *   Alone, that it fits its question, and no more: who knows the leaf indices before he answers can make false answers that fit. So
- *   challenges are drawn after root and salt are known, and indices only after all answers are. The answers, the first
- *   4 (w nu + l) (eta + m) bytes of a reply, do not depend on the indices: ask for them first, and compare them with the reply's.
+ *   challenges are drawn when root and salt are there, points when the batching answers are, and indices only when all answers are. These,
+ *   the first 4 (w nu + l) (eta + m) bytes of a reply, do not depend on the indices: ask for them first, and compare them with the reply's.
  *
  *   Asked so, what one reply is worth depends on who committed; d is width - 1, and C(a, b) are binomials. Where the committer is trusted
  *   (whoever registers the root ran smallwood_commit himself), a false answer passes for at most C(d, l) of the C(N, l) sets of leaves: k
