@@ -8,8 +8,8 @@
 #     --archive FILE     uses this archive and does not build the library
 #     --stand-in         uses the plain C implementation, to test examples and script
 #
-# Needs gcc, python3, timeout and mkfifo, and rt unless an archive is given. Takes about 25 seconds: two times the
-# examples' time limit, which silent sides are let run into.
+# Needs gcc, python3, timeout and mkfifo, and rt unless an archive is given. Takes about 50 seconds, 20 of them two
+# times the examples' time limit, which silent sides are let run into.
 
 set -eu
 . "$(dirname "$0")/common.sh"
