@@ -5,14 +5,15 @@
  * It is run as `badge POLYNOMIALS`, and standard input and output are its line to the reader (conversation.h). POLYNOMIALS is a file that
  * stands for the badge's own memory: W polynomials of EACH coefficients, lowest first, 4 bytes each, little-endian, below q; with the sizes
  * of sides.h that is 4 times 35, so 140. In the folder that has include/, lib/ and examples/ these lines build badge and reader, draw such
- * a file, and join the two by pipes. Both open the pipes in one order, or neither would begin.
+ * a file, and join the two by pipes. Both open the pipes in one order, or neither would begin; and the reader is in brackets, since a shell
+ * that held its end of a pipe would keep the badge waiting for what comes after the question.
  *
  *     cc -std=c11 -O2 -Iinclude examples/badge.c -Llib -lsmallwood -o badge
  *     cc -std=c11 -O2 -Iinclude examples/reader.c -Llib -lsmallwood -o reader
  *     python3 -c 'import os, secrets; [os.write(1, secrets.randbelow(2**32 - 5).to_bytes(4, "little")) for _ in range(140)]' > polynomials
  *     mkfifo to-badge to-reader
  *     ./badge polynomials < to-badge > to-reader &
- *     ./reader > to-badge < to-reader
+ *     (exec ./reader > to-badge < to-reader)
  *
  * Exit status 0 after the one reply; 1 where it refuses, and standard error says why; 2 for wrong words. Everything that the reader sends
  * is taken as hostile.

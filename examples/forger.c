@@ -8,7 +8,7 @@
  *     cc -std=c11 -O2 -Iinclude examples/forger.c -Llib -lsmallwood -o forger
  *     mkfifo to-badge to-reader
  *     ./forger knows < to-badge > to-reader &
- *     ./reader > to-badge < to-reader
+ *     (exec ./reader > to-badge < to-reader)
  *
  * `forger misuse` has no conversation: entries that are called wrongly, and what they return. Exit status 0 where it came to its end,
  * 1 where not, 2 for wrong words.

@@ -8,7 +8,7 @@
  *     cc -std=c11 -O2 -Iinclude examples/reader.c -Llib -lsmallwood -o reader
  *     mkfifo to-badge to-reader
  *     ./badge polynomials < to-badge > to-reader &
- *     ./reader > to-badge < to-reader
+ *     (exec ./reader > to-badge < to-reader)
  *
  * Exit status 0 after values were printed, 1 where it refuses. Everything that the badge sends is taken as hostile. Nothing is allocated.
  */

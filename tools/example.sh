@@ -8,8 +8,8 @@
 #     --archive FILE     uses this archive and does not build the library
 #     --stand-in         uses the plain C implementation, to test examples and script
 #
-# Needs gcc, python3, timeout and mkfifo, and rt unless an archive is given. Takes about 50 seconds, 20 of them two
-# times the examples' time limit, which silent sides are let run into.
+# Needs gcc, python3, timeout and mkfifo, and rt unless an archive is given. Takes about 30 seconds: two times the
+# examples' time limit, which silent sides are let run into.
 
 set -eu
 . "$(dirname "$0")/common.sh"
@@ -226,10 +226,23 @@ as_written() {
     echo "ok: the lines in $1.c, as they stand in a release's folder"
 }
 
+# in_time: the two lines that join badge and reader once more. Where a shell holds a pipe open, both wait until the time
+# of a conversation is over, and nothing else tells.
+in_time() {
+    seconds=$(sed -n 's/^enum { SECONDS = \([0-9]*\) };$/\1/p' "$root/examples/conversation.h")
+    tail -n 2 "$scratch/lines" > "$scratch/joined"
+    began=$(date +%s)
+    (cd "$release" && timeout "$limit" sh -eu "$scratch/joined") > "$scratch/reader.log" 2>&1 ||
+        wrong "badge and reader, joined once more, fail"
+    [ $(($(date +%s) - began)) -lt "$seconds" ] || wrong "badge and reader wait until their $seconds seconds are over"
+}
+
 section "lines in comments"
 as_written badge 0 'reader: accepted'
 python3 "$tools/example.py" values "$release/polynomials" "$scratch/reader.log"
+in_time
 as_written reader 0 'reader: accepted'
+in_time
 as_written forger 1 "reader: refused: $other_answers"
 as_written first 0 "smallwood $(library_version): * the value at 10 is 987654321"
 as_written offline_door 0 'ok: *'
