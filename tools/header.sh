@@ -145,13 +145,18 @@ refuse_change() {
     grep -q "$6" "$build/header.log" || fail "$2 with $1 is refused for another reason"
 }
 
+# refuse_each PATTERN: every change on standard input, of a copy of smallwood.h; sets refused to their number
+refuse_each() {
+    refused=0
+    while read -r change; do
+        refuse_change "$change" smallwood.h "$CC" c11 "$build/both.c" "$1"
+        refused=$((refused + 1))
+    done
+}
+
 # Drift must be an error: each change of a declaration in a copy of the header must be refused beside tools/entries.h.
 refuse_drift() {
-    drifted=0
-    while read -r change; do
-        refuse_change "$change" smallwood.h "$CC" c11 "$build/both.c" 'conflicting types'
-        drifted=$((drifted + 1))
-    done << 'CHANGES'
+    refuse_each 'conflicting types' << 'CHANGES'
 s/const uint8_t \*salt/uint8_t *salt/
 s/uint32_t \*table/uint64_t *table/
 s/uint64_t \*count)/uint32_t *count)/
@@ -160,16 +165,12 @@ s/^uint32_t smallwood_check(/int smallwood_check(/
 s/uint32_t eta, uint32_t beta,/uint32_t eta,/
 s/uint32_t \*coefficients, size_t coefficients_length)/uint32_t *coefficients)/
 CHANGES
-    echo "header: $drifted changed declarations refused beside tools/entries.h"
+    echo "header: $refused changed declarations refused beside tools/entries.h"
 }
 
 # So must be a length that takes sizes out of range for what they are not, and a cast in the manner of C in C++.
 refuse_faults() {
-    faults=0
-    while read -r change; do
-        refuse_change "$change" smallwood.h "$CC" c11 "$build/both.c" 'conflicting types\|shift count\|too large'
-        faults=$((faults + 1))
-    done << 'CHANGES'
+    refuse_each 'conflicting types\|shift count\|too large' << 'CHANGES'
 s/(h) >= 1 && (h) <= 12/(h) >= 1 \&\& (h) <= 13/
 s/(h) >= 1 && (h) <= 12/(h) <= 12/
 s/(SMALLWOOD_HAS_DEPTH(h) << ((h) & 15))/(SMALLWOOD_SIZE(1) << (h))/
@@ -181,7 +182,7 @@ CHANGES
     refuse_change 's/(static_cast<size_t>(x))/((size_t)(x))/' smallwood.h g++ c++11 "$build/both.cc" old-style-cast
     refuse_change 's/static_cast<volatile uint8_t \*>(memory)/((volatile uint8_t *)memory)/' smallwood_wipe.h \
         g++ c++11 "$build/both.cc" old-style-cast
-    echo "header: $faults lengths and 2 casts with a fault refused"
+    echo "header: $refused lengths and 2 casts with a fault refused"
 }
 
 # refuse_dropped STANDARD SUFFIX COMPILER: each result that is dropped

@@ -194,7 +194,7 @@ def proof_cells(s):
     drawn = S.permutations_for(S.DIGEST_BYTES + 8 * s.l - 1) - 1
     yield "question of a proof", grouped(S.proof_question_bytes(s))
     yield "the prover's buffer", grouped(S.proof_bound(s))
-    yield "n, b, t, e", listed((before, blocks, each, drawn))
+    yield "n, f, t, e", listed((before, blocks, each, drawn))
     yield "permutations of a proof's check beside those of the reply's", grouped(1 + blocks + each + drawn)
     trusted, anyone, eta, least = bits_cells(s, S.MAX_KAPPA)
     three = ", ".join((trusted, anyone, eta))
@@ -279,16 +279,25 @@ def earlier_phrases():
     yield "ℓ = 18: k is %s, b is %s" % tuple(bits_cells(EARLIER._replace(l=18))[:2])
 
 
-def example_differences():
-    """The bits in the examples' comments."""
-    k, b, eta, _ = bits_cells(worked_sizes(SMALL))
-    earlier = bits_cells(EARLIER)
-    for name, phrases_there in (
-        ("sides.h", ("%5s   whoever" % b, "%s   a trusted" % k, "%s   all challenges" % eta)),
-        ("proof_forger.c", ("b = %s" % earlier[1], "k = %s" % earlier[0])),
+def example_phrases():
+    """(example, what has to stand in it): its sizes, and the bits in its comment."""
+    for name, s, comments in (
+        ("sides.h", worked_sizes(SMALL), ("%s   a trusted", " %s   whoever", "%s   all challenges")),
+        ("proof_forger.c", EARLIER, ("k = %s", "b = %s")),
     ):
-        text = (EXAMPLES / name).read_text(encoding="utf-8")
-        yield from ("%s: there is no '%s', as computed" % (name, each) for each in phrases_there if each not in text)
+        values = zip(("H", "MU", "NU", "W", "L", "ETA", "BETA", "M"), (*s[:6], s.beta, s.m))
+        yield name, "#define SIZES " + ", ".join("%s = %d" % value for value in values) + "\n"
+        yield from ((name, comment % found) for comment, found in zip(comments, bits_cells(s)))
+
+
+def example_texts():
+    return {name: (EXAMPLES / name).read_text(encoding="utf-8") for name, _ in example_phrases()}
+
+
+def example_differences(texts):
+    for name, phrase in example_phrases():
+        if phrase not in texts[name]:
+            yield "%s: there is no '%s', as computed" % (name, phrase.strip())
 
 
 def worked_phrases():
@@ -406,7 +415,7 @@ def differences(handbook, benchmarks):
     for wanted in handbook_tables(times):
         yield from table_differences(handbook, wanted)
     yield from missing_phrases(handbook, phrases(times))
-    yield from example_differences()
+    yield from example_differences(example_texts())
 
 
 def missing_phrases(handbook, computed):
@@ -454,4 +463,9 @@ def test_comparing(handbook, benchmarks):
     every = list(phrases(times))
     for phrase in every:
         expect_named(list(missing_phrases(handbook.replace(phrase, ""), every)), phrase)
-    return "comparison: %d cells changed and named one by one, %d sentences taken out and missed" % (done, len(every))
+    texts, in_examples = example_texts(), list(example_phrases())
+    for name, phrase in in_examples:
+        without = {**texts, name: texts[name].replace(phrase, "")}
+        expect_named(list(example_differences(without)), phrase.strip())
+    found = done, len(every), len(in_examples)
+    return "comparison: %d cells changed and named one by one, %d sentences and %d lines of examples missed" % found
