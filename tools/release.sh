@@ -40,8 +40,8 @@ fi
 version=$(library_version)
 name=smallwood-$version
 packed=$root/target/release/$name-x86_64-linux.tar.gz
-planner='tools/sizes.py tools/sizing.py tools/accepted_sets.py tools/sizes_tables.py tools/tables.py tools/paths.py reference/smallwood.py
-    reference/arguments.py'
+planner='tools/sizes.py tools/sizing.py tools/accepted_sets.py tools/sizes_tables.py tools/tables.py tools/paths.py
+    reference/smallwood.py reference/arguments.py'
 outside=$(mktemp -d)
 trap 'rm -rf "$outside"' EXIT
 
