@@ -1,1 +1,2 @@
 // Definitions and laws of algebra: see specs/. No function.
+#![tactic(auto)]

@@ -1,4 +1,6 @@
 // The answers of an opening: sums over the rows, each times a power of a point, and polynomials through them, as bytes of a reply.
+#![tactic(auto)]
+
 ghost use Rattle.std.specs.Prelude.{◌≡◌, ◌+◌, ◌*◌, ◌≤◌, length, drop};
 ghost use mathlib.Core.List.{map, flatten};
 ghost use Rattle.lists.specs.Pieces.{pieces};

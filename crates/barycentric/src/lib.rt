@@ -1,5 +1,7 @@
 // What the value at x of the polynomial through values at consecutive points takes in the barycentric form: weights, which depend on the number of points alone,
 // and the inverses of the points' distances to x, or products of distances in their place.
+#![tactic(auto)]
+
 ghost use Rattle.std.specs.Prelude.{◌≡◌, ◌+◌, ◌≤◌, ◌<◌, length};
 ghost use Rattle.lists.specs.Fill.{Filled};
 ghost use Rattle.lists.specs.Tabulate.{tabulate};

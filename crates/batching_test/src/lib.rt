@@ -1,4 +1,6 @@
 // The first test at opened leaves, 9: do the batching answers agree with the values of each?
+#![tactic(auto)]
+
 ghost use Rattle.std.specs.Prelude.{◌≡◌, ◌+◌, ◌*◌, ◌<◌, ◌≤◌, length};
 ghost use Rattle.lists.specs.All.{Below};
 ghost use Rattle.lists.specs.Tests.{each};

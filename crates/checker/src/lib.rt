@@ -1,4 +1,6 @@
 // The check of a reply.
+#![tactic(auto)]
+
 ghost use Rattle.std.specs.Prelude.{◌≡◌};
 ghost use Rattle.lists.specs.Tests.{verdict_of};
 ghost use Rattle.scheme.specs.Question.{read_question};

@@ -1,4 +1,6 @@
 // Words of bytes: read from them, written to them, and tested.
+#![tactic(auto)]
+
 ghost use Rattle.std.specs.Prelude.{◌≡◌, ◌&&◌, ◌+◌, ◌*◌, ◌<◌, ◌≤◌, length, take, drop};
 ghost use mathlib.Core.List.{◌++◌, map, flatten};
 ghost use Rattle.lists.specs.Bytes.{from_bytes, little_endian, halves, words, bytes_of};

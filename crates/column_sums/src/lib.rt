@@ -1,4 +1,6 @@
 // The columns of the matrix, summed over its rows with the powers of a point as weights, where there are blinding rows.
+#![tactic(auto)]
+
 ghost use Rattle.std.specs.Prelude.{◌≡◌, ◌<◌, length};
 ghost use Rattle.algebra.specs.Dot.{dot_n};
 ghost use Rattle.scheme.specs.Matrix.{blinding_rows};

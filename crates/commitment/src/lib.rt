@@ -1,4 +1,6 @@
 // The sizes of a commitment, and what follows from them: where each part of a question and of a reply begins. Nowhere else are places reckoned.
+#![tactic(auto)]
+
 ghost use Rattle.std.specs.Prelude.{◌≡◌, [], ◌∷◌, ◌+◌, ◌*◌, ◌^◌, ◌≤◌, leb};
 ghost use Rattle.lists.specs.Tests.{every, within};
 ghost use Rattle.scheme.specs.Sizes.{SizesInOrder, sizes_ok, columns, rows, coefficient_count, blind_count, width, record_values, most_points};
@@ -9,7 +11,7 @@ ghost use Rattle.commitment.specs.Shape.{sizes_in};
 use codec::{both, in_range};
 
 // The sizes of a commitment, `Sizes` of the definitions: depth, rows of coefficients, columns per polynomial, polynomials, opened leaves, batching repetitions, blinding rows.
-#[derive(Drop)]
+#[derive(Clone, Copy)]
 pub struct Shape {
     pub h: u32,
     pub mu: u32,

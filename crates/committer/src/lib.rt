@@ -1,4 +1,6 @@
 // Committing: the tests, the table of leaf values, the tree over the leaves.
+#![tactic(auto)]
+
 ghost use Rattle.std.specs.Prelude.{◌≡◌, ◌*◌, ◌<◌, ◌≤◌, length, drop};
 ghost use mathlib.Core.List.{◌++◌, flatten};
 ghost use Rattle.lists.specs.Bytes.{bytes_of};

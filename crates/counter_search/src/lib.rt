@@ -1,4 +1,6 @@
 // The search for a counter that qualifies. All that is hashed before the counter is absorbed once.
+#![tactic(auto)]
+
 ghost use Rattle.std.specs.Prelude.{◌≡◌, ◌++◌, ◌+◌, ◌≤◌, length, take};
 ghost use Rattle.sponge.specs.Draw.{draw, drawn_after};
 ghost use Rattle.lists.specs.Least.{least};

@@ -1,6 +1,8 @@
 // Digests in rows of bytes: copies, a digest written to its place, the string and the digest of a leaf, what a node's string begins with.
 //
 // A digest has 32 bytes; in a row they stand one after the other. A function that writes a digest returns how many permutations were run for it.
+#![tactic(auto)]
+
 ghost use Rattle.std.specs.Prelude.{◌≡◌, ◌∷◌, ◌++◌, ◌+◌, ◌*◌, ◌/◌, ◌≤◌, ◌<◌, length, take, drop};
 ghost use Rattle.std.proofs.Math.Seq.{paste};
 ghost use Rattle.sponge.specs.Digest.{digest};

@@ -1,4 +1,6 @@
 // The coefficients of Newton's form over any points, which are divided differences; and whether the points differ.
+#![tactic(auto)]
+
 ghost use Rattle.std.specs.Prelude.{◌≡◌, true, false, map, ◌+◌, ◌-◌, ◌*◌, ◌%◌, ◌<◌, ◌≤◌, length, take};
 ghost use Rattle.lists.specs.Choice.{pick};
 ghost use Rattle.lists.specs.Fill.{Filled};

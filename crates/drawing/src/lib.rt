@@ -1,4 +1,6 @@
 // What is drawn for a proof: the challenges, whether a counter qualifies, and the question so drawn.
+#![tactic(auto)]
+
 ghost use Rattle.std.specs.Prelude.{◌≡◌, suc, ◌≤◌, ◌<◌, length, drop};
 ghost use mathlib.Core.List.{◌∷◌, ◌++◌, map, flatten};
 ghost use Rattle.sponge.specs.Digest as D;

@@ -1,5 +1,7 @@
 // The second test at opened leaves, 10: do the polynomials through the evaluation answers agree with the values of each?
 // In the barycentric form: the answers are weighed once, and each leaf takes the inverses of the value points' distances to its point.
+#![tactic(auto)]
+
 ghost use Rattle.std.specs.Prelude.{◌≡◌, true, ◌++◌, ◌+◌, ◌*◌, ◌%◌, ◌<◌, ◌≤◌, eqb, length, get_or, drop};
 ghost use Rattle.lists.specs.All.{Below};
 ghost use Rattle.lists.specs.Fill.{Filled};

@@ -1,4 +1,6 @@
 // The table of leaf values: the values of rows and masks at N, N + 1, .., and from these the values at the leaves.
+#![tactic(auto)]
+
 ghost use Rattle.std.specs.Prelude.{◌≡◌, [], ℕ, ◌+◌, ◌*◌, ◌<◌, ◌≤◌, length};
 ghost use Rattle.lists.specs.Pieces.{pieces, piece};
 ghost use Rattle.algebra.specs.Prime.{q};

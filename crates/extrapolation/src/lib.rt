@@ -2,6 +2,8 @@
 //
 // The table over values with changing signs steps along the differences, and the table over differences along the
 // values: the same walk makes both.
+#![tactic(auto)]
+
 ghost use Rattle.std.specs.Prelude.{◌≡◌, ◌⊎◌, ◌+◌, ◌-◌, ◌*◌, ◌/◌, ◌<◌, ◌≤◌, length};
 ghost use Rattle.stepping.specs.Lanes.{lane_count, run, Small, Zeros};
 ghost use Rattle.extrapolation.specs.Written.{PutLanes, KeptColumns, KeptRows, Put, Walk};

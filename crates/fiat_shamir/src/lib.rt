@@ -1,1 +1,3 @@
 // No function: proofs without a conversation, their definitions and the theorems about them.
+#![tactic(auto)]
+

@@ -1,4 +1,6 @@
 // The field of q = 4294967291 elements: single operations, powers, the table of inverse factorials.
+#![tactic(auto)]
+
 ghost use Rattle.std.specs.Prelude.{◌≡◌, ◌+◌, ◌-◌, ◌*◌, ◌%◌, ◌<◌, ◌≤◌, length};
 ghost use Rattle.algebra.specs.Prime.{q};
 ghost use Rattle.algebra.specs.Numbers.{eval_n};
@@ -20,7 +22,7 @@ const Q: u64 = 4294967291;
 const Q32: u32 = 4294967291;
 
 // An element of the field, and a point of it.
-#[derive(Drop)]
+#[derive(Clone, Copy)]
 pub struct Element(pub u32);
 
 // ---- single operations

@@ -1,4 +1,6 @@
 // Values of polynomials by a table of the first powers of the point.
+#![tactic(auto)]
+
 ghost use Rattle.std.specs.Prelude.{◌≡◌, ◌<◌, ◌≤◌, length};
 ghost use Rattle.algebra.specs.Numbers.{eval_n};
 ghost use Rattle.algebra.specs.Columns.{pow_n};

@@ -1,4 +1,6 @@
 // Interpolation over the field: over any points, an entry that tests what it is lent, and over consecutive points by the table.
+#![tactic(auto)]
+
 ghost use Rattle.std.specs.Prelude.{◌≡◌, ◌+◌, ◌<◌, ◌≤◌, length, replicate};
 ghost use Rattle.lists.specs.Range.{up_from};
 ghost use Rattle.algebra.specs.Numbers.{Elements, interp_n};

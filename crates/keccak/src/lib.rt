@@ -1,1 +1,2 @@
 // Definitions of FIPS 202's permutation, and laws about them: see specs/ and proofs/. No function.
+#![tactic(auto)]

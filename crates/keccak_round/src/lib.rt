@@ -1,5 +1,7 @@
 // A round of KECCAK-f[1600]. The 25 lanes of a state are named one by one, which lets the compiler keep them in registers. Six lanes are held
 // complemented: χ then takes five complements a round, and not 25. The parities of the columns go from round to round with the lanes.
+#![tactic(auto)]
+
 ghost use Rattle.std.specs.Prelude.{◌≡◌, ◌<◌};
 ghost use Rattle.lists.specs.Tabulate.{tabulate};
 ghost use Rattle.keccak.specs.Lane.{rotl};

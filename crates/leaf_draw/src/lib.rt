@@ -1,4 +1,6 @@
 // Leaves by draw: each word of a draw names by rank one of the unused leaves; those chosen so far stay in rising order.
+#![tactic(auto)]
+
 ghost use Rattle.std.specs.Prelude.{◌≡◌, [], ◌∷◌, ◌++◌, ◌+◌, ◌-◌, ◌*◌, ◌≤◌, ◌<◌, length, take, drop};
 ghost use Rattle.lists.specs.Bytes.{doubles};
 ghost use Rattle.scheme.specs.Sizes.{most_leaves};

@@ -1,4 +1,6 @@
 // What a committer or an opener is lent: the tests of its lengths and elements.
+#![tactic(auto)]
+
 ghost use Rattle.std.specs.Prelude.{◌≡◌, []};
 ghost use Rattle.lists.specs.Tests.{every};
 ghost use Rattle.scheme.specs.Sizes.{SizesInOrder};

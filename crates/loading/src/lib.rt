@@ -1,4 +1,6 @@
 // The values of lanes with changing signs, as the first lines of a table of differences.
+#![tactic(auto)]
+
 ghost use Rattle.std.specs.Prelude.{◌≡◌, ℕ, ◌*◌, ◌<◌, ◌≤◌, length};
 ghost use Rattle.algebra.specs.Field.{of, ◌⊗◌};
 ghost use Rattle.algebra.specs.Lagrange.{sign};

@@ -2,6 +2,8 @@
 //
 // The inner functions are general in the number b of a node's children; the public ones take two.
 // A set of nodes of one level is the first n numbers of idx, in rising order. a is a place in a set, t a place in a list of nodes.
+#![tactic(auto)]
+
 ghost use Rattle.std.specs.Prelude.{◌≡◌, ◌*◌, ◌^◌, ◌≤◌, ◌<◌, length, take, drop};
 ghost use mathlib.Core.List.{◌++◌, flatten};
 ghost use Rattle.tree.specs.Sets.{missing, tree_size};

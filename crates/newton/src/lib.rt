@@ -1,4 +1,6 @@
 // The coefficients of Newton's form over consecutive points, by differences and the table of inverse factorials.
+#![tactic(auto)]
+
 ghost use Rattle.std.specs.Prelude.{◌≡◌, ◌<◌, ◌≤◌, length};
 ghost use Rattle.algebra.specs.Numbers.{Elements};
 ghost use Rattle.algebra.specs.Table.{table_size};

@@ -1,6 +1,8 @@
 // Numbers of nodes: the index of a leaf, and sets of nodes of one level with their parents.
 //
 // A set is the first n numbers of idx, in rising order; a is a place in it. A node has b children.
+#![tactic(auto)]
+
 ghost use Rattle.std.specs.Prelude.{◌≡◌, ◌+◌, ◌≤◌, ◌<◌, length, get_or, take, drop};
 ghost use Rattle.lists.specs.All.{Below};
 ghost use Rattle.tree.specs.Sets.{parents};
@@ -9,11 +11,11 @@ ghost use Rattle.node_sets.specs.Clauses.{NodeSet};
 ghost use Rattle.tree.specs.Leaf.{index_end};
 
 // The number of a leaf, a type of its own: it is no field point.
-#[derive(Drop)]
+#[derive(Clone, Copy)]
 pub struct LeafIndex(pub u32);
 
 // A place in a set and one in a list of nodes.
-#[derive(Drop)]
+#[derive(Clone, Copy)]
 pub struct Place {
     pub a: usize,
     pub t: usize,

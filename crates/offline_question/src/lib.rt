@@ -1,4 +1,6 @@
 // The question of a proof without a conversation: header, root, salt, points; and its tests, which proving and checking a proof make first.
+#![tactic(auto)]
+
 ghost use Rattle.std.specs.Prelude.{◌≡◌, ◌≤◌};
 ghost use Rattle.scheme.specs.Sizes.{most_points};
 ghost use Rattle.fiat_shamir.specs.Offline.{offline_length};

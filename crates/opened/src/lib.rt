@@ -1,4 +1,6 @@
 // The opened leaves of a reply: the point of each and the values in its record; and tables of powers. Both tests at opened leaves use them.
+#![tactic(auto)]
+
 ghost use Rattle.std.specs.Prelude.{◌≡◌, ◌++◌, ◌+◌, ◌*◌, ◌<◌, ◌≤◌, length, get_or, drop};
 ghost use Rattle.lists.specs.All.{Below};
 ghost use Rattle.scheme.specs.Sizes.{leaf_point};

@@ -1,4 +1,6 @@
 // Opening: the reply to a question, from what was committed to.
+#![tactic(auto)]
+
 ghost use Rattle.std.specs.Prelude.{◌≡◌, ◌&&◌, ◌+◌, ◌*◌, ◌≤◌, eqb, length, take, drop};
 ghost use mathlib.Core.List.{[], ◌∷◌, ◌++◌, map, flatten};
 ghost use Rattle.lists.specs.Tests.{every, same};
@@ -259,7 +261,7 @@ fn write_reply(
 }
 
 // The answer of an opener: the reply's length, or the number of a refusal.
-#[derive(Drop)]
+#[derive(Clone, Copy)]
 pub enum Opened {
     Reply(usize),
     Refused(u32),

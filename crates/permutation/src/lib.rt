@@ -1,4 +1,6 @@
 // The permutation KECCAK-f[1600]. Within it six lanes of the state are held complemented, and the parities of the columns stand behind the lanes.
+#![tactic(auto)]
+
 ghost use Rattle.std.specs.Prelude.{◌≡◌, ◌<◌, length};
 ghost use Rattle.keccak.specs.Keccak as K;
 ghost use Rattle.keccak.specs.Held.{held};

@@ -1,4 +1,6 @@
 // For planners: how long the reply to a question is, and how many permutations its check runs, before it is made.
+#![tactic(auto)]
+
 ghost use Rattle.std.specs.Prelude.{◌≡◌, ◌+◌, ◌-◌, ◌*◌, ◌≤◌, length};
 ghost use Rattle.tree.specs.Sets.{missing};
 ghost use Rattle.tree.specs.Clauses.{IndexSet};
@@ -59,7 +61,7 @@ fn asked_missing(question: &[u8], s: Shape, m: u32) -> usize
 }
 
 // The answer to a planner: a number, or that of a refusal.
-#[derive(Drop)]
+#[derive(Clone, Copy)]
 pub enum Planned {
     Number(usize),
     Refused(u32),

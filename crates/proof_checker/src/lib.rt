@@ -1,4 +1,6 @@
 // The check of a proof without a conversation.
+#![tactic(auto)]
+
 ghost use Rattle.std.specs.Prelude.{◌≡◌, ◌+◌, ◌*◌, ◌≤◌, length};
 ghost use Rattle.tree.specs.Clauses.{IndexSet};
 ghost use Rattle.scheme.specs.Sizes.{SizesInOrder, most_points};

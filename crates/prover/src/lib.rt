@@ -1,4 +1,6 @@
 // Proving without a conversation: the proof for a question, from what was committed to.
+#![tactic(auto)]
+
 ghost use Rattle.std.specs.Prelude.{◌≡◌, [], ◌∷◌, ◌++◌, suc, ◌+◌, ◌≤◌, eqb, length, drop};
 ghost use Rattle.lists.specs.Tests.{verdict_of, every};
 ghost use Rattle.scheme.specs.Layers.{lent_of};
@@ -224,7 +226,7 @@ fn put_drawn(
 }
 
 // The answer of a prover: the proof's length, or the number of a refusal.
-#[derive(Drop)]
+#[derive(Clone, Copy)]
 pub enum Proved {
     Proof(usize),
     Refused(u32),

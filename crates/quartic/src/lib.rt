@@ -1,4 +1,6 @@
 // Polynomials times (X - x)(X - y)(X - z)(X - w), in place: four sweeps of Newton's form as one.
+#![tactic(auto)]
+
 ghost use Rattle.std.specs.Prelude.{◌≡◌, ◌≤◌, length};
 ghost use Rattle.algebra.specs.Prime.{q};
 ghost use Rattle.algebra.specs.Divided.{sub_n};
@@ -8,7 +10,7 @@ ghost use Rattle.lists.specs.Tabulate.{filled};
 use field::{Element, folded, multiply, multiply_add, product, reduce, subtract};
 
 // X^4 + e1 X^3 + e2 X^2 + e3 X + e4.
-#[derive(Drop)]
+#[derive(Clone, Copy)]
 pub struct Quartic {
     e1: u32,
     e2: u32,

@@ -1,4 +1,6 @@
 // A question: its tests, which every entry makes first, and what it holds.
+#![tactic(auto)]
+
 ghost use Rattle.std.specs.Prelude.{◌≡◌, ◌&&◌, ◌+◌, ◌*◌, ◌≤◌, ltb, length, take, drop};
 ghost use Rattle.lists.specs.Bytes.{halves};
 ghost use Rattle.lists.specs.Rising.{rising};
@@ -16,7 +18,7 @@ use commitment::{
 const MARK: [u8; 5] = [0x53, 0x57, 0x51, 3, 0];
 
 // The sizes of a well-formed question and m, its number of points; or the number of a refusal.
-#[derive(Drop)]
+#[derive(Clone, Copy)]
 pub enum Questioned {
     WellFormed(Shape, u32),
     Refused(u32),

@@ -1,4 +1,6 @@
 // The reply's words are elements: its answers, and the values of its leaf records where they stand.
+#![tactic(auto)]
+
 ghost use Rattle.std.specs.Prelude.{◌≡◌, [], ◌∷◌, ◌+◌, ◌*◌, ◌≤◌, length};
 ghost use Rattle.lists.specs.Tests.{every, each};
 ghost use Rattle.scheme.specs.Sizes.{elements};

@@ -1,4 +1,6 @@
 // The root that a reply gives: the digests of its opened leaves, and the missing nodes after them.
+#![tactic(auto)]
+
 ghost use Rattle.std.specs.Prelude.{◌≡◌, ◌++◌, ◌+◌, ◌*◌, ◌≤◌, length, drop};
 ghost use Rattle.lists.specs.All.{Below};
 ghost use Rattle.lists.specs.Rows.{rows_of};

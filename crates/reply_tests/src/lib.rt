@@ -1,4 +1,6 @@
 // The tests of a reply, in their order: 7, 3, 8, 9, 10; and the permutations run.
+#![tactic(auto)]
+
 ghost use Rattle.std.specs.Prelude.{◌≡◌, ◌*◌, ◌≤◌, length};
 ghost use Rattle.lists.specs.Tests.{verdict_of};
 ghost use Rattle.scheme.specs.Sizes.{width};
@@ -19,7 +21,7 @@ use reply_elements::elements_read;
 use reply_root::reply_root;
 
 // A verdict, and how many permutations were run before it was given.
-#[derive(Drop)]
+#[derive(Clone, Copy)]
 pub struct Checked {
     pub verdict: u32,
     pub permutations: usize,

@@ -1,4 +1,6 @@
 // The values that an accepted reply gives: at each point those of the polynomials, from its column values.
+#![tactic(auto)]
+
 ghost use Rattle.std.specs.Prelude.{◌≡◌, ◌+◌, ◌*◌, ◌≤◌, length, drop};
 ghost use Rattle.lists.specs.Bytes.{words};
 ghost use Rattle.lists.specs.Rows.{rows_of};

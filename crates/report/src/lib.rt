@@ -1,4 +1,6 @@
 // The checking program's output as a function of its input.
+#![tactic(auto)]
+
 ghost use Rattle.std.specs.Prelude.{◌≡◌, [], ◌∷◌, ◌+◌, ◌*◌, ◌<◌, ◌≤◌, min, length};
 ghost use Rattle.scheme.specs.Question.{question_length};
 ghost use Rattle.scheme.specs.Program.{input_limit, decimal, value_line, value_lines, text, printed};

@@ -1,4 +1,6 @@
 // Sums of rows, each times a weight, where the rows stand one after the other.
+#![tactic(auto)]
+
 ghost use Rattle.std.specs.Prelude.{◌≡◌, ◌+◌, ◌*◌, ◌%◌, ◌<◌, ◌≤◌, length, replicate};
 ghost use Rattle.algebra.specs.Prime.{q};
 ghost use Rattle.lists.specs.Tabulate.{tabulate};

@@ -1,1 +1,3 @@
 // The SmallWood commitment: definitions in specs/, theorems in proofs/. No function.
+#![tactic(auto)]
+

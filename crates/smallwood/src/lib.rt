@@ -1,4 +1,6 @@
 // The entries for C. A slice is a pointer and a length in elements; no entry keeps anything between calls.
+#![tactic(auto)]
+
 ghost use Rattle.std.specs.Prelude.{◌≡◌, ◌*◌, length};
 ghost use Rattle.scheme.specs.Sizes.{sizes_of};
 ghost use Rattle.scheme.specs.Layers.{lent_of};

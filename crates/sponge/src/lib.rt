@@ -1,4 +1,6 @@
 // SHAKE256 of FIPS 202: cut to 32 bytes, with output of any length, and of many strings that begin alike.
+#![tactic(auto)]
+
 ghost use Rattle.std.specs.Prelude.{◌≡◌, ◌+◌, ◌*◌, ◌/◌, ◌≤◌, ◌<◌, length};
 ghost use Rattle.sponge.specs.Shake as S;
 ghost use Rattle.sponge.specs.Step as W;
@@ -51,7 +53,7 @@ fn xor_last_block(a: &mut [u64; 25], s: &[u8])
 }
 
 // A state, and how many permutations were run for it.
-#[derive(Drop)]
+#[derive(Clone, Copy)]
 struct Absorbed {
     state: [u64; 25],
     permutations: usize,
@@ -81,7 +83,7 @@ fn absorb(s: &[u8]) -> Absorbed
 }
 
 // A digest, and how many permutations were run for it.
-#[derive(Drop)]
+#[derive(Clone, Copy)]
 pub struct Hashed {
     pub digest: [u8; 32],
     pub permutations: usize,

@@ -1,4 +1,6 @@
 // Lanes as bytes.
+#![tactic(auto)]
+
 ghost use Rattle.std.specs.Prelude.{◌≡◌, ◌≤◌, length, take};
 ghost use Rattle.keccak.specs.Strings.{bytes};
 

@@ -3,6 +3,8 @@
 // A table has a line for each order of difference, the highest first, and four lanes, a polynomial each. A step takes
 // every line one point further: each entry takes the one of the next order. Steps go in runs of 24 over blocks of five
 // lines, so that entries stay in registers; they grow by a bit a step and are folded after a run.
+#![tactic(auto)]
+
 ghost use Rattle.std.specs.Prelude.{◌≡◌, ◌+◌, ◌*◌, ◌<◌, ◌≤◌, length};
 ghost use Rattle.algebra.specs.Field.{of};
 ghost use Rattle.stepping.specs.Lanes.{lane_count, run, limit, Small, Addable, Grown, turned, LaneStep, KeptLines, KeptLanes, BlockStep, KeptBelow, KeptFrom, TableStep, Zeros};

@@ -1,4 +1,6 @@
 // Dot products of elements, reduced once: of one row, and of rows that stand one after the other.
+#![tactic(auto)]
+
 ghost use Rattle.std.specs.Prelude.{◌≡◌, ◌+◌, ◌*◌, ◌/◌, ◌%◌, ◌<◌, ◌≤◌, length};
 ghost use Rattle.algebra.specs.Prime.{q};
 ghost use Rattle.algebra.specs.Dot.{split, longest, word_end, spare, dot_n, dots_of};
@@ -14,7 +16,7 @@ const Q: u64 = 4294967291;
 const SPLIT: u64 = 8589934592;
 
 // A sum of products: all of it modulo 2^64, and the sum of the products' upper parts.
-#[derive(Drop)]
+#[derive(Clone, Copy)]
 struct Sum {
     all: u64,
     upper: u64,
@@ -57,7 +59,7 @@ pub fn dot(a: &[u32], b: &[u32]) -> Element
 }
 
 // Four dot products with the same weights, which are read once.
-#[derive(Drop)]
+#[derive(Clone, Copy)]
 struct Four {
     a: Element,
     b: Element,

@@ -2,6 +2,8 @@
 //
 // fill_levels is general in the number b of a node's children and in what a node's string begins with; fill_tree takes two children, and 0x01 and the salt.
 // buf is a node's string; its first off bytes are there from the start.
+#![tactic(auto)]
+
 ghost use Rattle.std.specs.Prelude.{◌≡◌, ◌*◌, ◌^◌, length, take};
 ghost use mathlib.Core.List.{◌∷◌, flatten};
 ghost use Rattle.sponge.specs.Digest.{digest};

@@ -3,6 +3,8 @@
 // The inner functions are general in the number b of a node's children and in what a node's string begins with; root_of takes two children, and 0x01 and the salt.
 // A set of nodes of one level is the first n numbers of idx, in rising order; dig holds its digests. nodes holds the digests of missing nodes.
 // a is a place in a set, t a place in a list of nodes. buf is a node's string; its first off bytes are there from the start. ran counts the permutations run so far.
+#![tactic(auto)]
+
 ghost use Rattle.std.specs.Prelude.{◌≡◌, ◌∷◌, ◌+◌, ◌*◌, ◌≤◌, length, take};
 ghost use Rattle.sponge.specs.Digest.{digest};
 ghost use Rattle.tree.specs.Ancestors.{nodes_above};
@@ -54,7 +56,7 @@ fn gather_children(
 }
 
 // After a level: the next node's place, and how many permutations were run for the level.
-#[derive(Drop)]
+#[derive(Clone, Copy)]
 struct Level {
     t: usize,
     permutations: usize,

@@ -1,5 +1,7 @@
 // Bytes of a string as one number, lowest byte first: the next eight, or those left, which are taken four, two and one at once. The compiler makes one
 // load of each such number.
+#![tactic(auto)]
+
 ghost use Rattle.std.specs.Prelude.{◌≡◌, ◌+◌, ◌*◌, ◌^◌, ◌<◌, ◌≤◌, length, take, drop};
 ghost use Rattle.lists.specs.Bytes.{from_bytes};
 ghost use Rattle.keccak.specs.Strings as S;

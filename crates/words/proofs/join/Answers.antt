@@ -3,11 +3,9 @@ use mathlib.Core.Path.{◌≡◌, ap, ◌∙◌}
 use Prim.Native.Nat.{ℕ, ◌+◌, ◌*◌, ◌^◌, ◌%◌, ◌<◌, ◌≤◌}
 use native.Mathlib.Nat.{add_comm, mul_comm}
 use native.Mathlib.Omega.{arith}
-use borrow.Author.Rules.{rules}
 use lib.Bits.{bit_or, or_shifted_r}
 use lib.Pow.{shl_exact}
-use Rattle.words.proofs.join.Statement.{statement}
-use Rattle.words.proofs.join.Tie as tie
+use Rattle.words.proofs.join.Goals as goal
 
 joined : (lo hi k : ℕ) → lo < 2 ^ k → hi < 2 ^ k → k ≤ 32 → bit_or lo (hi * 2 ^ k % 2 ^ 64) ≡ lo + 2 ^ k * hi
 joined lo hi k l h b =
@@ -16,8 +14,5 @@ joined lo hi k l h b =
     ∙ add_comm (hi * 2 ^ k) lo
     ∙ ap (λ (x : ℕ). lo + x) (mul_comm hi (2 ^ k))
 
-returns : tie.Need-returns
+pub returns : goal.returns
 returns c = joined c.args.lo c.args.hi c.args.k c.requires.0 c.requires.1 c.requires.2
-
-pub join-spec : {M : Type 1} → statement M
-join-spec = tie.close (tie.spec (λ c. search rules) returns)
