@@ -63,6 +63,7 @@ found-nil (i ∷ xs) c = refl
 -- keys behind a key that is there do not count
 pub found_prefix : {c : ℕ} {xs : List ℕ} (ys : List ℕ) (es : List Bytes) → Mem c xs → found (xs ++ ys) es c ≡ found xs es c
 unfolding found
+found_prefix {xs = []} ys [] m = elim m [ ]
 found_prefix {xs = x ∷ xs} ys [] m = refl
 found_prefix {c} ys (e ∷ es) (here {x = i} q) = rw (eq-eqb i c (sym q), found)
 found_prefix {c} ys (e ∷ es) (there {x = i} m) = ap (λ (r : Bytes). pick (eqb i c) e r) (found_prefix ys es m)

@@ -42,12 +42,13 @@ fill_listed : (c k : ℕ) (s : List ℕ) (ds nodes : List Bytes) → ((i : ℕ) 
     → at nodes 0 ∷ fill (suc c) k s ds (tail nodes) ≡ map (found (s ++ without s (up_from c (suc k))) (ds ++ nodes)) (up_from c (suc k))
 unfolding up_from without
 fill_listed c k s ds nodes l e ih =
-    rw (mem_false c s (λ m. omega (arith, l c m)))
+    let w : without s (up_from c (suc k)) ≡ c ∷ without s (up_from (suc c) k) = rw (mem_false c s (λ m. omega (arith, l c m))) in
+    subst (λ (ws : List ℕ). at nodes 0 ∷ fill (suc c) k s ds (tail nodes) ≡ map (found (s ++ ws) (ds ++ nodes)) (up_from c (suc k))) (sym w)
     (ap₂ (λ (d : Bytes) (r : List Bytes). d ∷ r)
     (sym (found_skip s (c ∷ without s (up_from (suc c) k)) (ds ++ nodes) (λ m. omega (arith, l c m))
     ∙ ap (λ (r : List Bytes). found (c ∷ without s (up_from (suc c) k)) r c) (drop_at ds nodes (length s) (sym e))
     ∙ found_first c (without s (up_from (suc c) k)) nodes))
-    (ih ∙ map_cong (up_from (suc c) k) (λ x m. sym (found_insert s (without s (up_from (suc c) k)) ds nodes (λ q. omega (arith, up_from_of (suc c) k x m)) e))))
+    (ih ∙ map_cong (up_from (suc c) k) (λ x m. sym (found_insert {c = c} s (without s (up_from (suc c) k)) ds nodes (λ q. omega (arith, up_from_of (suc c) k x m)) e))))
 
 -- the next child is the set's
 fill_own : (c k i : ℕ) (s : List ℕ) (d : Bytes) (ds nodes : List Bytes) → i ≡ c
@@ -55,7 +56,9 @@ fill_own : (c k i : ℕ) (s : List ℕ) (d : Bytes) (ds nodes : List Bytes) → 
     → d ∷ fill (suc c) k s ds nodes ≡ map (found ((i ∷ s) ++ without (i ∷ s) (up_from c (suc k))) ((d ∷ ds) ++ nodes)) (up_from c (suc k))
 unfolding up_from without found
 fill_own c k i s d ds nodes q ih =
-    rw (mem_true {c = c} {s = i ∷ s} (here (sym q)), without_cons i s (up_from (suc c) k) (λ x m. omega (arith, up_from_of (suc c) k x m)))
+    let w : without (i ∷ s) (up_from c (suc k)) ≡ without s (up_from (suc c) k)
+    = rw (mem_true {c = c} {s = i ∷ s} (here (sym q)), without_cons i s (up_from (suc c) k) (λ x m. omega (arith, up_from_of (suc c) k x m))) in
+    subst (λ (ws : List ℕ). d ∷ fill (suc c) k s ds nodes ≡ map (found ((i ∷ s) ++ ws) ((d ∷ ds) ++ nodes)) (up_from c (suc k))) (sym w)
     (ap₂ (λ (d : Bytes) (r : List Bytes). d ∷ r) (rw (eq-eqb i c q))
     (ih ∙ map_cong (up_from (suc c) k) (λ x m. rw (ne_eqb i x (λ p. omega (arith, up_from_of (suc c) k x m))))))
 

@@ -1,0 +1,25 @@
+use mathlib.Core.Path.{◌≡◌, refl, subst}
+use mathlib.Core.List.{List}
+use Prim.Native.Nat.{ℕ, ◌-◌}
+use lib.ListN.{length, length-set}
+use Rattle.lists.specs.Fill.{Filled, entry_of, filled_none, filled_copy, fill_next}
+use native.Mathlib.Omega.{arith}
+use Rattle.divided_differences.proofs.widen.Goals as goal
+
+pub loop-i-init : goal.loop-i-init
+loop-i-init c =
+    (refl, omega arith, omega arith, filled_none (entry_of c.args.values.now) c.args.rests.now 0 0 (omega arith))
+
+pub loop-i-preserved : goal.loop-i-preserved
+loop-i-preserved c =
+    let wide = c.wide in
+    let loop = c.loop-i in
+    let values : List ℕ = c.args.values.now in
+    (refl, omega arith, simp length-set loop.invariant.2, fill_next (entry_of values) loop.rests 0 loop.i wide.result (omega arith) wide.ensures loop.invariant.3)
+
+pub returns : goal.returns
+returns c =
+    let loop = c.loop-i in
+    let values : List ℕ = c.args.values.now in
+    let e : loop.i ≡ length values = omega arith in
+    filled_copy values loop.rests (length values) refl loop.invariant.2 (subst (λ (k : ℕ). Filled (entry_of values) loop.rests 0 k) e loop.invariant.3)
