@@ -9,6 +9,7 @@ use Rattle.keccak.specs.Parities.{with_parities, HasParities}
 use Rattle.keccak.specs.State.{length-round}
 use Rattle.keccak.proofs.Chi.{held_twice}
 use Rattle.keccak.proofs.Carried.{held_with_parities, has_parities}
+use Rattle.permutation.proofs.keccak_f.Invariants.{After}
 use Rattle.permutation.proofs.keccak_f.Goals as goal
 
 one-round : (s : List ℕ) (i : ℕ) → round_with s (K.constant i) ≡ K.round s i
@@ -18,10 +19,6 @@ one-round s i = refl
 one_more : (i : ℕ) (a : List ℕ) → K.round (K.rounds i a) i ≡ K.rounds (i + 1) a
 unfolding K.rounds
 one_more i a = rw add-one
-
--- what the code has after n rounds: s with its parities, which holds the state
-abbrev After : List ℕ → ℕ → List ℕ → Type 0
-After a n s = HasParities s × (held s ≡ K.rounds n a)
 
 after : (a s w : List ℕ) (n : ℕ) → s ≡ with_parities w → held w ≡ K.rounds n a → After a n s
 after a s w n e h = (subst (λ (x : List ℕ). HasParities x) (sym e) (has_parities w), ap held e ∙ held_with_parities w ∙ h)

@@ -1,19 +1,15 @@
 -- `permutation::keccak_f` meets its contract: before turn j of the inner loop in turn i of the outer one, s holds the state after 2 i + j rounds.
-use mathlib.Core.Path.{◌≡◌, sym, ap, ◌∙◌, subst}
+use mathlib.Core.Path.{◌≡◌}
 use mathlib.Core.List.{List}
 use Prim.Native.Nat.{ℕ, ◌+◌, ◌-◌, ◌*◌, ◌<◌, ◌≤◌}
 use Rattle.keccak.specs.Keccak as K
 use Rattle.keccak.specs.Held.{held}
-use Rattle.keccak.specs.Parities.{with_parities, HasParities}
-use Rattle.keccak.proofs.Carried.{held_with_parities, has_parities}
+use Rattle.keccak.specs.Parities.{HasParities}
 use Rattle.permutation.proofs.keccak_f.Given as goal
 
 -- what the code has after n rounds: s with its parities, which holds the state
-abbrev After : List ℕ → ℕ → List ℕ → Type 0
+abbrev pub After : List ℕ → ℕ → List ℕ → Type 0
 After a n s = HasParities s × (held s ≡ K.rounds n a)
-
-after : (a s w : List ℕ) (n : ℕ) → s ≡ with_parities w → held w ≡ K.rounds n a → After a n s
-after a s w n e h = (subst (λ (x : List ℕ). HasParities x) (sym e) (has_parities w), ap held e ∙ held_with_parities w ∙ h)
 
 abbrev pub invariant-loop-j : goal.invariant-loop-j
 invariant-loop-j l = (l.i < 12) × (l.j ≤ 2) × After l.a (2 * l.i + l.j) l.s
