@@ -1,16 +1,14 @@
 use mathlib.Core.Path.{◌≡◌, refl, sym, ap, ◌∙◌}
 use mathlib.Core.List.{List}
-use Prim.Native.Nat.{ℕ, ◌-◌, ◌/◌, ◌%◌, ◌^◌, ◌<◌, ◌≤◌}
+use Prim.Native.Nat.{ℕ, ◌-◌, ◌/◌, ◌%◌, ◌<◌, ◌≤◌}
 use native.Mathlib.Omega.{arith}
 use lib.ListN.{length, get_or, set, take, length-set}
 use lib.Seq.{get_or-take, length-take-le}
 use Rattle.lists.specs.Tabulate.{tabulate, tabulate_is, get_d_tabulate, filled, fill_more, fill_all}
 use Rattle.keccak.specs.Strings.{bytes}
 use Rattle.squeezing.proofs.Shift.{pow-bytes}
+use Rattle.squeezing.proofs.squeeze_block.Invariants.{byte}
 use Rattle.squeezing.proofs.squeeze_block.Goals as goal
-
-abbrev byte : List ℕ → ℕ → ℕ
-byte a i = get_or a (i / 8) 0 / 256 ^ (i % 8) % 256
 
 front : (a : List ℕ) (d : ℕ) → d ≤ 200 → tabulate d (byte a) ≡ take d (bytes a)
 front a d h =

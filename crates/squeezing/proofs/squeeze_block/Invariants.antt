@@ -6,7 +6,7 @@ use lib.ListN.{length, get_or}
 use Rattle.lists.specs.Tabulate.{filled}
 use Rattle.squeezing.proofs.squeeze_block.Given as goal
 
-abbrev byte : List ℕ → ℕ → ℕ
+abbrev pub byte : List ℕ → ℕ → ℕ
 byte a i = get_or a (i / 8) 0 / 256 ^ (i % 8) % 256
 
 abbrev pub invariant-loop-i : goal.invariant-loop-i
