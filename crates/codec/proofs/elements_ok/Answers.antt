@@ -1,0 +1,24 @@
+use mathlib.Core.Path.{refl, ap, ◌∙◌}
+use mathlib.Core.Bool.{Bool, ◌&&◌}
+use Prim.Native.Nat.{ℕ, ◌-◌}
+use lib.Dec.{ltb}
+use lib.ListN.{get_or}
+use Rattle.algebra.specs.Prime.{q}
+use Rattle.lists.specs.Tests.{all}
+use Rattle.lists.specs.Scan.{all_next, all_done}
+use borrow.Author.Rules.{rules}
+use native.Mathlib.Omega.{arith}
+use Rattle.codec.proofs.elements_ok.Goals as goal
+
+pub loop-i-init : goal.loop-i-init
+unfolding all
+loop-i-init c = (search rules, search rules, refl)
+
+pub loop-i-preserved : goal.loop-i-preserved
+loop-i-preserved c =
+    let xs = c.args.xs.now in
+    let i = c.loop-i.i in
+    (search rules, search rules, c.both-ok.ensures ∙ ap (λ (b : Bool). b && ltb (get_or xs i 0) q) c.loop-i.invariant.2 ∙ all_next (λ (x : ℕ). ltb x q) xs i (omega arith))
+
+pub returns : goal.returns
+returns c = c.loop-i.invariant.2 ∙ all_done (λ (x : ℕ). ltb x q) c.args.xs.now c.loop-i.i (omega arith)
