@@ -85,7 +85,7 @@ module _ (n : ℕ) (unused : List ℕ) (x : ℕ) (xs : List ℕ) (count : length
 chosen-length : (n : ℕ) (unused ws : List ℕ) → length (chosen n unused ws) ≡ length ws
 unfolding chosen
 chosen-length n unused [] = refl
-chosen-length n unused (x ∷ xs) = ap suc (chosen-length _ _ xs)
+chosen-length n unused (x ∷ xs) = ap suc (chosen-length (n - 1) _ xs)
 
 chosen_of : (n : ℕ) (unused ws : List ℕ) → length unused ≡ n → length ws ≤ n → (y : ℕ) → Mem y (chosen n unused ws) → Mem y unused
 unfolding chosen

@@ -25,43 +25,38 @@ overflow_mul-b c =
     omega (arith, mul-div-le (get_or l.idx l.a 0) c.args.b, c.slice_known-in-loop-a-1.given l.a)
 
 pub skip_children-a-requires : goal.skip_children-a-requires
-skip_children-a-requires c = set_skip c.before.requires c.loop.invariant c.loop-test.true
+skip_children-a-requires c = set_skip c.requires c.loop-a.invariant c.loop-a-test.true
 
 pub offset_bounds-idx-w : goal.offset_bounds-idx-w
 offset_bounds-idx-w c =
-    let s = c.before in
-    let l = c.loop in
-    let more = c.loop-test.true in
-    omega (arith, set_room s.requires l.invariant more, l.invariant.same_idx, s.well_formed)
+    let l = c.loop-a in
+    let more = c.loop-a-test.true in
+    omega (arith, set_room c.requires l.invariant more, l.invariant.same_idx, c.well_formed)
 
 pub bounds-idx-w : goal.bounds-idx-w
 bounds-idx-w c =
-    let s = c.before in
-    let l = c.loop in
-    let more = c.loop-test.true in
-    set_room s.requires l.invariant more
+    let l = c.loop-a in
+    let more = c.loop-a-test.true in
+    set_room c.requires l.invariant more
 
 pub overflow_add-w : goal.overflow_add-w
 overflow_add-w c =
-    let s = c.before in
-    let l = c.loop in
-    let more = c.loop-test.true in
-    omega (arith, set_room s.requires l.invariant more, l.invariant.same_idx, s.well_formed)
+    let l = c.loop-a in
+    let more = c.loop-a-test.true in
+    omega (arith, set_room c.requires l.invariant more, l.invariant.same_idx, c.well_formed)
 
 pub loop-a-smaller : goal.loop-a-smaller
 loop-a-smaller c =
-    let s = c.before in
-    let l = c.loop in
-    let more = c.loop-test.true in
-    let m = set_moves s.requires l.invariant more c.skip_children-a.ensures in
+    let l = c.loop-a in
+    let more = c.loop-a-test.true in
+    let m = set_moves c.requires l.invariant more c.skip_children-a.ensures in
     omega (arith, m, more)
 
 pub loop-a-preserved : goal.loop-a-preserved
 loop-a-preserved c =
-    let s = c.before in
-    let l = c.loop in
-    let more = c.loop-test.true in
-    set_again s.requires l.invariant more c.skip_children-a.ensures refl
+    let l = c.loop-a in
+    let more = c.loop-a-test.true in
+    set_again c.requires l.invariant more c.skip_children-a.ensures refl
 
 pub shape_of-idx : goal.shape_of-idx
 shape_of-idx c = c.loop-a.invariant.same_idx
