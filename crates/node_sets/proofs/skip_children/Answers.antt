@@ -1,21 +1,10 @@
-use mathlib.Core.Path.{◌≡◌, refl, sym, ◌∙◌}
+use mathlib.Core.Path.{refl, sym, ◌∙◌}
 use mathlib.Core.Bool.{true, false}
 use native.Mathlib.Omega.{arith}
-use lib.ListN.{take, drop, length-take}
-use Rattle.tree.specs.Walk.{heads}
+use lib.ListN.{take, length-take}
 use Rattle.tree.proofs.Children.{heads_lt}
 use Rattle.node_sets.proofs.Parents.{skip_own, skip_listed, skip_done}
 use Rattle.node_sets.proofs.skip_children.Goals as goal
-
-own : (c : tie.Then1 invariant-loop decreases-loop)
-    → let l = c.before.before.before in let a = l.before.before.args in
-    heads (drop l.loop.a (take a.n a.idx.now)) l.loop.c ≡ true
-own c = sym c.before.next-is.ensures ∙ c.if1.true
-
-listed : (c : tie.Else1 invariant-loop decreases-loop)
-    → let l = c.before.before.before in let a = l.before.before.args in
-    heads (drop l.loop.a (take a.n a.idx.now)) l.loop.c ≡ false
-listed c = sym c.before.next-is.ensures ∙ c.if1.false
 
 pub loop-left-init : goal.loop-left-init
 loop-left-init c = (refl, refl)
@@ -26,7 +15,7 @@ next_is-requires c = c.requires.0
 pub overflow_add-a : goal.overflow_add-a
 overflow_add-a c =
     let a = c.args in
-    omega (arith, heads_lt (take a.n a.idx.now) c.loop-left.a c.loop-left.c (own c), length-take a.n a.idx.now, c.ranges.n)
+    omega (arith, heads_lt (take a.n a.idx.now) c.loop-left.a c.loop-left.c ((sym c.next_is.ensures ∙ c.if-next_is.true)), length-take a.n a.idx.now, c.ranges.n)
 
 pub overflow_add-c : goal.overflow_add-c
 overflow_add-c c = omega (arith, c.loop-left.invariant.0, c.requires.1, c.loop-left-test.true)
@@ -41,7 +30,7 @@ pub loop-left-preserved-then-next_is : goal.loop-left-preserved-then-next_is
 loop-left-preserved-then-next_is c =
     let a = c.args in
     let p = c.loop-left-test.true in
-    (omega (arith, c.loop-left.invariant.0), sym (skip_own (take a.n a.idx.now) c.loop-left.a c.loop-left.c c.loop-left.left p (own c)) ∙ c.loop-left.invariant.1)
+    (omega (arith, c.loop-left.invariant.0), sym (skip_own (take a.n a.idx.now) c.loop-left.a c.loop-left.c c.loop-left.left p ((sym c.next_is.ensures ∙ c.if-next_is.true))) ∙ c.loop-left.invariant.1)
 
 pub overflow_add-c-else-next_is : goal.overflow_add-c-else-next_is
 overflow_add-c-else-next_is c = omega (arith, c.loop-left.invariant.0, c.requires.1, c.loop-left-test.true)
@@ -56,7 +45,7 @@ pub loop-left-preserved : goal.loop-left-preserved
 loop-left-preserved c =
     let a = c.args in
     let p = c.loop-left-test.true in
-    (omega (arith, c.loop-left.invariant.0), sym (skip_listed (take a.n a.idx.now) c.loop-left.a c.loop-left.c c.loop-left.left p (listed c)) ∙ c.loop-left.invariant.1)
+    (omega (arith, c.loop-left.invariant.0), sym (skip_listed (take a.n a.idx.now) c.loop-left.a c.loop-left.c c.loop-left.left p ((sym c.next_is.ensures ∙ c.if-next_is.false))) ∙ c.loop-left.invariant.1)
 
 pub returns : goal.returns
 returns c =
