@@ -44,7 +44,7 @@ returns-then-not-elements_in c =
       body_decides s.question.now s.s s.m c.requires,
       eq-eqb (length s.question.now) (question_length (sizes_in s.s) s.m)
           (c.if-question-question_length.false ∙ c.question_length.ensures),
-      ap not (sym e) ∙ c.if-not-elements_in.true,
+      ap not (sym e) ∙ (ap not c.if-not-elements_in.true),
     )
 
 pub leaf_count-leaves-requires : goal.leaf_count-leaves-requires
@@ -72,8 +72,8 @@ returns-then-not-indices_ok c =
       body_decides s.question.now s.s s.m c.requires,
       eq-eqb (length s.question.now) (question_length (sizes_in s.s) s.m) (c.if-question-question_length.false ∙
           c.question_length.ensures),
-      ap not (sym e) ∙ c.if-not-elements_in.false,
-      ap not (sym f) ∙ c.if-not-indices_ok.true,
+      ap not (sym e) ∙ (ap not c.if-not-elements_in.false),
+      ap not (sym f) ∙ (ap not c.if-not-indices_ok.true),
     )
 
 pub returns : goal.returns
@@ -87,6 +87,6 @@ returns c =
     (simp (
       eq-eqb (length s.question.now) (question_length (sizes_in s.s) s.m) (c.if-question-question_length.false ∙
           c.question_length.ensures),
-      ap not (sym e) ∙ c.if-not-elements_in.false,
-      ap not (sym f) ∙ c.if-not-indices_ok.false,
+      ap not (sym e) ∙ (ap not c.if-not-elements_in.false),
+      ap not (sym f) ∙ (ap not c.if-not-indices_ok.false),
     ))

@@ -25,7 +25,7 @@ returns-then-not-marked c =
     simp (
       le-ltb (length c.args.b.now) header_length (omega (arith, c.root_at.ensures, c.if-b-root_at.false)),
       ap not
-          (sym c.marked.ensures) ∙ c.if-not-marked.true,
+          (sym c.marked.ensures) ∙ (ap not c.if-not-marked.true),
     )
 
 pub header_shape-s-requires : goal.header_shape-s-requires
@@ -43,8 +43,8 @@ returns-then-not-both c =
       le-ltb (length c.args.b.now) header_length
           (omega (arith, c.root_at.ensures, c.if-b-root_at.false)),
       ap not
-          (sym c.marked.ensures) ∙ c.if-not-marked.false,
-      ap not (sym tested) ∙ c.if-not-both.true,
+          (sym c.marked.ensures) ∙ (ap not c.if-not-marked.false),
+      ap not (sym tested) ∙ (ap not c.if-not-both.true),
     )
 
 pub returns : goal.returns
@@ -56,8 +56,8 @@ returns c =
       le-ltb (length c.args.b.now) header_length
           (omega (arith, c.root_at.ensures, c.if-b-root_at.false)),
       ap not
-          (sym c.marked.ensures) ∙ c.if-not-marked.false,
-      ap not (sym tested) ∙ c.if-not-both.false,
+          (sym c.marked.ensures) ∙ (ap not c.if-not-marked.false),
+      ap not (sym tested) ∙ (ap not c.if-not-both.false),
       c.header_shape-s.ensures,
       c.wide-m.ensures.0,
     )

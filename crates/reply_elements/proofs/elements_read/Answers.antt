@@ -5,6 +5,8 @@ use borrow.Author.Tests.{not-false}
 use Rattle.lists.specs.Tests.{each, every_first, every_second, every_last}
 use Rattle.scheme.specs.Sizes.{elements}
 use Rattle.reply_elements.specs.Elements.{record_elements_at}
+use mathlib.Core.Path.{ap}
+use mathlib.Core.Bool.{not}
 use Rattle.reply_elements.proofs.elements_read.Goals as goal
 
 pub returns-then-not-elements_ok : goal.returns-then-not-elements_ok
@@ -26,5 +28,5 @@ returns c =
     let r : Bool = each s.count (record_elements_at s.at s.size s.n s.reply.now) in
     c.record_elements.ensures
     ∙ sym (every_last (elements s.batching.now) (elements s.answers.now) r (sym c.elements_ok.ensures ∙ not-false c.elements_ok.result
-    c.if-not-elements_ok.false)
+    (ap not c.if-not-elements_ok.false))
     (sym c.elements_ok-2.ensures ∙ c.if-not-elements_ok-2.false))

@@ -64,4 +64,4 @@ shape_of-buf c = c.loop-a.invariant.same_buf
 pub returns : goal.returns
 returns c =
     let d = hash_parents_done c.requires c.loop-a.invariant c.loop-a-test.false in
-    (d.0, (d.1, c.loop-a.invariant.prefix))
+    record { parents_hashed = d.0; permutations_value = d.1; buf_unchanged = c.loop-a.invariant.prefix }

@@ -13,7 +13,7 @@ hash_parents-level-requires c =
 pub overflow_add-ran : goal.overflow_add-ran
 overflow_add-ran c =
     let l = c.loop-left in
-    omega (arith, root_count c.requires l.invariant c.loop-left-test.true c.hash_parents-level.ensures.permutations_value.0)
+    omega (arith, root_count c.requires l.invariant c.loop-left-test.true c.hash_parents-level.ensures.permutations_value)
 
 pub to_parents-n-requires : goal.to_parents-n-requires
 to_parents-n-requires c = c.loop-left.invariant.can.set
@@ -29,7 +29,7 @@ loop-left-preserved c =
     let l = c.loop-left in
     let g = c.hash_parents-level in
     let r = c.to_parents-n in
-    root_again c.requires l.invariant c.loop-left-test.true g.ensures.parents_hashed g.ensures.permutations_value.1 g.ensures.permutations_value.0 r.ensures.0 r.ensures.1
+    root_again c.requires l.invariant c.loop-left-test.true g.ensures.parents_hashed g.ensures.buf_unchanged g.ensures.permutations_value r.ensures.0 r.ensures.1
     r.auto.idx g.auto.dig g.auto.buf
 
 pub shape_of-idx : goal.shape_of-idx
