@@ -1,5 +1,5 @@
 use mathlib.Core.Path.{◌≡◌, refl, subst}
-use Prim.Native.Nat.{ℕ, ◌-◌}
+use Prim.Native.Nat.{ℕ}
 use lib.ListN.{length-set}
 use Rattle.extrapolation.specs.Written.{PutLanes}
 use Rattle.extrapolation.proofs.Putting.{put_none, put_turn}

@@ -1,6 +1,6 @@
 -- `horner::evaluate_by` meets its contract. The invariant says of every x: where the powers are its first, and `step` is the one after them, `value` is the value of the coefficients behind the first `spans` spans.
 use mathlib.Core.Path.{◌≡◌}
-use Prim.Native.Nat.{ℕ, ◌-◌, ◌*◌, ◌≤◌}
+use Prim.Native.Nat.{ℕ, ◌*◌, ◌≤◌}
 use lib.ListN.{length, drop}
 use Rattle.lists.specs.Tabulate.{tabulate}
 use Rattle.algebra.specs.Numbers.{eval_n}
