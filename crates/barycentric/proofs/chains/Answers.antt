@@ -1,6 +1,6 @@
 use mathlib.Core.Path.{◌≡◌, refl, subst}
 use mathlib.Core.List.{List}
-use Prim.Native.Nat.{ℕ, ◌+◌, ◌-◌}
+use Prim.Native.Nat.{ℕ, ◌+◌}
 use lib.ListN.{length, length-set}
 use Rattle.algebra.specs.Barycentric.{rise_n, above_n}
 use Rattle.algebra.specs.BarycentricTurns.{rise_start, rise_turn, fall_start, fall_turn, above_entry}

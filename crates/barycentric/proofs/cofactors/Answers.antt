@@ -5,6 +5,4 @@ use Rattle.barycentric.proofs.cofactors.Goals as goal
 
 pub returns : goal.returns
 returns c =
-    let args = c.before.args in
-    let chains = c.chains in
-    cofactors_done args.near (length args.out.now) chains.new.1.0 chains.new.1.1.0 c.weigh.new.values chains.ensures.0 chains.ensures.1 c.weigh.ensures
+    cofactors_done c.args.near (length c.args.out.now) c.chains.new.below c.chains.new.above c.weigh.new.values c.chains.ensures.0 c.chains.ensures.1 c.weigh.ensures

@@ -1,6 +1,6 @@
 use mathlib.Core.Path.{◌≡◌, refl, subst}
 use mathlib.Core.List.{List}
-use Prim.Native.Nat.{ℕ, ◌-◌, ◌*◌, ◌%◌}
+use Prim.Native.Nat.{ℕ, ◌*◌, ◌%◌}
 use lib.ListN.{length, get_or, length-set}
 use Rattle.algebra.specs.Prime.{q}
 use Rattle.algebra.specs.BarycentricTurns.{weighed_entry, weighed_done}

@@ -1,6 +1,6 @@
 -- `divided_differences::inverses_back` meets its contract. The invariant: a is the inverse of the product of the first i entries; from place i on stand inverses.
 use mathlib.Core.Path.{◌≡◌}
-use Prim.Native.Nat.{◌*◌, ◌-◌, ◌%◌, ◌≤◌}
+use Prim.Native.Nat.{◌*◌, ◌%◌, ◌≤◌}
 use lib.ListN.{length, get_or}
 use Rattle.lists.specs.Fill.{Filled, entry_of}
 use Rattle.algebra.specs.Prime.{q}

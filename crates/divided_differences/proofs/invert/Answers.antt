@@ -8,24 +8,21 @@ use Rattle.divided_differences.proofs.invert.Goals as goal
 
 pub returns-then-p-eq0 : goal.returns-then-p-eq0
 returns-then-p-eq0 c =
-    let start = c.before in
-    let products-before = c.products_before-p in
-    (sym (some_zero start.args.s.now products-before.result.0 start.requires.0 products-before.ensures.0 c.if-p-eq0.true), refl)
+    let p = c.products_before-p in
+    (sym (some_zero c.args.s.now p.result.0 c.requires.0 p.ensures.0 c.if-p-eq0.true), refl)
 
 pub inverse-a-requires : goal.inverse-a-requires
 inverse-a-requires c =
-    let start = c.before in
-    let products-before = c.products_before-p in
-    inverse_asks start.args.s.now (length start.args.s.now) products-before.result.0 products-before.ensures.0 c.if-p-eq0.false
+    let p = c.products_before-p in
+    inverse_asks c.args.s.now (length c.args.s.now) p.result.0 p.ensures.0 c.if-p-eq0.false
 
 pub inverses_back-requires : goal.inverses_back-requires
 inverses_back-requires c =
-    let products-before = c.products-before in
-    let inverse = c.inverse in
-    let s : List ℕ = c.before.before.args.s.now in
-    (products-before.ensures.1, inverse_all s (length s) products-before.result.0 inverse.result.0 products-before.ensures.0 c.if1.false inverse.ensures)
+    let p = c.products_before-p in
+    let s : List ℕ = c.args.s.now in
+    (p.ensures.1, inverse_all s (length s) p.result.0 c.inverse-a.result.0 p.ensures.0 c.if-p-eq0.false c.inverse-a.ensures)
 
 pub returns : goal.returns
 returns c =
-    let products-before = c.products-before in
-    (sym (none_zero c.before.before.args.s.now products-before.result.0 products-before.ensures.0 c.if1.false), c.inverses_back.ensures)
+    let p = c.products_before-p in
+    (sym (none_zero c.args.s.now p.result.0 p.ensures.0 c.if-p-eq0.false), c.inverses_back.ensures)

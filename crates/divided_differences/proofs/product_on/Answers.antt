@@ -1,6 +1,6 @@
 use mathlib.Core.Path.{◌≡◌, ◌∙◌, ap}
 use mathlib.Core.List.{List}
-use Prim.Native.Nat.{ℕ, ◌-◌}
+use Prim.Native.Nat.{ℕ}
 use Rattle.algebra.specs.Numbers.{elements_at}
 use Rattle.algebra.specs.Rests.{product_n, product_next}
 use native.Mathlib.Omega.{arith}

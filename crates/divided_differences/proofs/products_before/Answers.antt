@@ -1,6 +1,6 @@
 use mathlib.Core.Path.{◌≡◌, refl, ◌∙◌, ap, subst}
 use mathlib.Core.List.{List}
-use Prim.Native.Nat.{ℕ, ◌-◌}
+use Prim.Native.Nat.{ℕ}
 use lib.ListN.{length, length-set}
 use Rattle.lists.specs.Fill.{Filled, filled_none, filled_is, fill_next}
 use Rattle.algebra.specs.Inverses.{before_n, before_none, before_turn}

@@ -1,6 +1,6 @@
 use mathlib.Core.Path.{◌≡◌, refl, sym, ◌∙◌, ap₂, subst}
 use mathlib.Core.List.{List}
-use Prim.Native.Nat.{ℕ, ◌+◌, ◌*◌, ◌-◌, ◌%◌, ◌≤◌}
+use Prim.Native.Nat.{ℕ, ◌+◌, ◌*◌, ◌%◌, ◌≤◌}
 use lib.ListN.{length, get_or, set, length-set}
 use Rattle.lists.specs.Fill.{Filled, entry_of, filled_none, filled_own, fill_next, two_filled, two_rest}
 use Rattle.algebra.specs.Prime.{q}

@@ -1,5 +1,4 @@
 use mathlib.Core.Path.{refl, ◌∙◌}
-use Prim.Native.Nat.{◌-◌}
 use Rattle.stepping.proofs.Stepping.{block_holds, block_turn, block_done}
 use native.Mathlib.Omega.{arith}
 use Rattle.stepping.proofs.block.Goals as goal

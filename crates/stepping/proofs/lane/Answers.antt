@@ -1,5 +1,4 @@
 use mathlib.Core.Path.{◌≡◌}
-use Prim.Native.Nat.{◌-◌}
 use lib.ListN.{length-set}
 use Rattle.stepping.specs.Lanes.{run}
 use Rattle.stepping.proofs.Kernel.{lane_holds, lane_turn, lane_done, lane_fits}

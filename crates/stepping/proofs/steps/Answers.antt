@@ -1,5 +1,4 @@
 use mathlib.Core.Path.{refl, ◌∙◌}
-use Prim.Native.Nat.{◌-◌}
 use Rattle.stepping.proofs.Stepping.{table_holds, table_turn, table_done}
 use native.Mathlib.Omega.{arith}
 use Rattle.stepping.proofs.steps.Goals as goal

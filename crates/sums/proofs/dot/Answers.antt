@@ -1,4 +1,4 @@
-use Rattle.std.proofs.Common.{◌-◌, ◌*◌, get_or, refl, arith}
+use Rattle.std.proofs.Common.{◌*◌, get_or, refl, arith}
 use Rattle.algebra.specs.Wrapped.{wrapped_none, wrapped_turn, wrapped_spare, wrapped_done}
 use Rattle.sums.proofs.dot.Goals as goal
 

@@ -1,4 +1,4 @@
-use Rattle.std.proofs.Common.{◌≡◌, ℕ, ◌+◌, ◌-◌, ◌*◌, ◌≤◌, List, length, refl, subst, arith, length-set, rules}
+use Rattle.std.proofs.Common.{◌≡◌, ℕ, ◌+◌, ◌*◌, ◌≤◌, List, length, refl, subst, arith, length-set, rules}
 use Rattle.lists.specs.Fill.{Filled, entry_of, filled_none, fill_next}
 use Rattle.lists.specs.Parts.{row_fits, span_length}
 use Rattle.algebra.specs.Dot.{dots_of, dots_at, dots_done, four_rows_fit, four_lengths, dots_four}

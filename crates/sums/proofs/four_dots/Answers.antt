@@ -1,4 +1,4 @@
-use Rattle.std.proofs.Common.{◌≡◌, ℕ, ◌-◌, ◌*◌, ◌<◌, ◌≤◌, List, length, get_or, refl, le_trans, arith}
+use Rattle.std.proofs.Common.{◌≡◌, ℕ, ◌*◌, ◌<◌, ◌≤◌, List, length, get_or, refl, le_trans, arith}
 use Rattle.algebra.specs.Dot.{longest}
 use Rattle.algebra.specs.Wrapped.{wrapped_none, wrapped_turn, wrapped_spare, wrapped_done}
 use Rattle.sums.proofs.four_dots.Goals as goal

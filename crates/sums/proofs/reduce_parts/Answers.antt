@@ -9,7 +9,7 @@ pub overflow_add-result : goal.overflow_add-result
 overflow_add-result c =
     let s = c.args.s in
     let r : ℕ = c.wrapping_sub_u64-low.result in
-    let e : r ≡ low_of s.all s.upper = low_left s.all s.upper r (search rules) (search rules) c.wrapping_sub_u64-low.ensures in
+    let e : r ≡ low_of s.all s.upper = low_left s.all s.upper r (search rules) (search rules) c.wrapping_sub_u64-low.ensures.value in
     let h : low_of s.all s.upper < spare = c.requires.0 in
     let l : r < spare = rw e h in
     let u : s.upper < spare = c.requires.1 in
@@ -19,4 +19,4 @@ pub returns : goal.returns
 returns c =
     let s = c.args.s in
     let r : ℕ = c.wrapping_sub_u64-low.result in
-    ap (λ (t : ℕ). (t + 10 * s.upper) % q) (low_left s.all s.upper r (search rules) (search rules) c.wrapping_sub_u64-low.ensures)
+    ap (λ (t : ℕ). (t + 10 * s.upper) % q) (low_left s.all s.upper r (search rules) (search rules) c.wrapping_sub_u64-low.ensures.value)

@@ -1,0 +1,74 @@
+use mathlib.Core.Path.{refl, ◌∙◌}
+use Prim.Native.Nat.{ℕ, ◌+◌, ◌-◌}
+use Rattle.lists.specs.Parts.{row_fits}
+use Rattle.extrapolation.proofs.Putting.{steps_none, steps_turn, steps_done}
+use borrow.Author.Rules.{rules}
+use native.Mathlib.Omega.{arith}
+use Rattle.extrapolation.proofs.put_steps.Goals as goal
+
+pub loop-n-init : goal.loop-n-init
+loop-n-init c =
+    let s = c.args in (
+      refl,
+      c.least-to.ensures.0,
+      c.least-to.ensures.1,
+      omega (arith, c.less-n.ensures),
+      omega (arith, c.less-n.ensures, c.requires.4),
+      c.requires.0,
+      c.requires.1,
+      c.requires.2,
+      c.requires.3,
+      refl,
+      c.requires.5,
+      c.requires.4,
+      steps_none s.w.now s.i s.lanes s.first (s.first + s.count) s.stride s.lo s.out.now c.less-n.result c.less-n.ensures,
+    )
+
+pub overflow_mul-x : goal.overflow_mul-x
+overflow_mul-x c =
+    let loop = c.loop-n in let s = c.args in
+    let x : ℕ = s.first + s.count - 1 - (s.i + loop.n) in
+    let r = row_fits s.stride x s.count (omega (arith, loop.invariant.2, loop.invariant.3, c.loop-n-test.true)) in
+    search rules
+
+pub overflow_add-x-in-loop-n : goal.overflow_add-x-in-loop-n
+overflow_add-x-in-loop-n c =
+    let loop = c.loop-n in let s = c.args in
+    let x : ℕ = s.first + s.count - 1 - (s.i + loop.n) in
+    let r = row_fits s.stride x s.count (omega (arith, loop.invariant.2, loop.invariant.3, c.loop-n-test.true)) in
+    search rules
+
+pub put_lanes-requires : goal.put_lanes-requires
+put_lanes-requires c =
+    let loop = c.loop-n in let s = c.args in
+    let x : ℕ = s.first + s.count - 1 - (s.i + loop.n) in
+    let r = row_fits s.stride x s.count (omega (arith, loop.invariant.2, loop.invariant.3, c.loop-n-test.true)) in
+    (omega (arith, loop.invariant.1, c.loop-n-test.true), loop.invariant.5, loop.invariant.6, omega (arith, r, loop.invariant.7, loop.invariant.8))
+
+pub loop-n-preserved : goal.loop-n-preserved
+loop-n-preserved c =
+    let loop = c.loop-n in let s = c.args in
+    let x : ℕ = s.first + s.count - 1 - (s.i + loop.n) in
+    let t = steps_turn s.w.now loop.n s.lanes x s.stride s.lo loop.out c.put_lanes.new.out loop.invariant.7 c.put_lanes.ensures s.i s.first
+    (s.first + s.count) s.out.now (omega (arith, loop.invariant.2, loop.invariant.3, c.loop-n-test.true)) loop.invariant.12 in (
+      loop.invariant.0,
+      loop.invariant.1,
+      loop.invariant.2,
+      omega (arith, loop.invariant.3),
+      omega (arith, loop.invariant.1, c.loop-n-test.true),
+      loop.invariant.5,
+      loop.invariant.6,
+      loop.invariant.7,
+      omega
+          (arith, loop.invariant.8, c.put_lanes.auto.out),
+      c.put_lanes.auto.out ∙ loop.invariant.9,
+      loop.invariant.10,
+      loop.invariant.11,
+      t,
+    )
+
+pub returns : goal.returns
+returns c =
+    let loop = c.loop-n in let s = c.args in
+    steps_done s.w.now s.i s.lanes s.first (s.first + s.count) s.stride s.lo s.out.now loop.out loop.n c.least-to.result c.loop-n-test.false
+    c.least-to.ensures.2 loop.invariant.12

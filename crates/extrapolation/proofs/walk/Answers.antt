@@ -1,0 +1,67 @@
+use mathlib.Core.Path.{◌≡◌, refl, ◌∙◌}
+use Prim.Native.Nat.{◌+◌, ◌*◌}
+use lib.ListN.{length}
+use Rattle.stepping.specs.Lanes.{run}
+use Rattle.extrapolation.proofs.Putting.{walk_none, walk_turn, walk_done}
+use borrow.Author.Rules.{rules}
+use native.Mathlib.Omega.{arith}
+use Rattle.extrapolation.proofs.walk.Goals as goal
+
+pub loop-i-init : goal.loop-i-init
+loop-i-init c =
+    let s = c.args in (
+      refl,
+      omega arith,
+      c.requires.0,
+      refl,
+      c.requires.1,
+      c.requires.3,
+      c.requires.4,
+      refl,
+      c.requires.5,
+      walk_none (5 * s.blocks) s.lanes s.first
+          (s.first + s.count) s.stride s.lo s.t.now s.out.now c.requires.2,
+    )
+
+pub steps-requires : goal.steps-requires
+steps-requires c =
+    let loop = c.loop-i in
+    let l : length c.blank_feed-w.result ≡ 4 * run = search rules in
+    (loop.invariant.2, loop.invariant.4, l, loop.invariant.9.small, c.blank_feed-w.ensures)
+
+pub put_steps-requires : goal.put_steps-requires
+put_steps-requires c =
+    let loop = c.loop-i in
+    let l : length c.blank_feed-w.result ≡ 4 * run = search rules in (
+      loop.invariant.4,
+      c.steps.auto.w ∙ l,
+      loop.invariant.5,
+      loop.invariant.6,
+      loop.invariant.8,
+      omega
+          (arith, loop.invariant.0, c.loop-i-test.true),
+    )
+
+pub loop-i-preserved : goal.loop-i-preserved
+loop-i-preserved c =
+    let loop = c.loop-i in let s =
+    c.args in (
+      loop.invariant.0,
+      omega arith,
+      omega (arith, loop.invariant.2, c.steps.auto.t),
+      c.steps.auto.t ∙
+          loop.invariant.3,
+      loop.invariant.4,
+      loop.invariant.5,
+      omega (arith, loop.invariant.6, c.put_steps.auto.out),
+      c.put_steps.auto.out ∙ loop.invariant.7,
+      loop.invariant.8,
+      walk_turn (5 * s.blocks) s.lanes s.first (s.first + s.count) s.stride s.lo s.t.now s.out.now loop.t loop.out loop.i
+          c.steps.new.t c.steps.new.w
+          c.put_steps.new.out loop.invariant.9 c.steps.ensures c.put_steps.ensures,
+    )
+
+pub returns : goal.returns
+returns c =
+    let loop = c.loop-i in let s = c.args in
+    walk_done (5 * s.blocks) s.lanes s.first (s.first + s.count) s.stride s.lo s.t.now s.out.now loop.t loop.out loop.i (omega (arith, loop.invariant.0, c.loop-i-test.false)) loop.invariant.9
