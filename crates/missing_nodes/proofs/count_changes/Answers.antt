@@ -1,4 +1,4 @@
-use mathlib.Core.Logic.{⊎_elim, inl, inr}
+use mathlib.Core.Logic.{inl, inr}
 use mathlib.Core.Path.{◌≡◌, sym, ap, ◌∙◌}
 use Prim.Native.Nat.{ℕ, ◌-◌}
 use native.Mathlib.Omega.{arith}
@@ -6,6 +6,7 @@ use lib.ListN.{length}
 use Rattle.lists.specs.Tests.{tally, tally_none, tally_few}
 use Rattle.missing_nodes.proofs.Counting.{differs, tallied, changes_are}
 use Rattle.missing_nodes.proofs.count_changes.Goals as goal
+use Rattle.missing_nodes.proofs.count_changes.Goals.{then-indices-a, else-indices-a}
 
 pub loop-a-init : goal.loop-a-init
 loop-a-init c = (omega arith, sym (tally_none (differs c.args.shift c.args.indices.now)))
@@ -20,7 +21,7 @@ loop-a-preserved c =
     let s = c.args in
     let l = c.loop-a in (
       omega arith,
-      tallied s.shift s.indices.now l.n l.a c.if-indices-a.n l.invariant.1 (⊎_elim (λ d. inl (d.0.taken, d.1)) (λ d. inr (d.0.left, d.1)) c.if-indices-a.branch),
+      tallied s.shift s.indices.now l.n l.a c.if-indices-a.n l.invariant.1 (elim c.if-indices-a.branch [ then-indices-a w ↦ inl (w.if-indices-a.true, w.n-is) | else-indices-a w ↦ inr (w.if-indices-a.false, w.n-is) ]),
     )
 
 pub returns : goal.returns

@@ -17,4 +17,4 @@ pub returns : goal.returns
 returns c =
     let a = c.args in
     let k = c.copy_indices.ensures in
-    let g = c.list_nodes.ensures in record { value = g.count ∙ ap (λ (c : List ℕ). length (missing 2 a.h c)) k; out_after = g.content ∙ ap (λ (c : List ℕ). flatten (opened 2 a.h (all_parts a.tree.now) c) ++ drop (32 * c.list_nodes.result) a.out.now) k }
+    let g = c.list_nodes.ensures in record { value = g.count ∙ ap (λ (c : List ℕ). length (missing 2 a.h c)) k; out_after = g.content ∙ ap (λ (s : List ℕ). flatten (opened 2 a.h (all_parts a.tree.now) s) ++ drop (32 * c.list_nodes.result) a.out.now) k }
