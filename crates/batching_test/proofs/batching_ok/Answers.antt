@@ -23,7 +23,7 @@ fill_powers-requires c =
 pub slice_bounds-powers-end : goal.slice_bounds-powers-end
 slice_bounds-powers-end c =
     let b : length c.blank_powers-powers.result ≡ 32 = search rules in
-    let w = c.Span-of.ensures.1 in
+    let w = c.span_of-span.ensures.1 in
     search rules
 
 pub batching_walk-requires : goal.batching_walk-requires
@@ -37,17 +37,17 @@ batching_walk-requires c =
     let d : length c.blank_scales-scales.result ≡ 256 = search rules in
     let j : length c.fill_powers.new.table ≡ length c.blank_scales-scales.result =
     c.fill_powers.auto.table in
-    let w = c.Span-of.ensures.1 in
+    let w = c.span_of-span.ensures.1 in
     let m = c.requires.3 in
     let c₄ = c.requires.4 in
-    let e : c.Span-of.result ≡ length
-    (take (c.Span-of.result - 0) (drop 0 c.blank_powers-powers.result)) = sym
-    (front_length c.Span-of.result c.blank_powers-powers.result (omega arith)) in
+    let e : c.span_of-span.result ≡ length
+    (take (c.span_of-span.result - 0) (drop 0 c.blank_powers-powers.result)) = sym
+    (front_length c.span_of-span.result c.blank_powers-powers.result (omega arith)) in
     let f : n ≡ length (take (n - 0) (drop 0 c.blank_leaf-values.result)) = sym (front_length n c.blank_leaf-values.result (omega arith)) in (
       omega arith,
       c.requires.1,
       subst (λ (i : ℕ). 0 < i) e
-          c.Span-of.ensures.0,
+          c.span_of-span.ensures.0,
       omega arith,
       c.requires.2,
       omega arith,

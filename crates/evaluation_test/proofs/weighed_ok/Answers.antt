@@ -75,20 +75,20 @@ pub returns-then-not-answer_ok : goal.returns-then-not-answer_ok
 returns-then-not-answer_ok c =
     let s = c.args in
     let loop = c.loop-p in
-    let h : c.Answer-Ok.result ≡ weighed_at s.inverses.now s.weights.now s.weighed.now s.scales.now s.rows.now loop.p = sides s.m s.inverses.now s.weights.now s.weighed.now
-    s.scales.now s.rows.now _ _ loop.p c.dot-total.result.0 c.Answer-Ok.result (omega arith)
+    let h : c.answer_ok.result ≡ weighed_at s.inverses.now s.weights.now s.weighed.now s.scales.now s.rows.now loop.p = sides s.m s.inverses.now s.weights.now s.weighed.now
+    s.scales.now s.rows.now _ _ loop.p c.dot-total.result.0 c.answer_ok.result (omega arith)
     c.requires.1 loop.invariant.3 loop.invariant.4 loop.invariant.5
-    c.Answer-Ok.ensures in
+    c.answer_ok.ensures in
     sym (each_stop s.m (weighed_at s.inverses.now s.weights.now s.weighed.now s.scales.now s.rows.now) loop.p (omega arith) (sym h ∙ c.if-not-answer_ok.true))
 
 pub loop-p-preserved : goal.loop-p-preserved
 loop-p-preserved c =
     let s = c.args in
     let loop = c.loop-p in
-    let h : c.Answer-Ok.result ≡ weighed_at s.inverses.now s.weights.now s.weighed.now s.scales.now s.rows.now loop.p = sides s.m s.inverses.now s.weights.now s.weighed.now
-    s.scales.now s.rows.now _ _ loop.p c.dot-total.result.0 c.Answer-Ok.result (omega arith)
+    let h : c.answer_ok.result ≡ weighed_at s.inverses.now s.weights.now s.weighed.now s.scales.now s.rows.now loop.p = sides s.m s.inverses.now s.weights.now s.weighed.now
+    s.scales.now s.rows.now _ _ loop.p c.dot-total.result.0 c.answer_ok.result (omega arith)
     c.requires.1 loop.invariant.3 loop.invariant.4 loop.invariant.5
-    c.Answer-Ok.ensures in (
+    c.answer_ok.ensures in (
       omega arith,
       loop.invariant.1,
       loop.invariant.2,

@@ -81,4 +81,4 @@ loop-a-preserved c =
 pub returns : goal.returns
 returns c =
     let e : c.loop-a.a ≡ length c.args.indices.now = omega arith in
-    rw (← e) (c.loop-a.invariant.3, c.loop-a.invariant.4)
+    rw (← e) (record { out_after = c.loop-a.invariant.3; value = c.loop-a.invariant.4 })
