@@ -1,16 +1,14 @@
 use mathlib.Core.Path.{◌≡◌, refl, sym, ◌∙◌, subst}
-use mathlib.Core.Bool.{false≢true}
 use mathlib.Core.List.{List}
 use Prim.Native.Nat.{ℕ, ◌+◌, ◌≤◌, ◌<◌}
-use native.Mathlib.Nat.{not-suc-le-zero, mod-lt, le_refl}
-use lib.Dec.{lit<}
+use native.Mathlib.Nat.{not-suc-le-zero, le_refl}
 use lib.ListN.{length, get_or}
 use Rattle.lists.specs.All.{Distinct}
 use Rattle.lists.specs.Differ.{true_differ}
 use Rattle.algebra.specs.Prime.{q}
 use Rattle.algebra.specs.Numbers.{interp_n}
 use Rattle.algebra.specs.Divided.{nform_n}
-use Rattle.algebra.specs.Rests.{Divided, divided_start, divided_front, divided_turn, divided_done, weights_behind, rests_held, rests_grow}
+use Rattle.algebra.specs.Rests.{Divided, divided_start, divided_front, divided_turn, divided_done, weights_behind, rests_grow}
 use native.Mathlib.Omega.{arith}
 use Rattle.divided_differences.proofs.divide.Goals as goal
 
@@ -27,20 +25,6 @@ loop-k-init c =
       λ j l m. absurd (not-suc-le-zero {n = 0} (omega arith)),
       divided_start args.points.now args.values.now args.out.now widen.new.rests args.products.now c.requires.1 e c.requires.5 c.requires.7,
     )
-
-pub next_weights-end-requires : goal.next_weights-end-requires
-next_weights-end-requires c =
-    (c.requires.0, omega arith, c.loop-k.invariant.1, omega arith, omega arith, c.loop-k.invariant.6.count, c.loop-k.invariant.6.products, c.loop-k.invariant.5)
-
-pub returns-then-end-k : goal.returns-then-end-k
-returns-then-end-k c = (sym (c.next_weights-end.ensures.4 c.if-end-k.true), λ e. absurd (false≢true e))
-
-pub opposite-minus-requires : goal.opposite-minus-requires
-opposite-minus-requires c = subst (λ (t : ℕ). t < q) (sym c.multiply-c.ensures) (mod-lt _ (lit< tt))
-
-pub take_off-requires : goal.take_off-requires
-take_off-requires c =
-    (c.requires.0, omega arith, omega arith, omega arith, rests_held c.args.points.now c.args.values.now c.loop-k.out c.loop-k.rests c.loop-k.products c.loop-k.k (omega arith) c.loop-k.invariant.6)
 
 pub loop-k-preserved : goal.loop-k-preserved
 loop-k-preserved c =

@@ -1,5 +1,5 @@
 -- `divided_differences::next_weights` meets its contract: the weights are there, or a block of them is put in.
-use mathlib.Core.Path.{◌≡◌, refl, sym, ◌∙◌, ap, subst}
+use mathlib.Core.Path.{◌≡◌, sym, ◌∙◌, ap, subst}
 use mathlib.Core.Bool.{Bool, true, false}
 use mathlib.Core.List.{List, ◌++◌, map}
 use Prim.Native.Nat.{ℕ, ◌+◌, ◌-◌}
@@ -13,10 +13,6 @@ use Rattle.algebra.specs.Inverses.{invertible}
 use Rattle.algebra.specs.Rests.{block_n, Weights, weights_put, block_equal}
 use native.Mathlib.Omega.{arith}
 use Rattle.divided_differences.proofs.next_weights.Goals as goal
-
-pub returns-then-k-end : goal.returns-then-k-end
-returns-then-k-end c =
-    (c.requires.2, c.requires.3, c.requires.7, refl, λ e. absurd (not-suc-le-zero {n = 0} (omega arith)))
 
 pub returns-then-block_weights : goal.returns-then-block_weights
 returns-then-block_weights c =

@@ -1,7 +1,5 @@
-use mathlib.Core.Path.{◌≡◌, refl, subst}
-use Prim.Native.Nat.{ℕ}
+use mathlib.Core.Path.{refl}
 use lib.ListN.{length-set}
-use Rattle.extrapolation.specs.Written.{PutLanes}
 use Rattle.extrapolation.proofs.Putting.{put_none, put_turn}
 use native.Mathlib.Omega.{arith}
 use Rattle.extrapolation.proofs.put_lanes.Goals as goal
@@ -23,9 +21,3 @@ loop-j-preserved c =
       put_turn args.w.now args.n loop.j args.start args.out.now loop.out _
           (omega (arith, loop.invariant.4, c.loop-j-test.true)) refl loop.invariant.6,
     )
-
-pub returns : goal.returns
-returns c =
-    let loop = c.loop-j in let args = c.args in
-    let e : loop.j ≡ args.lanes = omega (arith, loop.invariant.0, c.loop-j-test.false) in
-    subst (λ (k : ℕ). PutLanes args.w.now args.n k args.start args.out.now loop.out) e loop.invariant.6

@@ -1,8 +1,6 @@
 use mathlib.Core.Path.{refl, ◌∙◌}
 use Prim.Native.Nat.{ℕ, ◌+◌, ◌-◌}
-use Rattle.lists.specs.Parts.{row_fits}
 use Rattle.extrapolation.proofs.Putting.{steps_none, steps_turn, steps_done}
-use borrow.Author.Rules.{rules}
 use native.Mathlib.Omega.{arith}
 use Rattle.extrapolation.proofs.put_steps.Goals as goal
 
@@ -23,27 +21,6 @@ loop-n-init c =
       c.requires.4,
       steps_none s.w.now s.i s.lanes s.first (s.first + s.count) s.stride s.lo s.out.now c.less-n.result c.less-n.ensures,
     )
-
-pub overflow_mul-x : goal.overflow_mul-x
-overflow_mul-x c =
-    let loop = c.loop-n in let s = c.args in
-    let x : ℕ = s.first + s.count - 1 - (s.i + loop.n) in
-    let r = row_fits s.stride x s.count (omega (arith, loop.invariant.2, loop.invariant.3, c.loop-n-test.true)) in
-    search rules
-
-pub overflow_add-x-in-loop-n : goal.overflow_add-x-in-loop-n
-overflow_add-x-in-loop-n c =
-    let loop = c.loop-n in let s = c.args in
-    let x : ℕ = s.first + s.count - 1 - (s.i + loop.n) in
-    let r = row_fits s.stride x s.count (omega (arith, loop.invariant.2, loop.invariant.3, c.loop-n-test.true)) in
-    search rules
-
-pub put_lanes-requires : goal.put_lanes-requires
-put_lanes-requires c =
-    let loop = c.loop-n in let s = c.args in
-    let x : ℕ = s.first + s.count - 1 - (s.i + loop.n) in
-    let r = row_fits s.stride x s.count (omega (arith, loop.invariant.2, loop.invariant.3, c.loop-n-test.true)) in
-    (omega (arith, loop.invariant.1, c.loop-n-test.true), loop.invariant.5, loop.invariant.6, omega (arith, r, loop.invariant.7, loop.invariant.8))
 
 pub loop-n-preserved : goal.loop-n-preserved
 loop-n-preserved c =

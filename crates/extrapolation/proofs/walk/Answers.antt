@@ -1,9 +1,6 @@
-use mathlib.Core.Path.{◌≡◌, refl, ◌∙◌}
+use mathlib.Core.Path.{refl, ◌∙◌}
 use Prim.Native.Nat.{◌+◌, ◌*◌}
-use lib.ListN.{length}
-use Rattle.stepping.specs.Lanes.{run}
 use Rattle.extrapolation.proofs.Putting.{walk_none, walk_turn, walk_done}
-use borrow.Author.Rules.{rules}
 use native.Mathlib.Omega.{arith}
 use Rattle.extrapolation.proofs.walk.Goals as goal
 
@@ -21,25 +18,6 @@ loop-i-init c =
       c.requires.5,
       walk_none (5 * s.blocks) s.lanes s.first
           (s.first + s.count) s.stride s.lo s.t.now s.out.now c.requires.2,
-    )
-
-pub steps-requires : goal.steps-requires
-steps-requires c =
-    let loop = c.loop-i in
-    let l : length c.blank_feed-w.result ≡ 4 * run = search rules in
-    (loop.invariant.2, loop.invariant.4, l, loop.invariant.9.small, c.blank_feed-w.ensures)
-
-pub put_steps-requires : goal.put_steps-requires
-put_steps-requires c =
-    let loop = c.loop-i in
-    let l : length c.blank_feed-w.result ≡ 4 * run = search rules in (
-      loop.invariant.4,
-      c.steps.auto.w ∙ l,
-      loop.invariant.5,
-      loop.invariant.6,
-      loop.invariant.8,
-      omega
-          (arith, loop.invariant.0, c.loop-i-test.true),
     )
 
 pub loop-i-preserved : goal.loop-i-preserved

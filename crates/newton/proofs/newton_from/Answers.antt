@@ -20,9 +20,6 @@ loop-k-init c = (
   filled_none (newton_n c.args.values.now) c.args.out.now 0 0 (omega arith),
 )
 
-pub take_differences-requires : goal.take_differences-requires
-take_differences-requires c = (omega arith, c.loop-k.invariant.5)
-
 pub loop-k-preserved : goal.loop-k-preserved
 loop-k-preserved c =
     let loop = c.loop-k in

@@ -8,11 +8,6 @@ loop-j-init c =
     let args = c.args in
     (omega arith, c.requires.1, c.requires.0, refl, c.requires.2, block_holds args.t.now args.b args.w.now args.lanes c.requires.3 c.requires.4)
 
-pub lane-requires : goal.lane-requires
-lane-requires c =
-    let loop = c.loop-j in
-    (omega (arith, loop.invariant.2, loop.invariant.1, c.loop-j-test.true), omega (arith, loop.invariant.1, c.loop-j-test.true), loop.invariant.4, loop.invariant.5.small, loop.invariant.5.handed_small)
-
 pub loop-j-preserved : goal.loop-j-preserved
 loop-j-preserved c =
     let loop = c.loop-j in let args = c.args in (

@@ -34,18 +34,6 @@ loop-n-preserved c =
           c.loop-n-test.true loop.invariant.5 c.turn-v.ensures,
     )
 
-pub bounds-t-at-7 : goal.bounds-t-at-7
-bounds-t-at-7 c = simp length-set (omega arith)
-
-pub bounds-t-at-8 : goal.bounds-t-at-8
-bounds-t-at-8 c = simp length-set (omega arith)
-
-pub bounds-t-at-9 : goal.bounds-t-at-9
-bounds-t-at-9 c = simp length-set (omega arith)
-
-pub bounds-t-at-10 : goal.bounds-t-at-10
-bounds-t-at-10 c = simp length-set (omega arith)
-
 pub returns : goal.returns
 returns c =
     let loop = c.loop-n in let args = c.args in

@@ -8,11 +8,6 @@ loop-b-init c =
     let args = c.args in
     (omega arith, c.requires.1, c.requires.0, refl, c.requires.2, table_holds args.t.now args.blocks args.lanes args.w.now c.requires.3 c.requires.4)
 
-pub block-requires : goal.block-requires
-block-requires c =
-    let loop = c.loop-b in
-    (omega (arith, loop.invariant.2, c.loop-b-test.true), loop.invariant.1, loop.invariant.4, loop.invariant.5.small, loop.invariant.5.handed_small)
-
 pub loop-b-preserved : goal.loop-b-preserved
 loop-b-preserved c =
     let loop = c.loop-b in let args = c.args in (
