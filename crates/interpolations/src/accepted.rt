@@ -4,20 +4,21 @@ use interpolation::interpolate;
 use runs::calls::{front_words, front_words_mut};
 use runs::inputs::Q;
 use runs::printing::{print_number, print_word_digest, print_words};
+use std::io;
 
 // The number of points from which on there is a digest.
 const MANY: usize = 20;
 
-fn print_coefficients(coefficients: &[u32]) {
+fn print_coefficients(rt: &impl Print, coefficients: &[u32]) -> io::Result<()> {
     if coefficients.len() < MANY {
-        print_words(b"\ncoefficients ", coefficients);
+        print_words(rt, b"\ncoefficients ", coefficients)
     } else {
-        print_word_digest(b"\ncoefficients digest ", coefficients);
+        print_word_digest(rt, b"\ncoefficients digest ", coefficients)
     }
 }
 
 // So many points and values by these rules.
-fn print_run(n: usize, points: Recurrence, values: Recurrence) {
+fn print_run(rt: &impl Print, n: usize, points: Recurrence, values: Recurrence) -> io::Result<()> {
     let x = words(points);
     let y = words(values);
     let mut coefficients = room();
@@ -26,48 +27,48 @@ fn print_run(n: usize, points: Recurrence, values: Recurrence) {
         front_words(&y, n),
         front_words_mut(&mut coefficients, n),
     );
-    print_number(b"points ", n as u64);
-    print_number(b" interpolate ", v as u64);
-    print_coefficients(front_words(&coefficients, n));
+    print_number(rt, b"points ", n as u64)?;
+    print_number(rt, b" interpolate ", v as u64)?;
+    print_coefficients(rt, front_words(&coefficients, n))
 }
 
-fn print_any(n: usize) {
-    print_run(n, any_points(), scattered(5));
+fn print_any(rt: &impl Print, n: usize) -> io::Result<()> {
+    print_run(rt, n, any_points(), scattered(5))
 }
 
 // Points of other rules: in a row, up and down, around 0, powers, and far apart.
-fn print_rows(n: usize) {
+fn print_rows(rt: &impl Print, n: usize) -> io::Result<()> {
     let values = scattered(7);
-    print_run(n, rule(0, 1, 1), values);
-    print_run(n, rule(4096, 1, 1), values);
-    print_run(n, rule(Q - 1, 1, Q - 1), values);
-    print_run(n, rule(Q - 3, 1, 1), values);
-    print_run(n, rule(1, 2, 0), values);
-    print_run(n, rule(0, 1, 65536), values);
+    print_run(rt, n, rule(0, 1, 1), values)?;
+    print_run(rt, n, rule(4096, 1, 1), values)?;
+    print_run(rt, n, rule(Q - 1, 1, Q - 1), values)?;
+    print_run(rt, n, rule(Q - 3, 1, 1), values)?;
+    print_run(rt, n, rule(1, 2, 0), values)?;
+    print_run(rt, n, rule(0, 1, 65536), values)
 }
 
 // Values of polynomials of low degree: 0, q - 1, X, 3 X + 1.
-fn print_low(n: usize) {
-    print_run(n, any_points(), constant(0));
-    print_run(n, any_points(), constant(Q - 1));
-    print_run(n, any_points(), any_points());
-    print_run(n, rule(0, 1, 1), rule(1, 1, 3));
+fn print_low(rt: &impl Print, n: usize) -> io::Result<()> {
+    print_run(rt, n, any_points(), constant(0))?;
+    print_run(rt, n, any_points(), constant(Q - 1))?;
+    print_run(rt, n, any_points(), any_points())?;
+    print_run(rt, n, rule(0, 1, 1), rule(1, 1, 3))
 }
 
-pub fn print_accepted() {
-    print_any(1);
-    print_any(2);
-    print_any(3);
-    print_any(7);
-    print_any(8);
-    print_any(9);
-    print_any(16);
-    print_any(17);
-    print_any(319);
-    print_any(320);
-    print_rows(9);
-    print_rows(320);
-    print_low(1);
-    print_low(9);
-    print_low(320);
+pub fn print_accepted(rt: &impl Print) -> io::Result<()> {
+    print_any(rt, 1)?;
+    print_any(rt, 2)?;
+    print_any(rt, 3)?;
+    print_any(rt, 7)?;
+    print_any(rt, 8)?;
+    print_any(rt, 9)?;
+    print_any(rt, 16)?;
+    print_any(rt, 17)?;
+    print_any(rt, 319)?;
+    print_any(rt, 320)?;
+    print_rows(rt, 9)?;
+    print_rows(rt, 320)?;
+    print_low(rt, 1)?;
+    print_low(rt, 9)?;
+    print_low(rt, 320)
 }

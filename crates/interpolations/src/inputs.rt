@@ -5,7 +5,7 @@ use runs::inputs::{LARGEST, Q};
 const ROOM: usize = 328;
 
 // A first word, and each next one from the one before: times `factor`, plus `step`, modulo q.
-#[derive(Drop)]
+#[derive(Clone, Copy)]
 pub struct Recurrence {
     pub first: u32,
     pub factor: u32,

@@ -5,9 +5,10 @@ use runs::calls::{front_words, front_words_mut};
 use runs::inputs::{LARGEST, Q};
 use runs::printing::{print_number, word_digest};
 use runs::small::{NOWHERE, print_same};
+use std::io;
 
 // How many points and values are lent, and room for how many coefficients. A point and a value may be set to a word, and after that a point to another one.
-#[derive(Drop)]
+#[derive(Clone, Copy)]
 struct Attempt {
     points: usize,
     values: usize,
@@ -34,7 +35,7 @@ fn repeat(words: &mut [u32], from: usize, to: usize) {
     }
 }
 
-fn print_attempt(a: Attempt) {
+fn print_attempt(rt: &impl Print, a: Attempt) -> io::Result<()> {
     let mut points = words(any_points());
     let mut values = words(scattered(11));
     let mut coefficients = room();
@@ -47,11 +48,11 @@ fn print_attempt(a: Attempt) {
         front_words(&values, a.values),
         front_words_mut(&mut coefficients, a.room),
     );
-    print_number(b"points ", a.points as u64);
-    print_number(b" values ", a.values as u64);
-    print_number(b" room ", a.room as u64);
-    print_number(b" interpolate ", v as u64);
-    print_same(before, word_digest(&coefficients));
+    print_number(rt, b"points ", a.points as u64)?;
+    print_number(rt, b" values ", a.values as u64)?;
+    print_number(rt, b" room ", a.room as u64)?;
+    print_number(rt, b" interpolate ", v as u64)?;
+    print_same(rt, before, word_digest(&coefficients))
 }
 
 // With nothing wrong but perhaps the lengths.
@@ -95,76 +96,76 @@ fn with_equal(a: Attempt, from: usize, to: usize) -> Attempt {
 }
 
 // 1, whatever else is wrong.
-fn print_counts() {
-    print_attempt(sound(0));
-    print_attempt(lent(0, 1, 1));
-    print_attempt(with_value(lent(0, 1, 0), 0, Q));
-    print_attempt(sound(321));
-    print_attempt(lent(321, 320, 320));
-    print_attempt(lent(321, 0, 0));
-    print_attempt(with_point(sound(321), 320, Q));
-    print_attempt(with_equal(sound(321), 0, 320));
-    print_attempt(sound(328));
+fn print_counts(rt: &impl Print) -> io::Result<()> {
+    print_attempt(rt, sound(0))?;
+    print_attempt(rt, lent(0, 1, 1))?;
+    print_attempt(rt, with_value(lent(0, 1, 0), 0, Q))?;
+    print_attempt(rt, sound(321))?;
+    print_attempt(rt, lent(321, 320, 320))?;
+    print_attempt(rt, lent(321, 0, 0))?;
+    print_attempt(rt, with_point(sound(321), 320, Q))?;
+    print_attempt(rt, with_equal(sound(321), 0, 320))?;
+    print_attempt(rt, sound(328))
 }
 
 // 2, before elements and equal points.
-fn print_lengths() {
-    print_attempt(lent(320, 319, 320));
-    print_attempt(lent(320, 321, 320));
-    print_attempt(lent(320, 320, 319));
-    print_attempt(lent(320, 320, 321));
-    print_attempt(lent(9, 8, 8));
-    print_attempt(lent(9, 10, 10));
-    print_attempt(lent(9, 8, 10));
-    print_attempt(lent(9, 10, 8));
-    print_attempt(lent(1, 0, 1));
-    print_attempt(lent(1, 1, 0));
-    print_attempt(with_point(lent(9, 8, 9), 0, Q));
-    print_attempt(with_value(lent(9, 9, 10), 8, Q));
-    print_attempt(with_equal(lent(9, 9, 8), 0, 8));
+fn print_lengths(rt: &impl Print) -> io::Result<()> {
+    print_attempt(rt, lent(320, 319, 320))?;
+    print_attempt(rt, lent(320, 321, 320))?;
+    print_attempt(rt, lent(320, 320, 319))?;
+    print_attempt(rt, lent(320, 320, 321))?;
+    print_attempt(rt, lent(9, 8, 8))?;
+    print_attempt(rt, lent(9, 10, 10))?;
+    print_attempt(rt, lent(9, 8, 10))?;
+    print_attempt(rt, lent(9, 10, 8))?;
+    print_attempt(rt, lent(1, 0, 1))?;
+    print_attempt(rt, lent(1, 1, 0))?;
+    print_attempt(rt, with_point(lent(9, 8, 9), 0, Q))?;
+    print_attempt(rt, with_value(lent(9, 9, 10), 8, Q))?;
+    print_attempt(rt, with_equal(lent(9, 9, 8), 0, 8))
 }
 
 // 3, before equal points.
-fn print_elements() {
-    print_attempt(with_point(sound(1), 0, Q));
-    print_attempt(with_value(sound(1), 0, LARGEST));
-    print_attempt(with_point(sound(9), 0, Q + 1));
-    print_attempt(with_point(sound(9), 8, Q));
-    print_attempt(with_value(sound(9), 0, Q));
-    print_attempt(with_value(sound(9), 8, Q));
-    print_attempt(with_point(sound(320), 319, LARGEST));
-    print_attempt(with_value(sound(320), 319, Q));
-    print_attempt(with_equal(with_point(sound(9), 0, Q), 0, 8));
-    print_attempt(with_equal(with_value(sound(9), 4, Q), 0, 8));
+fn print_elements(rt: &impl Print) -> io::Result<()> {
+    print_attempt(rt, with_point(sound(1), 0, Q))?;
+    print_attempt(rt, with_value(sound(1), 0, LARGEST))?;
+    print_attempt(rt, with_point(sound(9), 0, Q + 1))?;
+    print_attempt(rt, with_point(sound(9), 8, Q))?;
+    print_attempt(rt, with_value(sound(9), 0, Q))?;
+    print_attempt(rt, with_value(sound(9), 8, Q))?;
+    print_attempt(rt, with_point(sound(320), 319, LARGEST))?;
+    print_attempt(rt, with_value(sound(320), 319, Q))?;
+    print_attempt(rt, with_equal(with_point(sound(9), 0, Q), 0, 8))?;
+    print_attempt(rt, with_equal(with_value(sound(9), 4, Q), 0, 8))
 }
 
 // 13.
-fn print_equal() {
-    print_attempt(with_equal(sound(2), 0, 1));
-    print_attempt(with_equal(sound(8), 6, 7));
-    print_attempt(with_equal(sound(9), 0, 8));
-    print_attempt(with_equal(sound(9), 7, 8));
-    print_attempt(with_equal(sound(17), 8, 16));
-    print_attempt(with_equal(with_point(sound(17), 3, 0), 3, 12));
-    print_attempt(with_equal(sound(319), 317, 318));
-    print_attempt(with_equal(sound(320), 0, 1));
-    print_attempt(with_equal(sound(320), 0, 319));
-    print_attempt(with_equal(sound(320), 311, 312));
-    print_attempt(with_equal(sound(320), 318, 319));
+fn print_equal(rt: &impl Print) -> io::Result<()> {
+    print_attempt(rt, with_equal(sound(2), 0, 1))?;
+    print_attempt(rt, with_equal(sound(8), 6, 7))?;
+    print_attempt(rt, with_equal(sound(9), 0, 8))?;
+    print_attempt(rt, with_equal(sound(9), 7, 8))?;
+    print_attempt(rt, with_equal(sound(17), 8, 16))?;
+    print_attempt(rt, with_equal(with_point(sound(17), 3, 0), 3, 12))?;
+    print_attempt(rt, with_equal(sound(319), 317, 318))?;
+    print_attempt(rt, with_equal(sound(320), 0, 1))?;
+    print_attempt(rt, with_equal(sound(320), 0, 319))?;
+    print_attempt(rt, with_equal(sound(320), 311, 312))?;
+    print_attempt(rt, with_equal(sound(320), 318, 319))
 }
 
 // Nothing wrong among what is lent: accepted, and changed.
-fn print_sound() {
-    print_attempt(with_equal(sound(9), 0, 9));
-    print_attempt(with_point(with_value(sound(9), 9, Q), 9, Q));
-    print_attempt(with_point(with_value(sound(9), 0, Q - 1), 8, Q - 1));
-    print_attempt(sound(320));
+fn print_sound(rt: &impl Print) -> io::Result<()> {
+    print_attempt(rt, with_equal(sound(9), 0, 9))?;
+    print_attempt(rt, with_point(with_value(sound(9), 9, Q), 9, Q))?;
+    print_attempt(rt, with_point(with_value(sound(9), 0, Q - 1), 8, Q - 1))?;
+    print_attempt(rt, sound(320))
 }
 
-pub fn print_refused() {
-    print_counts();
-    print_lengths();
-    print_elements();
-    print_equal();
-    print_sound();
+pub fn print_refused(rt: &impl Print) -> io::Result<()> {
+    print_counts(rt)?;
+    print_lengths(rt)?;
+    print_elements(rt)?;
+    print_equal(rt)?;
+    print_sound(rt)
 }

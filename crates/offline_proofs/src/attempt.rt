@@ -11,7 +11,7 @@ use runs::small::{NONE, NOWHERE, commit_small, lent_words, raise};
 const LIMIT: u32 = 5000;
 
 // The question's sizes can be others than the commitment's. The lengths are those that the call is lent; the salt is that of the tag. A byte of the question, the tree or the lent salt is raised by 1, the last word of one slice is made q.
-#[derive(Drop)]
+#[derive(Clone, Copy)]
 pub struct Attempt {
     pub sizes: Shape,
     pub asked_sizes: Shape,
@@ -171,16 +171,16 @@ pub fn prove_asked(
 }
 
 // The length of the proof, 0 with a refusal.
-pub fn length_of(answer: Proved) -> usize {
+pub fn length_of(answer: &Proved) -> usize {
     match answer {
-        Proved::Proof(n) => n,
+        Proved::Proof(n) => *n,
         Proved::Refused(_) => 0,
     }
 }
 
-pub fn number_of(answer: Proved) -> u64 {
+pub fn number_of(answer: &Proved) -> u64 {
     match answer {
         Proved::Proof(_) => 0,
-        Proved::Refused(v) => v as u64,
+        Proved::Refused(v) => *v as u64,
     }
 }

@@ -7,10 +7,13 @@ use codec::put_word;
 use commitment::{SALT_LENGTH, root_at, salt_at};
 use proof_checker::check_proof;
 use runs::calls::{front_bytes, front_words_mut};
-use runs::inputs::{Q, REPLY, TABLE, TREE, VALUES, filled_bytes, filled_words, low_byte};
+use runs::inputs::{
+    Q, REPLY, TABLE, TREE, VALUES, blank_small, filled_bytes, filled_words, low_byte,
+};
 use runs::printing::{print_number, word_digest};
 use runs::sizes::{blinded, largest, shape};
 use runs::small::{NOWHERE, print_same, raise, small, small_blinded};
+use std::io;
 
 // Where the parts of a proof at the small sizes with two points begin: R_1, columns of the first answer and its second tail, rows, masks and nonce of the first leaf, nodes.
 const R_AT: usize = 4;
@@ -51,7 +54,7 @@ const VALUE_COUNT: usize = 4;
 const BLINDED_VALUE_COUNT: usize = 2;
 
 // The proof that is made, and what the check is lent: the question's faults and kappa, how much of the proof and of the value buffer; in the proof a byte raised by 1, a word made q, another counter.
-#[derive(Drop)]
+#[derive(Clone, Copy)]
 struct Changed {
     made: Attempt,
     asked: Attempt,
@@ -114,7 +117,7 @@ fn change(c: Changed, proof: &mut [u8]) {
     put_counter(proof, c.counter);
 }
 
-fn print_verdict(c: Changed, question: &[u8], proof: &[u8]) {
+fn print_verdict(rt: &impl Print, c: Changed, question: &[u8], proof: &[u8]) -> io::Result<()> {
     let mut values = filled_words(VALUES);
     let before = word_digest(&values);
     let v = check_proof(
@@ -123,189 +126,198 @@ fn print_verdict(c: Changed, question: &[u8], proof: &[u8]) {
         front_bytes(proof, c.length),
         front_words_mut(&mut values, c.value_count),
     );
-    print_number(b"kappa ", c.asked.kappa as u64);
-    print_number(b" question ", c.asked.lengths.question as u64);
-    print_number(b" proof ", c.length as u64);
-    print_number(b" values ", c.value_count as u64);
-    print_number(b" check ", v as u64);
-    print_same(before, word_digest(&values));
+    print_number(rt, b"kappa ", c.asked.kappa as u64)?;
+    print_number(rt, b" question ", c.asked.lengths.question as u64)?;
+    print_number(rt, b" proof ", c.length as u64)?;
+    print_number(rt, b" values ", c.value_count as u64)?;
+    print_number(rt, b" check ", v as u64)?;
+    print_same(rt, before, word_digest(&values))
 }
 
 // Commits, proves, makes what is lent wrong, and checks.
-fn print_changed(c: Changed) {
+fn print_changed(rt: &impl Print, c: Changed) -> io::Result<()> {
     let a = c.made;
     let mut table = filled_words(TABLE);
     let mut tree = filled_bytes(TREE);
-    let mut question = io::buffer();
+    let mut question = blank_small();
     let mut proof = filled_bytes(REPLY);
     commit_sound(a, &mut table, &mut tree);
     ask(a, &tree, &mut question);
     prove_asked(a, &question, &table, &tree, &mut proof);
     ask(c.asked, &tree, &mut question);
     change(c, &mut proof);
-    print_verdict(c, &question, &proof);
+    print_verdict(rt, c, &question, &proof)
 }
 
-fn with_question(asked: Attempt) {
+fn with_question(rt: &impl Print, asked: Attempt) -> io::Result<()> {
     let mut c = unchanged();
     c.asked = asked;
-    print_changed(c);
+    print_changed(rt, c)
 }
 
-fn with_blinded_question(asked: Attempt) {
+fn with_blinded_question(rt: &impl Print, asked: Attempt) -> io::Result<()> {
     let mut c = unchanged_blinded();
     c.asked = asked;
-    print_changed(c);
+    print_changed(rt, c)
 }
 
-fn with_value_count(count: usize) {
+fn with_value_count(rt: &impl Print, count: usize) -> io::Result<()> {
     let mut c = unchanged();
     c.value_count = count;
-    print_changed(c);
+    print_changed(rt, c)
 }
 
-fn with_length(length: usize, counter: usize) {
+fn with_length(rt: &impl Print, length: usize, counter: usize) -> io::Result<()> {
     let mut c = unchanged();
     c.length = length;
     c.counter = counter;
-    print_changed(c);
+    print_changed(rt, c)
 }
 
-fn with_word(at: usize, counter: usize) {
+fn with_word(rt: &impl Print, at: usize, counter: usize) -> io::Result<()> {
     let mut c = unchanged();
     c.word_at = at;
     c.counter = counter;
-    print_changed(c);
+    print_changed(rt, c)
 }
 
-fn with_raised(kappa: u32, at: usize, counter: usize) {
+fn with_raised(rt: &impl Print, kappa: u32, at: usize, counter: usize) -> io::Result<()> {
     let mut c = unchanged();
     c.asked = with_kappa(sound_proof(), kappa);
     c.raised_at = at;
     c.counter = counter;
-    print_changed(c);
+    print_changed(rt, c)
 }
 
-fn with_blinding_row_q() {
+fn with_blinding_row_q(rt: &impl Print) -> io::Result<()> {
     let mut c = unchanged_blinded();
     c.word_at = BLINDING_ROW_AT;
-    print_changed(c);
+    print_changed(rt, c)
 }
 
-fn with_blinding_row_raised() {
+fn with_blinding_row_raised(rt: &impl Print) -> io::Result<()> {
     let mut c = unchanged_blinded();
     c.raised_at = BLINDING_ROW_AT;
-    print_changed(c);
+    print_changed(rt, c)
 }
 
-fn print_questions() {
+fn print_questions(rt: &impl Print) -> io::Result<()> {
     let a = sound_proof();
-    with_question(with_question_length(a, 13));
-    with_question(with_question_raised(a, 0));
-    with_question(with_question_raised(a, 4));
-    with_question(with_question_raised(a, 8));
-    with_question(with_kappa(a, 17));
-    with_question(with_conversation(a));
-    with_question(with_question_length(a, QUESTION_LENGTH - 1));
-    with_question(with_question_length(a, QUESTION_LENGTH + 1));
-    with_question(with_point(a, Q));
+    with_question(rt, with_question_length(a, 13))?;
+    with_question(rt, with_question_raised(a, 0))?;
+    with_question(rt, with_question_raised(a, 4))?;
+    with_question(rt, with_question_raised(a, 8))?;
+    with_question(rt, with_kappa(a, 17))?;
+    with_question(rt, with_conversation(a))?;
+    with_question(rt, with_question_length(a, QUESTION_LENGTH - 1))?;
+    with_question(rt, with_question_length(a, QUESTION_LENGTH + 1))?;
+    with_question(rt, with_point(a, Q))
 }
 
-fn print_lengths() {
-    with_value_count(VALUE_COUNT - 1);
-    with_value_count(VALUE_COUNT + 1);
-    with_length(0, KEPT);
-    with_length(1, KEPT);
-    with_length(2, KEPT);
-    with_length(3, KEPT);
-    with_length(ROWS_AT - 1, KEPT);
-    with_length(ROWS_AT, KEPT);
-    with_length(PROOF_LENGTH - 1, KEPT);
-    with_length(PROOF_LENGTH + 1, KEPT);
-    with_length(PROOF_LENGTH - 1, UNQUALIFIED);
+fn print_lengths(rt: &impl Print) -> io::Result<()> {
+    with_value_count(rt, VALUE_COUNT - 1)?;
+    with_value_count(rt, VALUE_COUNT + 1)?;
+    with_length(rt, 0, KEPT)?;
+    with_length(rt, 1, KEPT)?;
+    with_length(rt, 2, KEPT)?;
+    with_length(rt, 3, KEPT)?;
+    with_length(rt, ROWS_AT - 1, KEPT)?;
+    with_length(rt, ROWS_AT, KEPT)?;
+    with_length(rt, PROOF_LENGTH - 1, KEPT)?;
+    with_length(rt, PROOF_LENGTH + 1, KEPT)?;
+    with_length(rt, PROOF_LENGTH - 1, UNQUALIFIED)
 }
 
 // With q in a column other leaves are drawn, which miss one node.
-fn print_words_q() {
-    with_word(COLUMNS_AT, KEPT);
-    with_word(TAIL_AT, KEPT);
-    with_word(ROWS_AT, KEPT);
-    with_word(MASKS_AT, KEPT);
-    with_word(ROWS_AT, UNQUALIFIED);
+fn print_words_q(rt: &impl Print) -> io::Result<()> {
+    with_word(rt, COLUMNS_AT, KEPT)?;
+    with_word(rt, TAIL_AT, KEPT)?;
+    with_word(rt, ROWS_AT, KEPT)?;
+    with_word(rt, MASKS_AT, KEPT)?;
+    with_word(rt, ROWS_AT, UNQUALIFIED)
 }
 
 // Counters less and more than the least one, then others: leaves that miss fewer nodes, the same leaves.
-fn print_counters(kappa: u32) {
-    with_raised(kappa, NOWHERE, 7);
-    with_raised(kappa, NOWHERE, 12);
-    with_raised(kappa, NOWHERE, 9);
-    with_raised(kappa, NOWHERE, UNQUALIFIED);
-    with_raised(kappa, NOWHERE, 46);
+fn print_counters(rt: &impl Print, kappa: u32) -> io::Result<()> {
+    with_raised(rt, kappa, NOWHERE, 7)?;
+    with_raised(rt, kappa, NOWHERE, 12)?;
+    with_raised(rt, kappa, NOWHERE, 9)?;
+    with_raised(rt, kappa, NOWHERE, UNQUALIFIED)?;
+    with_raised(rt, kappa, NOWHERE, 46)
 }
 
 // A byte in each part; answers once more with counters for which the same leaves are drawn.
-fn print_bytes_raised(kappa: u32) {
-    with_raised(kappa, R_AT, KEPT);
-    with_raised(kappa, COLUMNS_AT, KEPT);
-    with_raised(kappa, TAIL_AT, KEPT);
-    with_raised(kappa, ROWS_AT, KEPT);
-    with_raised(kappa, MASKS_AT, KEPT);
-    with_raised(kappa, NONCE_AT, KEPT);
-    with_raised(kappa, NODES_AT, KEPT);
-    with_raised(kappa, NODES_AT, UNQUALIFIED);
-    with_raised(kappa, R_AT, 75);
-    with_raised(kappa, COLUMNS_AT, 22);
-    with_raised(kappa, TAIL_AT, 33);
+fn print_bytes_raised(rt: &impl Print, kappa: u32) -> io::Result<()> {
+    with_raised(rt, kappa, R_AT, KEPT)?;
+    with_raised(rt, kappa, COLUMNS_AT, KEPT)?;
+    with_raised(rt, kappa, TAIL_AT, KEPT)?;
+    with_raised(rt, kappa, ROWS_AT, KEPT)?;
+    with_raised(rt, kappa, MASKS_AT, KEPT)?;
+    with_raised(rt, kappa, NONCE_AT, KEPT)?;
+    with_raised(rt, kappa, NODES_AT, KEPT)?;
+    with_raised(rt, kappa, NODES_AT, UNQUALIFIED)?;
+    with_raised(rt, kappa, R_AT, 75)?;
+    with_raised(rt, kappa, COLUMNS_AT, 22)?;
+    with_raised(rt, kappa, TAIL_AT, 33)
 }
 
-pub fn print_refused_checks() {
-    print_questions();
-    print_lengths();
-    print_words_q();
-    print_counters(3);
-    print_counters(0);
-    print_bytes_raised(3);
-    print_bytes_raised(0);
+pub fn print_refused_checks(rt: &impl Print) -> io::Result<()> {
+    print_questions(rt)?;
+    print_lengths(rt)?;
+    print_words_q(rt)?;
+    print_counters(rt, 3)?;
+    print_counters(rt, 0)?;
+    print_bytes_raised(rt, 3)?;
+    print_bytes_raised(rt, 0)?;
     // Another root; the counter need not qualify.
-    with_question(with_kappa(with_question_raised(sound_proof(), root_at()), 0));
+    with_question(
+        rt,
+        with_kappa(with_question_raised(sound_proof(), root_at()), 0),
+    )?;
     // Nothing wrong: accepted, and changed.
-    print_changed(unchanged());
+    print_changed(rt, unchanged())
 }
 
-pub fn print_refused_blinded_checks() {
+pub fn print_refused_blinded_checks(rt: &impl Print) -> io::Result<()> {
     let a = sound_blinded_proof();
     // The header of version 1 was a byte shorter.
-    with_blinded_question(with_question_length(a, 14));
-    with_blinded_question(with_version(a, 1));
-    with_blinded_question(with_asked_sizes(a, blinded(small_blinded(), 3)));
-    with_blinded_question(with_asked_sizes(a, blinded(shape(2, 20, 1, 2, 2, 2), 17)));
-    with_blinded_question(with_asked_sizes(a, blinded(shape(2, 49, 1, 2, 2, 2), 16)));
-    with_blinded_question(with_asked_sizes(a, largest()));
-    with_blinded_question(with_question_length(a, 15));
+    with_blinded_question(rt, with_question_length(a, 14))?;
+    with_blinded_question(rt, with_version(a, 1))?;
+    with_blinded_question(rt, with_asked_sizes(a, blinded(small_blinded(), 3)))?;
+    with_blinded_question(
+        rt,
+        with_asked_sizes(a, blinded(shape(2, 20, 1, 2, 2, 2), 17)),
+    )?;
+    with_blinded_question(
+        rt,
+        with_asked_sizes(a, blinded(shape(2, 49, 1, 2, 2, 2), 16)),
+    )?;
+    with_blinded_question(rt, with_asked_sizes(a, largest()))?;
+    with_blinded_question(rt, with_question_length(a, 15))?;
     // Other blinding rows than the proof's.
-    with_question(with_asked_sizes(sound_proof(), blinded(small(), 1)));
-    with_blinded_question(with_asked_sizes(a, blinded(small_blinded(), 0)));
-    with_blinded_question(with_asked_sizes(a, blinded(small_blinded(), 2)));
-    with_blinding_row_q();
-    with_blinding_row_raised();
+    with_question(rt, with_asked_sizes(sound_proof(), blinded(small(), 1)))?;
+    with_blinded_question(rt, with_asked_sizes(a, blinded(small_blinded(), 0)))?;
+    with_blinded_question(rt, with_asked_sizes(a, blinded(small_blinded(), 2)))?;
+    with_blinding_row_q(rt)?;
+    with_blinding_row_raised(rt)?;
     // Nothing wrong: accepted, and changed.
-    print_changed(unchanged_blinded());
+    print_changed(rt, unchanged_blinded())
 }
 
 // With another salt other leaves are drawn; these miss two nodes, too. With kappa 3 the counter qualifies under the first one.
-pub fn print_refused_salted_checks() {
+pub fn print_refused_salted_checks(rt: &impl Print) -> io::Result<()> {
     let a = sound_proof();
     let end = SALT_LENGTH - 1;
     let first = with_question_raised(a, salt_at());
     let last = with_question_raised(a, salt_at() + end);
-    with_question(with_version(a, 1));
-    with_question(with_version(a, 2));
-    with_question(with_version(a, 4));
-    with_question(with_question_length(a, LENGTH_WITHOUT_SALT));
-    with_question(with_kappa(first, 0));
-    with_question(with_kappa(last, 0));
-    with_question(first);
-    with_question(last);
+    with_question(rt, with_version(a, 1))?;
+    with_question(rt, with_version(a, 2))?;
+    with_question(rt, with_version(a, 4))?;
+    with_question(rt, with_question_length(a, LENGTH_WITHOUT_SALT))?;
+    with_question(rt, with_kappa(first, 0))?;
+    with_question(rt, with_kappa(last, 0))?;
+    with_question(rt, first)?;
+    with_question(rt, last)?;
     // Nothing wrong: accepted, and changed.
-    print_changed(unchanged());
+    print_changed(rt, unchanged())
 }

@@ -4,17 +4,19 @@ use commitment::Shape;
 use opener::Opened;
 use runs::calls::{commit_front, front_bytes, front_words};
 use runs::inputs::{
-    BLINDS, COEFFICIENTS, MASKS, TAILS, ZERO_SALT, blank_nonces, blank_salt, blank_table,
-    blank_tree, blank_words, filled_nonces, filled_reply, filled_salt, filled_table, filled_tree,
-    filled_words,
+    BLINDS, COEFFICIENTS, MASKS, TAILS, ZERO_SALT, blank_nonces, blank_reply, blank_salt,
+    blank_small, blank_table, blank_tree, blank_words, filled_nonces, filled_reply, filled_salt,
+    filled_table, filled_tree, filled_words,
 };
 use runs::printing::{
     print, print_bytes, print_digest, print_number, print_sizes, print_word_digest,
 };
 use runs::questions::{Asked, VERSION, filled_question, put_question, with_salt};
 use runs::sizes::{Lengths, lengths_of, shape};
+use std::io;
 
 fn print_commit(
+    rt: &impl Print,
     s: Shape,
     n: Lengths,
     coefficients: &[u32],
@@ -25,7 +27,7 @@ fn print_commit(
     salt: &[u8],
     table: &mut [u32],
     tree: &mut [u8],
-) {
+) -> io::Result<()> {
     let v = commit_front(
         s,
         n,
@@ -38,43 +40,51 @@ fn print_commit(
         table,
         tree,
     );
-    print_sizes(s);
-    print_number(b"\ncommit ", v as u64);
-    print_word_digest(b"\ntable digest ", front_words(table, n.table));
-    print_digest(b"tree digest ", front_bytes(tree, n.tree));
+    print_sizes(rt, s)?;
+    print_number(rt, b"\ncommit ", v as u64)?;
+    print_word_digest(rt, b"\ntable digest ", front_words(table, n.table))?;
+    print_digest(rt, b"tree digest ", front_bytes(tree, n.tree))
 }
 
 // Asks, and returns the reply's length.
-fn print_question(s: Shape, n: Lengths, a: Asked, tree: &[u8], question: &mut [u8]) -> usize {
+fn print_question(
+    rt: &impl Print,
+    s: Shape,
+    n: Lengths,
+    a: Asked,
+    tree: &[u8],
+    question: &mut [u8],
+) -> io::Result<usize> {
     put_question(s, a, front_bytes(tree, n.tree), question);
-    print_number(b"m ", a.m as u64);
-    print_bytes(b"\nquestion ", front_bytes(question, n.question));
-    print_reply_length(front_bytes(question, n.question))
+    print_number(rt, b"m ", a.m as u64)?;
+    print_bytes(rt, b"\nquestion ", front_bytes(question, n.question))?;
+    print_reply_length(rt, front_bytes(question, n.question))
 }
 
 // A short reply whole, a long one by its digest.
-fn print_reply(n: usize, reply: &[u8]) {
-    print_number(b"\nopen 0\nlength ", n as u64);
+fn print_reply(rt: &impl Print, n: usize, reply: &[u8]) -> io::Result<()> {
+    print_number(rt, b"\nopen 0\nlength ", n as u64)?;
     if n < 1500 {
-        print_bytes(b"\nreply ", front_bytes(reply, n));
+        print_bytes(rt, b"\nreply ", front_bytes(reply, n))
     } else {
-        print_digest(b"\nreply digest ", front_bytes(reply, n));
+        print_digest(rt, b"\nreply digest ", front_bytes(reply, n))
     }
 }
 
-fn print_refusal(v: u32) {
-    print_number(b"\nopen ", v as u64);
-    print(b"\n");
+fn print_refusal(rt: &impl Print, v: u32) -> io::Result<()> {
+    print_number(rt, b"\nopen ", v as u64)?;
+    print(rt, b"\n")
 }
 
-fn print_opened(answer: Opened, reply: &[u8]) {
+fn print_opened(rt: &impl Print, answer: Opened, reply: &[u8]) -> io::Result<()> {
     match answer {
-        Opened::Reply(n) => print_reply(n, reply),
-        Opened::Refused(v) => print_refusal(v),
+        Opened::Reply(n) => print_reply(rt, n, reply),
+        Opened::Refused(v) => print_refusal(rt, v),
     }
 }
 
 fn print_run(
+    rt: &impl Print,
     s: Shape,
     a: Asked,
     coefficients: &[u32],
@@ -86,10 +96,11 @@ fn print_run(
     table: &mut [u32],
     tree: &mut [u8],
     reply: &mut [u8],
-) {
+) -> io::Result<()> {
     let n = lengths_of(s, a.m);
-    let mut question = io::buffer();
+    let mut question = blank_small();
     print_commit(
+        rt,
         s,
         n,
         coefficients,
@@ -100,8 +111,8 @@ fn print_run(
         salt,
         table,
         tree,
-    );
-    let reply_length = print_question(s, n, a, tree, &mut question);
+    )?;
+    let reply_length = print_question(rt, s, n, a, tree, &mut question)?;
     let answer = open_front(
         n,
         reply_length,
@@ -116,11 +127,11 @@ fn print_run(
         tree,
         reply,
     );
-    print_opened(answer, reply);
+    print_opened(rt, answer, reply)
 }
 
 // Case P: all sizes 1, nonces and salt zeros.
-pub fn print_p() {
+pub fn print_p(rt: &impl Print) -> io::Result<()> {
     let mut coefficients = blank_words();
     let mut tails = blank_words();
     let blinds = blank_words();
@@ -133,7 +144,7 @@ pub fn print_p() {
     let salt = blank_salt();
     let mut table = blank_table();
     let mut tree = blank_tree();
-    let mut reply = io::large_buffer();
+    let mut reply = blank_reply();
     let a = Asked {
         version: VERSION,
         m: 1,
@@ -144,6 +155,7 @@ pub fn print_p() {
         step: 0,
     };
     print_run(
+        rt,
         shape(1, 1, 1, 1, 1, 1),
         a,
         &coefficients,
@@ -155,11 +167,11 @@ pub fn print_p() {
         &mut table,
         &mut tree,
         &mut reply,
-    );
+    )
 }
 
 // All buffers are filled by the rules before, those that are written too. The salt is the question's.
-fn print_asked(s: Shape, a: Asked) {
+fn print_asked(rt: &impl Print, s: Shape, a: Asked) -> io::Result<()> {
     let coefficients = filled_words(COEFFICIENTS);
     let tails = filled_words(TAILS);
     let blinds = filled_words(BLINDS);
@@ -170,6 +182,7 @@ fn print_asked(s: Shape, a: Asked) {
     let mut tree = filled_tree();
     let mut reply = filled_reply();
     print_run(
+        rt,
         s,
         a,
         &coefficients,
@@ -181,15 +194,28 @@ fn print_asked(s: Shape, a: Asked) {
         &mut table,
         &mut tree,
         &mut reply,
-    );
+    )
 }
 
 // The indices are first, first + step, first + 2 step, ..
-pub fn print_filled(s: Shape, m: u32, first: usize, step: usize) {
-    print_asked(s, filled_question(m, first, step));
+pub fn print_filled(
+    rt: &impl Print,
+    s: Shape,
+    m: u32,
+    first: usize,
+    step: usize,
+) -> io::Result<()> {
+    print_asked(rt, s, filled_question(m, first, step))
 }
 
 // The same with the salt of this tag.
-pub fn print_salted(s: Shape, m: u32, first: usize, step: usize, tag: usize) {
-    print_asked(s, with_salt(filled_question(m, first, step), tag));
+pub fn print_salted(
+    rt: &impl Print,
+    s: Shape,
+    m: u32,
+    first: usize,
+    step: usize,
+    tag: usize,
+) -> io::Result<()> {
+    print_asked(rt, s, with_salt(filled_question(m, first, step), tag))
 }

@@ -4,17 +4,18 @@ use planner::{Planned, reply_length};
 use runs::calls::{front_bytes, front_bytes_mut, front_words};
 use runs::printing::print_number;
 use runs::sizes::Lengths;
+use std::io;
 
 // Asks for the length of the reply to a question: prints the number, and with 0 the length. Returns the length, or 0.
-pub fn print_reply_length(question: &[u8]) -> usize {
+pub fn print_reply_length(rt: &impl Print, question: &[u8]) -> io::Result<usize> {
     match reply_length(question) {
         Planned::Number(n) => {
-            print_number(b"size 0 ", n as u64);
-            n
+            print_number(rt, b"size 0 ", n as u64)?;
+            Ok(n)
         }
         Planned::Refused(v) => {
-            print_number(b"size ", v as u64);
-            0
+            print_number(rt, b"size ", v as u64)?;
+            Ok(0)
         }
     }
 }

@@ -8,6 +8,7 @@ use runs::inputs::{
 use runs::printing::{print_number, print_sizes, word_digest};
 use runs::sizes::{Lengths, blinded, largest, lengths_of, salted, shape, shorter};
 use runs::small::{NONE, commit_small, print_same, small, small_blinded};
+use std::io;
 
 // One digest of all that committing may write.
 fn written_digest(table: &[u32], tree: &[u8]) -> [u8; 32] {
@@ -20,98 +21,98 @@ fn written_digest(table: &[u32], tree: &[u8]) -> [u8; 32] {
 }
 
 // Commits with these sizes and lengths, and the last word of one slice made q.
-fn print_attempt(s: Shape, n: Lengths, spoiled: usize) {
+fn print_attempt(rt: &impl Print, s: Shape, n: Lengths, spoiled: usize) -> io::Result<()> {
     let mut table = filled_words(TABLE);
     let mut tree = filled_bytes(TREE);
     let before = written_digest(&table, &tree);
     let v = commit_small(s, n, SALT, spoiled, &mut table, &mut tree);
-    print_sizes(s);
-    print_number(b" commit ", v as u64);
-    print_same(before, written_digest(&table, &tree));
+    print_sizes(rt, s)?;
+    print_number(rt, b" commit ", v as u64)?;
+    print_same(rt, before, written_digest(&table, &tree))
 }
 
 // With the lengths and words that the small sizes have.
-fn with_sizes(s: Shape) {
-    print_attempt(s, lengths_of(small(), 1), NONE);
+fn with_sizes(rt: &impl Print, s: Shape) -> io::Result<()> {
+    print_attempt(rt, s, lengths_of(small(), 1), NONE)
 }
 
-fn with_shorter(s: Shape, slice: usize) {
-    print_attempt(s, shorter(lengths_of(s, 1), slice), NONE);
+fn with_shorter(rt: &impl Print, s: Shape, slice: usize) -> io::Result<()> {
+    print_attempt(rt, s, shorter(lengths_of(s, 1), slice), NONE)
 }
 
-fn with_blind_count(s: Shape, count: usize) {
+fn with_blind_count(rt: &impl Print, s: Shape, count: usize) -> io::Result<()> {
     let mut n = lengths_of(s, 1);
     n.blinds = count;
-    print_attempt(s, n, NONE);
+    print_attempt(rt, s, n, NONE)
 }
 
 // With the words that the small sizes have, and so many bytes of salt.
-fn with_salt_length(s: Shape, length: usize, spoiled: usize) {
-    print_attempt(s, salted(lengths_of(small(), 1), length), spoiled);
+fn with_salt_length(rt: &impl Print, s: Shape, length: usize, spoiled: usize) -> io::Result<()> {
+    print_attempt(rt, s, salted(lengths_of(small(), 1), length), spoiled)
 }
 
-fn with_spoiled(s: Shape, slice: usize) {
-    print_attempt(s, lengths_of(s, 1), slice);
+fn with_spoiled(rt: &impl Print, s: Shape, slice: usize) -> io::Result<()> {
+    print_attempt(rt, s, lengths_of(s, 1), slice)
 }
 
-pub fn print_refused_commits() {
+pub fn print_refused_commits(rt: &impl Print) -> io::Result<()> {
     let s = small();
-    with_sizes(shape(0, 2, 1, 2, 2, 2));
-    with_sizes(shape(13, 2, 1, 2, 2, 2));
-    with_sizes(shape(2, 0, 1, 2, 2, 2));
-    with_sizes(shape(2, 65, 1, 2, 2, 2));
-    with_sizes(shape(2, 2, 0, 2, 2, 2));
-    with_sizes(shape(2, 2, 257, 2, 2, 2));
-    with_sizes(shape(2, 2, 1, 0, 2, 2));
-    with_sizes(shape(2, 2, 1, 257, 2, 2));
-    with_sizes(shape(12, 2, 16, 17, 2, 2));
-    with_sizes(shape(2, 2, 1, 2, 0, 2));
-    with_sizes(shape(12, 2, 1, 2, 65, 2));
-    with_sizes(shape(2, 2, 1, 2, 2, 0));
-    with_sizes(shape(2, 2, 1, 2, 2, 5));
-    with_sizes(shape(2, 2, 1, 2, 3, 2));
-    with_shorter(s, COEFFICIENTS);
-    with_shorter(s, TAILS);
-    with_shorter(s, MASKS);
-    with_shorter(s, NONCES);
-    with_shorter(s, TABLE);
-    with_shorter(s, TREE);
-    with_spoiled(s, COEFFICIENTS);
-    with_spoiled(s, TAILS);
-    with_spoiled(s, MASKS);
+    with_sizes(rt, shape(0, 2, 1, 2, 2, 2))?;
+    with_sizes(rt, shape(13, 2, 1, 2, 2, 2))?;
+    with_sizes(rt, shape(2, 0, 1, 2, 2, 2))?;
+    with_sizes(rt, shape(2, 65, 1, 2, 2, 2))?;
+    with_sizes(rt, shape(2, 2, 0, 2, 2, 2))?;
+    with_sizes(rt, shape(2, 2, 257, 2, 2, 2))?;
+    with_sizes(rt, shape(2, 2, 1, 0, 2, 2))?;
+    with_sizes(rt, shape(2, 2, 1, 257, 2, 2))?;
+    with_sizes(rt, shape(12, 2, 16, 17, 2, 2))?;
+    with_sizes(rt, shape(2, 2, 1, 2, 0, 2))?;
+    with_sizes(rt, shape(12, 2, 1, 2, 65, 2))?;
+    with_sizes(rt, shape(2, 2, 1, 2, 2, 0))?;
+    with_sizes(rt, shape(2, 2, 1, 2, 2, 5))?;
+    with_sizes(rt, shape(2, 2, 1, 2, 3, 2))?;
+    with_shorter(rt, s, COEFFICIENTS)?;
+    with_shorter(rt, s, TAILS)?;
+    with_shorter(rt, s, MASKS)?;
+    with_shorter(rt, s, NONCES)?;
+    with_shorter(rt, s, TABLE)?;
+    with_shorter(rt, s, TREE)?;
+    with_spoiled(rt, s, COEFFICIENTS)?;
+    with_spoiled(rt, s, TAILS)?;
+    with_spoiled(rt, s, MASKS)?;
     // Nothing wrong: accepted, and changed.
-    with_spoiled(s, NONE);
+    with_spoiled(rt, s, NONE)
 }
 
-pub fn print_refused_blinded_commits() {
+pub fn print_refused_blinded_commits(rt: &impl Print) -> io::Result<()> {
     let s = small_blinded();
-    with_sizes(blinded(small(), 3));
-    with_sizes(blinded(shape(2, 20, 1, 2, 2, 2), 17));
-    with_sizes(blinded(shape(2, 49, 1, 2, 2, 2), 16));
-    with_sizes(blinded(shape(2, 64, 1, 2, 2, 2), 1));
-    with_sizes(blinded(small(), LARGEST));
-    with_sizes(largest());
-    with_blind_count(small(), 1);
-    with_blind_count(s, 0);
-    with_blind_count(s, 2);
-    with_shorter(s, COEFFICIENTS);
-    with_shorter(s, TAILS);
-    with_shorter(s, TABLE);
-    with_spoiled(s, COEFFICIENTS);
-    with_spoiled(s, TAILS);
-    with_spoiled(s, BLINDS);
-    with_spoiled(s, MASKS);
+    with_sizes(rt, blinded(small(), 3))?;
+    with_sizes(rt, blinded(shape(2, 20, 1, 2, 2, 2), 17))?;
+    with_sizes(rt, blinded(shape(2, 49, 1, 2, 2, 2), 16))?;
+    with_sizes(rt, blinded(shape(2, 64, 1, 2, 2, 2), 1))?;
+    with_sizes(rt, blinded(small(), LARGEST))?;
+    with_sizes(rt, largest())?;
+    with_blind_count(rt, small(), 1)?;
+    with_blind_count(rt, s, 0)?;
+    with_blind_count(rt, s, 2)?;
+    with_shorter(rt, s, COEFFICIENTS)?;
+    with_shorter(rt, s, TAILS)?;
+    with_shorter(rt, s, TABLE)?;
+    with_spoiled(rt, s, COEFFICIENTS)?;
+    with_spoiled(rt, s, TAILS)?;
+    with_spoiled(rt, s, BLINDS)?;
+    with_spoiled(rt, s, MASKS)?;
     // Nothing wrong: accepted, and changed.
-    with_spoiled(s, NONE);
+    with_spoiled(rt, s, NONE)
 }
 
-pub fn print_refused_salted_commits() {
+pub fn print_refused_salted_commits(rt: &impl Print) -> io::Result<()> {
     let s = small();
-    with_salt_length(s, 0, NONE);
-    with_shorter(s, SALT);
-    with_salt_length(s, SALT_LENGTH + 1, NONE);
-    with_salt_length(s, SALT_LENGTH - 1, COEFFICIENTS);
-    with_salt_length(shape(0, 2, 1, 2, 2, 2), SALT_LENGTH - 1, NONE);
+    with_salt_length(rt, s, 0, NONE)?;
+    with_shorter(rt, s, SALT)?;
+    with_salt_length(rt, s, SALT_LENGTH + 1, NONE)?;
+    with_salt_length(rt, s, SALT_LENGTH - 1, COEFFICIENTS)?;
+    with_salt_length(rt, shape(0, 2, 1, 2, 2, 2), SALT_LENGTH - 1, NONE)?;
     // Nothing wrong: accepted, and changed.
-    with_salt_length(s, SALT_LENGTH, NONE);
+    with_salt_length(rt, s, SALT_LENGTH, NONE)
 }

@@ -4,8 +4,8 @@ use commitment::{SALT_LENGTH, Shape, root_at, salt_at};
 use opener::Opened;
 use runs::calls::front_bytes;
 use runs::inputs::{
-    BLINDS, COEFFICIENTS, LARGEST, MASKS, NONCES, Q, REPLY, SALT, TABLE, TAILS, TREE, filled_bytes,
-    filled_salt, filled_words,
+    BLINDS, COEFFICIENTS, LARGEST, MASKS, NONCES, Q, REPLY, SALT, TABLE, TAILS, TREE, blank_small,
+    filled_bytes, filled_salt, filled_words,
 };
 use runs::printing::print_number;
 use runs::questions::{Asked, filled_question, put_question};
@@ -13,6 +13,7 @@ use runs::sizes::{Lengths, blinded, largest, lengths_of, salted, shape, shorter}
 use runs::small::{
     NONE, NOWHERE, commit_small, lent_words, print_same, raise, small, small_blinded, spoil,
 };
+use std::io;
 
 // The reply at the small sizes: three answers of 4 words, two records of 4 words and a nonce, and 2 missing nodes; and with as many nodes as two paths have.
 const REPLY_LENGTH: usize = 208;
@@ -31,7 +32,7 @@ const LENGTH_WITHOUT_SALT: usize = 63;
 const ROOT_END: usize = 223;
 
 // An opening with something wrong: the question has other sizes than the commitment, a byte of the question, the tree or the lent salt is raised by 1, the last word of one slice is made q.
-#[derive(Drop)]
+#[derive(Clone, Copy)]
 struct Attempt {
     sizes: Shape,
     lengths: Lengths,
@@ -78,7 +79,13 @@ fn number_of(answer: Opened) -> u64 {
     }
 }
 
-fn print_open(a: Attempt, question: &[u8], table: &[u32], tree: &[u8]) {
+fn print_open(
+    rt: &impl Print,
+    a: Attempt,
+    question: &[u8],
+    table: &[u32],
+    tree: &[u8],
+) -> io::Result<()> {
     let n = a.lengths;
     let coefficients = lent_words(COEFFICIENTS, n.coefficients, a.spoiled);
     let tails = lent_words(TAILS, n.tails, a.spoiled);
@@ -89,7 +96,7 @@ fn print_open(a: Attempt, question: &[u8], table: &[u32], tree: &[u8]) {
     raise(&mut salt, a.lent_salt_at);
     let mut reply = filled_bytes(REPLY);
     let before = sponge::digest(&reply);
-    print_reply_length(front_bytes(question, n.question));
+    print_reply_length(rt, front_bytes(question, n.question))?;
     let answer = open_front(
         n,
         a.reply_length,
@@ -104,17 +111,17 @@ fn print_open(a: Attempt, question: &[u8], table: &[u32], tree: &[u8]) {
         tree,
         &mut reply,
     );
-    print_number(b" open ", number_of(answer));
-    print_same(before, sponge::digest(&reply));
+    print_number(rt, b" open ", number_of(answer))?;
+    print_same(rt, before, sponge::digest(&reply))
 }
 
 // Commits, asks, makes what is lent wrong, and opens.
-fn print_attempt(a: Attempt) {
+fn print_attempt(rt: &impl Print, a: Attempt) -> io::Result<()> {
     let s = a.sizes;
     let n = lengths_of(s, 1);
     let mut table = filled_words(TABLE);
     let mut tree = filled_bytes(TREE);
-    let mut question = io::buffer();
+    let mut question = blank_small();
     commit_small(s, n, SALT, NONE, &mut table, &mut tree);
     put_question(
         a.asked_sizes,
@@ -125,196 +132,196 @@ fn print_attempt(a: Attempt) {
     raise(&mut question, a.question_at);
     raise(&mut tree, a.tree_at);
     spoil(&mut table, n.table, a.spoiled == TABLE);
-    print_open(a, &question, &table, &tree);
+    print_open(rt, a, &question, &table, &tree)
 }
 
 // ---- with a fault of the question
 
-fn with_question_cut(length: usize) {
+fn with_question_cut(rt: &impl Print, length: usize) -> io::Result<()> {
     let mut a = sound();
     a.lengths.question = length;
-    print_attempt(a);
+    print_attempt(rt, a)
 }
 
-fn with_question_raised(at: usize) {
+fn with_question_raised(rt: &impl Print, at: usize) -> io::Result<()> {
     let mut a = sound();
     a.question_at = at;
-    print_attempt(a);
+    print_attempt(rt, a)
 }
 
-fn with_asked(q: Asked) {
+fn with_asked(rt: &impl Print, q: Asked) -> io::Result<()> {
     let mut a = sound();
     a.asked = q;
-    print_attempt(a);
+    print_attempt(rt, a)
 }
 
-fn with_version(version: usize) {
+fn with_version(rt: &impl Print, version: usize) -> io::Result<()> {
     let mut q = sound_question();
     q.version = version;
-    with_asked(q);
+    with_asked(rt, q)
 }
 
-fn with_challenges(challenges: [u32; 4]) {
+fn with_challenges(rt: &impl Print, challenges: [u32; 4]) -> io::Result<()> {
     let mut q = sound_question();
     q.challenges = challenges;
-    with_asked(q);
+    with_asked(rt, q)
 }
 
-fn with_points(points: [u32; 8]) {
+fn with_points(rt: &impl Print, points: [u32; 8]) -> io::Result<()> {
     let mut q = sound_question();
     q.points = points;
-    with_asked(q);
+    with_asked(rt, q)
 }
 
-fn with_indices(first: usize, step: usize) {
-    with_asked(filled_question(1, first, step));
+fn with_indices(rt: &impl Print, first: usize, step: usize) -> io::Result<()> {
+    with_asked(rt, filled_question(1, first, step))
 }
 
-fn with_asked_sizes(a: Attempt, s: Shape) {
+fn with_asked_sizes(rt: &impl Print, a: Attempt, s: Shape) -> io::Result<()> {
     let mut b = a;
     b.asked_sizes = s;
-    print_attempt(b);
+    print_attempt(rt, b)
 }
 
 // ---- with a fault of what is lent
 
-fn with_shorter(a: Attempt, slice: usize) {
+fn with_shorter(rt: &impl Print, a: Attempt, slice: usize) -> io::Result<()> {
     let mut b = a;
     b.lengths = shorter(a.lengths, slice);
-    print_attempt(b);
+    print_attempt(rt, b)
 }
 
-fn with_blind_count(a: Attempt, count: usize) {
+fn with_blind_count(rt: &impl Print, a: Attempt, count: usize) -> io::Result<()> {
     let mut b = a;
     b.lengths.blinds = count;
-    print_attempt(b);
+    print_attempt(rt, b)
 }
 
-fn with_reply_length(a: Attempt, length: usize) {
+fn with_reply_length(rt: &impl Print, a: Attempt, length: usize) -> io::Result<()> {
     let mut b = a;
     b.reply_length = length;
-    print_attempt(b);
+    print_attempt(rt, b)
 }
 
-fn with_spoiled(a: Attempt, slice: usize) {
+fn with_spoiled(rt: &impl Print, a: Attempt, slice: usize) -> io::Result<()> {
     let mut b = a;
     b.spoiled = slice;
-    print_attempt(b);
+    print_attempt(rt, b)
 }
 
-fn with_salt_length(a: Attempt, length: usize) {
+fn with_salt_length(rt: &impl Print, a: Attempt, length: usize) -> io::Result<()> {
     let mut b = a;
     b.lengths = salted(a.lengths, length);
-    print_attempt(b);
+    print_attempt(rt, b)
 }
 
 // With byte `asked` of the question and byte `lent` of the lent salt raised.
-fn with_salt_raised(a: Attempt, asked: usize, lent: usize) {
+fn with_salt_raised(rt: &impl Print, a: Attempt, asked: usize, lent: usize) -> io::Result<()> {
     let mut b = a;
     b.question_at = asked;
     b.lent_salt_at = lent;
-    print_attempt(b);
+    print_attempt(rt, b)
 }
 
-fn with_tree_raised(at: usize) {
+fn with_tree_raised(rt: &impl Print, at: usize) -> io::Result<()> {
     let mut a = sound();
     a.tree_at = at;
-    print_attempt(a);
+    print_attempt(rt, a)
 }
 
-pub fn print_refused_opens() {
+pub fn print_refused_opens(rt: &impl Print) -> io::Result<()> {
     let s = sound();
-    with_question_cut(13);
-    with_question_raised(0);
-    with_question_raised(3);
-    with_question_raised(4);
-    with_question_raised(8);
-    with_question_raised(11);
-    with_question_raised(13);
-    with_question_cut(QUESTION_LENGTH - 1);
-    with_challenges([Q, 0, 0, 0]);
-    with_points([LARGEST, 0, 0, 0, 0, 0, 0, 0]);
-    with_indices(1, 0);
-    with_indices(3, 1);
-    with_shorter(s, COEFFICIENTS);
-    with_shorter(s, TAILS);
-    with_shorter(s, MASKS);
-    with_shorter(s, NONCES);
-    with_shorter(s, TABLE);
-    with_shorter(s, TREE);
-    with_reply_length(s, 0);
-    with_reply_length(s, REPLY_LENGTH - 1);
-    with_reply_length(s, REPLY_LENGTH + 1);
-    with_reply_length(s, REPLY_BOUND);
-    with_spoiled(s, COEFFICIENTS);
-    with_spoiled(s, TAILS);
-    with_spoiled(s, MASKS);
-    with_spoiled(s, TABLE);
-    with_question_raised(root_at());
-    with_tree_raised(ROOT_END);
+    with_question_cut(rt, 13)?;
+    with_question_raised(rt, 0)?;
+    with_question_raised(rt, 3)?;
+    with_question_raised(rt, 4)?;
+    with_question_raised(rt, 8)?;
+    with_question_raised(rt, 11)?;
+    with_question_raised(rt, 13)?;
+    with_question_cut(rt, QUESTION_LENGTH - 1)?;
+    with_challenges(rt, [Q, 0, 0, 0])?;
+    with_points(rt, [LARGEST, 0, 0, 0, 0, 0, 0, 0])?;
+    with_indices(rt, 1, 0)?;
+    with_indices(rt, 3, 1)?;
+    with_shorter(rt, s, COEFFICIENTS)?;
+    with_shorter(rt, s, TAILS)?;
+    with_shorter(rt, s, MASKS)?;
+    with_shorter(rt, s, NONCES)?;
+    with_shorter(rt, s, TABLE)?;
+    with_shorter(rt, s, TREE)?;
+    with_reply_length(rt, s, 0)?;
+    with_reply_length(rt, s, REPLY_LENGTH - 1)?;
+    with_reply_length(rt, s, REPLY_LENGTH + 1)?;
+    with_reply_length(rt, s, REPLY_BOUND)?;
+    with_spoiled(rt, s, COEFFICIENTS)?;
+    with_spoiled(rt, s, TAILS)?;
+    with_spoiled(rt, s, MASKS)?;
+    with_spoiled(rt, s, TABLE)?;
+    with_question_raised(rt, root_at())?;
+    with_tree_raised(rt, ROOT_END)?;
     // Nothing wrong: accepted, and changed.
-    print_attempt(s);
+    print_attempt(rt, s)
 }
 
-pub fn print_refused_blinded_opens() {
+pub fn print_refused_blinded_opens(rt: &impl Print) -> io::Result<()> {
     let s = sound_blinded();
     // The header of version 1 was a byte shorter.
-    with_question_cut(14);
-    with_version(1);
-    with_asked_sizes(s, blinded(small_blinded(), 3));
-    with_asked_sizes(s, blinded(shape(2, 20, 1, 2, 2, 2), 17));
-    with_asked_sizes(s, blinded(shape(2, 49, 1, 2, 2, 2), 16));
-    with_asked_sizes(s, largest());
-    with_question_cut(15);
-    with_blind_count(sound(), 1);
-    with_blind_count(s, 0);
-    with_blind_count(s, 2);
+    with_question_cut(rt, 14)?;
+    with_version(rt, 1)?;
+    with_asked_sizes(rt, s, blinded(small_blinded(), 3))?;
+    with_asked_sizes(rt, s, blinded(shape(2, 20, 1, 2, 2, 2), 17))?;
+    with_asked_sizes(rt, s, blinded(shape(2, 49, 1, 2, 2, 2), 16))?;
+    with_asked_sizes(rt, s, largest())?;
+    with_question_cut(rt, 15)?;
+    with_blind_count(rt, sound(), 1)?;
+    with_blind_count(rt, s, 0)?;
+    with_blind_count(rt, s, 2)?;
     // Other blinding rows than the commitment's.
-    with_asked_sizes(sound(), blinded(small(), 1));
-    with_asked_sizes(s, blinded(small_blinded(), 0));
-    with_asked_sizes(s, blinded(small_blinded(), 2));
-    with_shorter(s, COEFFICIENTS);
-    with_shorter(s, TAILS);
-    with_shorter(s, TABLE);
-    with_reply_length(s, BLINDED_LENGTH - 1);
-    with_reply_length(s, BLINDED_LENGTH + 1);
-    with_spoiled(s, COEFFICIENTS);
-    with_spoiled(s, TAILS);
-    with_spoiled(s, BLINDS);
-    with_spoiled(s, MASKS);
-    with_spoiled(s, TABLE);
+    with_asked_sizes(rt, sound(), blinded(small(), 1))?;
+    with_asked_sizes(rt, s, blinded(small_blinded(), 0))?;
+    with_asked_sizes(rt, s, blinded(small_blinded(), 2))?;
+    with_shorter(rt, s, COEFFICIENTS)?;
+    with_shorter(rt, s, TAILS)?;
+    with_shorter(rt, s, TABLE)?;
+    with_reply_length(rt, s, BLINDED_LENGTH - 1)?;
+    with_reply_length(rt, s, BLINDED_LENGTH + 1)?;
+    with_spoiled(rt, s, COEFFICIENTS)?;
+    with_spoiled(rt, s, TAILS)?;
+    with_spoiled(rt, s, BLINDS)?;
+    with_spoiled(rt, s, MASKS)?;
+    with_spoiled(rt, s, TABLE)?;
     // Nothing wrong: accepted, and changed.
-    print_attempt(s);
+    print_attempt(rt, s)
 }
 
-pub fn print_refused_salted_opens() {
+pub fn print_refused_salted_opens(rt: &impl Print) -> io::Result<()> {
     let s = sound();
     let first = salt_at();
     let end = SALT_LENGTH - 1;
     let last = first + end;
-    with_version(1);
-    with_version(2);
-    with_version(4);
-    with_question_cut(LENGTH_WITHOUT_SALT);
-    with_salt_length(s, 0);
-    with_shorter(s, SALT);
-    with_salt_length(s, SALT_LENGTH + 1);
+    with_version(rt, 1)?;
+    with_version(rt, 2)?;
+    with_version(rt, 4)?;
+    with_question_cut(rt, LENGTH_WITHOUT_SALT)?;
+    with_salt_length(rt, s, 0)?;
+    with_shorter(rt, s, SALT)?;
+    with_salt_length(rt, s, SALT_LENGTH + 1)?;
     // Another salt asked for, and a word that is no element.
     let mut masks = s;
     masks.question_at = first;
-    with_spoiled(masks, MASKS);
+    with_spoiled(rt, masks, MASKS)?;
     // Another salt asked for, and another one lent, at the first byte and at the last.
-    with_salt_raised(s, first, NOWHERE);
-    with_salt_raised(s, NOWHERE, 0);
-    with_salt_raised(s, last, NOWHERE);
-    with_salt_raised(s, NOWHERE, end);
+    with_salt_raised(rt, s, first, NOWHERE)?;
+    with_salt_raised(rt, s, NOWHERE, 0)?;
+    with_salt_raised(rt, s, last, NOWHERE)?;
+    with_salt_raised(rt, s, NOWHERE, end)?;
     // Another root, too.
     let mut both = s;
     both.tree_at = ROOT_END;
-    with_salt_raised(both, first, NOWHERE);
+    with_salt_raised(rt, both, first, NOWHERE)?;
     // Asked and lent are the same again: accepted, and changed. That the tree has another salt is not looked at.
-    with_salt_raised(s, first, 0);
-    with_salt_raised(s, last, end);
+    with_salt_raised(rt, s, first, 0)?;
+    with_salt_raised(rt, s, last, end)?;
     // Nothing wrong.
-    print_attempt(s);
+    print_attempt(rt, s)
 }

@@ -121,6 +121,15 @@ pub fn blank_salt() -> [u8; 64] {
     [0u8; 64]
 }
 
+pub fn blank_reply() -> [u8; 65536] {
+    [0u8; 65536]
+}
+
+// For a question, or for the nonces, tree or reply of small sizes.
+pub fn blank_small() -> [u8; 4096] {
+    [0u8; 4096]
+}
+
 pub fn blank_table() -> [u32; 278528] {
     [0u32; 278528]
 }
@@ -156,14 +165,14 @@ pub fn filled_tree() -> [u8; 262112] {
 }
 
 pub fn filled_reply() -> [u8; 65536] {
-    let mut reply = io::large_buffer();
+    let mut reply = blank_reply();
     fill_bytes(REPLY, &mut reply);
     reply
 }
 
 // For the nonces, tree or reply of small sizes.
 pub fn filled_bytes(tag: usize) -> [u8; 4096] {
-    let mut bytes = io::buffer();
+    let mut bytes = blank_small();
     fill_bytes(tag, &mut bytes);
     bytes
 }

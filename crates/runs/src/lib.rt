@@ -1,4 +1,6 @@
 // What the programs of stored runs share: inputs, the lengths that belong to sizes, and printing.
+#![tactic(auto)]
+
 pub mod calls; // calls.rt: the fronts of buffers, and committing with them
 pub mod inputs; // inputs.rt: the rules by which all inputs are made
 pub mod printing; // printing.rt: digests, and what is printed

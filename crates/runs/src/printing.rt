@@ -1,8 +1,9 @@
 // Digests, and what is printed.
 use super::calls::{front_bytes, front_words};
+use super::inputs::blank_small;
 use codec::put_words;
 use commitment::Shape;
-use libc::STDOUT_FILENO;
+use std::io;
 
 // Room for the largest table as bytes.
 fn blank_bytes() -> [u8; 1114112] {
@@ -18,52 +19,48 @@ pub fn word_digest(words: &[u32]) -> [u8; 32] {
     sponge::digest(front_bytes(&bytes, end))
 }
 
-fn wide(b: u8) -> u64 {
-    b as u64
+pub fn print(rt: &impl Print, text: &[u8]) -> io::Result<()> {
+    rt.write_all(text)
 }
 
-pub fn print(text: &[u8]) {
-    io::write_all(STDOUT_FILENO, text);
-}
-
-pub fn print_bytes(name: &[u8], bytes: &[u8]) {
-    print(name);
-    for i in 0..bytes.len() {
-        io::print_hex(STDOUT_FILENO, wide(bytes[i]), 2);
+pub fn print_bytes(rt: &impl Print, name: &[u8], bytes: &[u8]) -> io::Result<()> {
+    print(rt, name)?;
+    for b in bytes {
+        print!(rt; "{b:02x}")?;
     }
-    print(b"\n");
+    print(rt, b"\n")
 }
 
-pub fn print_number(name: &[u8], n: u64) {
-    print(name);
-    io::print_decimal(STDOUT_FILENO, n);
+pub fn print_number(rt: &impl Print, name: &[u8], n: u64) -> io::Result<()> {
+    print(rt, name)?;
+    print!(rt; "{n}")
 }
 
-pub fn print_sizes(s: Shape) {
-    print_number(b"h ", s.h as u64);
-    print_number(b" mu ", s.mu as u64);
-    print_number(b" nu ", s.nu as u64);
-    print_number(b" w ", s.w as u64);
-    print_number(b" l ", s.l as u64);
-    print_number(b" eta ", s.eta as u64);
-    print_number(b" beta ", s.beta as u64);
+pub fn print_sizes(rt: &impl Print, s: Shape) -> io::Result<()> {
+    print_number(rt, b"h ", s.h as u64)?;
+    print_number(rt, b" mu ", s.mu as u64)?;
+    print_number(rt, b" nu ", s.nu as u64)?;
+    print_number(rt, b" w ", s.w as u64)?;
+    print_number(rt, b" l ", s.l as u64)?;
+    print_number(rt, b" eta ", s.eta as u64)?;
+    print_number(rt, b" beta ", s.beta as u64)
 }
 
-pub fn print_digest(name: &[u8], bytes: &[u8]) {
+pub fn print_digest(rt: &impl Print, name: &[u8], bytes: &[u8]) -> io::Result<()> {
     let d = sponge::digest(bytes);
-    print_bytes(name, &d);
+    print_bytes(rt, name, &d)
 }
 
-pub fn print_word_digest(name: &[u8], words: &[u32]) {
+pub fn print_word_digest(rt: &impl Print, name: &[u8], words: &[u32]) -> io::Result<()> {
     let d = word_digest(words);
-    print_bytes(name, &d);
+    print_bytes(rt, name, &d)
 }
 
 // At most 1024 words, as bytes.
-pub fn print_words(name: &[u8], words: &[u32]) {
+pub fn print_words(rt: &impl Print, name: &[u8], words: &[u32]) -> io::Result<()> {
     let front = front_words(words, 1024);
     let end = 4 * front.len();
-    let mut bytes = io::buffer();
+    let mut bytes = blank_small();
     put_words(&mut bytes, 0, front);
-    print_bytes(name, front_bytes(&bytes, end));
+    print_bytes(rt, name, front_bytes(&bytes, end))
 }

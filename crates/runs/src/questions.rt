@@ -9,7 +9,7 @@ use commitment::{Shape, challenges_at, root_at, salt_at};
 pub const VERSION: usize = 3;
 
 // The version, the number of points, and the salt by its tag; challenges and points, of which a question holds the first ones; the indices first, first + step, first + 2 step, ..
-#[derive(Drop)]
+#[derive(Clone, Copy)]
 pub struct Asked {
     pub version: usize,
     pub m: u32,

@@ -32,7 +32,7 @@ pub fn largest() -> Shape {
     )
 }
 
-#[derive(Drop)]
+#[derive(Clone, Copy)]
 pub struct Lengths {
     pub coefficients: usize,
     pub tails: usize,

@@ -7,6 +7,7 @@ use super::printing::print;
 use super::sizes::{Lengths, before, blinded, shape};
 use codec::same_bytes;
 use commitment::Shape;
+use std::io;
 
 // Stands for no slice, where a slice to spoil is named by its tag.
 pub const NONE: usize = 0;
@@ -83,10 +84,10 @@ pub fn commit_small(
 }
 
 // Whether what may be written is as before, by digests.
-pub fn print_same(before: [u8; 32], after: [u8; 32]) {
+pub fn print_same(rt: &impl Print, before: [u8; 32], after: [u8; 32]) -> io::Result<()> {
     if same_bytes(&before, &after) {
-        print(b" same\n");
+        print(rt, b" same\n")
     } else {
-        print(b" changed\n");
+        print(rt, b" changed\n")
     }
 }

@@ -1,4 +1,6 @@
 // The digest for C, for tools/bench_sponge.c alone.
+#![tactic(auto)]
+
 ghost use Rattle.std.specs.Prelude.{◌≡◌};
 ghost use Rattle.sponge.specs.Digest.{digest};
 

@@ -2,26 +2,24 @@
 // and 1600 bits that are 200 bytes 0xa3; of the first n bytes of a pattern, for n from 0 to 339; of four leaf strings, of 135, 139, 271 and 275 bytes. Then
 // outputs of many lengths by `draw`, and outputs of 137 bytes by `draw_after`. The file stdout is made by tools/sponge_vectors.py from a second
 // implementation.
+#![tactic(auto)]
+
 ghost use Rattle.std.specs.Prelude.{◌≡◌, ◌+◌, ◌*◌, ◌%◌, ◌≤◌, length};
 ghost use Rattle.lists.specs.Tabulate.{tabulate};
 
-use libc::STDOUT_FILENO;
 use node_sets::LeafIndex;
+use std::io;
 
-fn wide(b: u8) -> u64 {
-    b as u64
-}
-
-fn print_bytes(d: &[u8]) {
-    for i in 0..d.len() {
-        io::print_hex(STDOUT_FILENO, wide(d[i]), 2);
+fn print_bytes(rt: &impl Print, d: &[u8]) -> io::Result<()> {
+    for b in d {
+        print!(rt; "{b:02x}")?;
     }
-    io::write_all(STDOUT_FILENO, b"\n");
+    println!(rt)
 }
 
-fn print_digest_of(m: &[u8]) {
+fn print_digest_of(rt: &impl Print, m: &[u8]) -> io::Result<()> {
     let d = sponge::digest(m);
-    print_bytes(&d);
+    print_bytes(rt, &d)
 }
 
 // The pattern: byte i is 7 i + 3, modulo 256.
@@ -34,61 +32,62 @@ fn fill_pattern(m: &mut [u8])
 }
 
 // The digests of the first n bytes of m, for n from 0 to its length.
-fn print_all(m: &[u8]) {
+fn print_all(rt: &impl Print, m: &[u8]) -> io::Result<()> {
     for n in 0..=m.len() {
-        print_digest_of(&m[0..n]);
+        print_digest_of(rt, &m[0..n])?;
     }
+    Ok(())
 }
 
 // The digest of the last leaf of 4,096 with so many row and mask values: its string is 0x00, the salt, the index, the values and the nonce, 4 values + 67 bytes. Values and nonce are the pattern's first bytes, the salt is its last 32.
-fn print_leaf(m: &[u8], values: usize)
+fn print_leaf(rt: &impl Print, m: &[u8], values: usize) -> io::Result<()>
     requires { (values ≤ 68) × (408 ≤ length m.now) }
 {
     let size = 4 * values + 32;
     let mut d = [0u8; 32];
     digests::leaf_digest(&m[376..408], LeafIndex(4095), &m[0..size], &mut d);
-    print_bytes(&d);
+    print_bytes(rt, &d)
 }
 
 // With 17 and with 51 values the string is one byte short of whole blocks, and the padding is one byte; with one value more it ends three bytes after.
-fn print_leaves(m: &[u8])
+fn print_leaves(rt: &impl Print, m: &[u8]) -> io::Result<()>
     requires { 408 ≤ length m.now }
 {
-    print_leaf(m, 17);
-    print_leaf(m, 18);
-    print_leaf(m, 51);
-    print_leaf(m, 52);
+    print_leaf(rt, m, 17)?;
+    print_leaf(rt, m, 18)?;
+    print_leaf(rt, m, 51)?;
+    print_leaf(rt, m, 52)
 }
 
-fn fill_and_print(m: &[u8], out: &mut [u8]) {
+fn fill_and_print(rt: &impl Print, m: &[u8], out: &mut [u8]) -> io::Result<()> {
     sponge::draw(m, out);
-    print_bytes(out);
+    print_bytes(rt, out)
 }
 
-fn print_draw(m: &[u8], n: usize)
+fn print_draw(rt: &impl Print, m: &[u8], n: usize) -> io::Result<()>
     requires { n ≤ 544 }
 {
     let mut out = [0u8; 544];
-    fill_and_print(m, &mut out[0..n]);
+    fill_and_print(rt, m, &mut out[0..n])
 }
 
 // Outputs below, at and above one block of 136 bytes, two, and four.
-fn print_draws(m: &[u8]) {
-    print_draw(m, 1);
-    print_draw(m, 2);
-    print_draw(m, 31);
-    print_draw(m, 32);
-    print_draw(m, 33);
-    print_draw(m, 96);
-    print_draw(m, 135);
-    print_draw(m, 136);
-    print_draw(m, 137);
-    print_draw(m, 272);
-    print_draw(m, 544);
+fn print_draws(rt: &impl Print, m: &[u8]) -> io::Result<()> {
+    print_draw(rt, m, 1)?;
+    print_draw(rt, m, 2)?;
+    print_draw(rt, m, 31)?;
+    print_draw(rt, m, 32)?;
+    print_draw(rt, m, 33)?;
+    print_draw(rt, m, 96)?;
+    print_draw(rt, m, 135)?;
+    print_draw(rt, m, 136)?;
+    print_draw(rt, m, 137)?;
+    print_draw(rt, m, 272)?;
+    print_draw(rt, m, 544)
 }
 
 // The output for the first `prefix` + `more` bytes of m, from the state after the full blocks of the first `prefix`.
-fn print_resumed(m: &[u8], prefix: usize, more: usize)
+fn print_resumed(rt: &impl Print, m: &[u8], prefix: usize, more: usize) -> io::Result<()>
     requires { (prefix ≤ 272) × (more ≤ 136) × (408 ≤ length m.now) }
 {
     let a = sponge::absorb_prefix(&m[0..prefix]);
@@ -96,33 +95,33 @@ fn print_resumed(m: &[u8], prefix: usize, more: usize)
     let end = prefix + more;
     let mut out = [0u8; 137];
     sponge::draw_after(a, &m[rest..end], &mut out);
-    print_bytes(&out);
+    print_bytes(rt, &out)
 }
 
-fn print_tails(m: &[u8], prefix: usize)
+fn print_tails(rt: &impl Print, m: &[u8], prefix: usize) -> io::Result<()>
     requires { (prefix ≤ 272) × (408 ≤ length m.now) }
 {
-    print_resumed(m, prefix, 4);
-    print_resumed(m, prefix, 135);
-    print_resumed(m, prefix, 136);
+    print_resumed(rt, m, prefix, 4)?;
+    print_resumed(rt, m, prefix, 135)?;
+    print_resumed(rt, m, prefix, 136)
 }
 
-fn main() {
+fn main(rt: HostRuntime) -> io::Result<()> {
     let example = [0xa3u8; 200];
-    print_digest_of(&example[0..0]);
-    print_digest_of(&example);
+    print_digest_of(&rt, &example[0..0])?;
+    print_digest_of(&rt, &example)?;
     let mut m = [0u8; 408];
     fill_pattern(&mut m);
-    print_all(&m[0..339]);
-    print_leaves(&m);
-    print_draws(&m[0..0]);
-    print_draws(&m[0..97]);
-    print_draws(&m[0..136]);
-    print_draws(&m[0..339]);
-    print_tails(&m, 0);
-    print_tails(&m, 132);
-    print_tails(&m, 135);
-    print_tails(&m, 136);
-    print_tails(&m, 137);
-    print_tails(&m, 272);
+    print_all(&rt, &m[0..339])?;
+    print_leaves(&rt, &m)?;
+    print_draws(&rt, &m[0..0])?;
+    print_draws(&rt, &m[0..97])?;
+    print_draws(&rt, &m[0..136])?;
+    print_draws(&rt, &m[0..339])?;
+    print_tails(&rt, &m, 0)?;
+    print_tails(&rt, &m, 132)?;
+    print_tails(&rt, &m, 135)?;
+    print_tails(&rt, &m, 136)?;
+    print_tails(&rt, &m, 137)?;
+    print_tails(&rt, &m, 272)
 }
