@@ -20,8 +20,9 @@ put_leaves-requires c =
 pub returns : goal.returns
 returns c =
     let s = c.args in
-    reply_are s.question.now (sizes_in s.s) s.m (unsalted s.coefficients.now s.tails.now s.blinds.now s.masks.now s.nonces.now) s.table.now s.tree.now s.reply.now
+    let r = reply_are s.question.now (sizes_in s.s) s.m (unsalted s.coefficients.now s.tails.now s.blinds.now s.masks.now s.nonces.now) s.table.now s.tree.now s.reply.now
     c.requires.0 c.put_leaves.result s.indices.now
     c.put_sums.new.reply c.put_leaves.new.reply
     c.requires.1 c.put_sums.ensures
-    c.put_leaves.ensures.value c.put_leaves.ensures.reply_after
+    c.put_leaves.ensures.value c.put_leaves.ensures.reply_after in
+    record { value = r.0; reply_after = r.1 }

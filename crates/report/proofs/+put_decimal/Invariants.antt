@@ -1,0 +1,5 @@
+-- `report::put_decimal` meets its contract. The measure is the number, which falls to its tenth. The digits before the last one come first.
+use Rattle.report.proofs.+put_decimal.Given as goal
+
+abbrev pub decreases-put_decimal : goal.decreases-put_decimal
+decreases-put_decimal l = l.n
