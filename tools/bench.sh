@@ -31,7 +31,7 @@ need_compiler
 [ "$word" != instructions ] || need valgrind "to count instructions"
 [ "$word" != products ] || need python3 "for the sizes of the products (tools/sizes.py)"
 need_before
-find_archive smallwood
+find_archive smallwood_c
 find_before smallwood
 
 object keccak.o plain/keccak.c

@@ -12,6 +12,5 @@ set -eu
 read_options "$@"
 no_words
 need rt "to prove and build the checking program"
-program=$root/target/bin/verdict
-built "$program" rt check verdict
+find_crate_program verdict
 exec "$program" < "$root/crates/verdict/stdin"

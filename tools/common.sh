@@ -1,6 +1,7 @@
 # shellcheck shell=sh disable=SC2034
 # Sourced by the scripts beside it, which use what is set here: reads their words, tests for what they need, and builds
-# into target/tools/. A script tests all its words first, then for all its tools, and builds after that.
+# into target/tools/; what rt builds lies in crates/*/out/. A script tests all its words first, then for all its tools,
+# and builds after that.
 
 root=$(cd "$(dirname "$0")/.." && pwd)
 tools=$root/tools
@@ -49,15 +50,21 @@ library_version() {
     sed -n 's/^#define SMALLWOOD_VERSION "\([0-9.]*\)"$/\1/p' "$root/include/smallwood.h"
 }
 
+# sources: the files and folders that are proved and compiled. What a program is run on is none of them.
+sources() {
+    (cd "$root" && ls -d crates.txt crates/*/src crates/*/specs crates/*/proofs)
+}
+
 # sources_sum: one sum over all that is proved and compiled, by name and content, and the kit that does it. It fails
 # where some of that cannot be read.
 sources_sum() {
     (
         cd "$root" || exit 1
         rt version > "$build/sources" || exit 1
-        find crates.txt crates ! -type d ! -path '*/must-fail/*' -exec sha256sum {} + >> "$build/sources" || exit 1
+        # shellcheck disable=SC2046
+        find $(sources) ! -type d -exec sha256sum {} + >> "$build/sources" || exit 1
         LC_ALL=C sort -o "$build/sources" "$build/sources" || exit 1
-        sha256sum < "$build/sources"
+        sha256sum < "$build/sources" | cut -d ' ' -f 1
     )
 }
 
@@ -71,50 +78,63 @@ report_progress() {
     done
 }
 
-# run_logged LOG COMMAND [WORDS...]: runs the command at the root; what it prints goes to the log.
+# run_logged LOG CRATE COMMAND [WORDS...]: runs the command in the crate's folder, with the crate's file stdin where it
+# has one; what it prints goes to the log.
 run_logged() (
-    cd "$root" || exit 1
     log=$1
-    shift
+    cd "$root/crates/$2" || exit 1
+    shift 2
+    input=/dev/null
+    [ ! -f stdin ] || input=stdin
     : > "$log"
-    report_progress "$*" "$log" &
+    report_progress "${PWD##*/}" "$log" &
     status=0
-    "$@" > "$log" 2>&1 || status=$?
+    "$@" < "$input" > "$log" 2>&1 || status=$?
     kill $! 2> /dev/null || :
     wait 2> /dev/null || :
     exit "$status"
 )
 
-# built FILE COMMAND [WORDS...]: runs the command, which is to prove and write that file, unless it did so before, from
-# the same sources, and the file is the one that it left then. Where a source has changed while the command ran, nobody
-# can tell what the file was made from: it is not taken for built the next time.
+# built CRATE FILE COMMAND [WORDS...]: runs the command in the crate's folder, which is to prove the crate and write FILE
+# there, unless it did so before, from the same sources, and the file is the one that it left then. Where a source has
+# changed while the command ran, nobody can tell what the file was made from: it is not taken for built the next time.
 built() {
-    file=$1
-    shift
+    crate=$1
+    file=$root/crates/$1/$2
+    shift 2
     mkdir -p "$build"
-    stamp=$build/$(basename "$file").stamp
     sum=$(sources_sum 2> /dev/null) || sum=
-    if [ -n "$sum" ] && [ -f "$file" ] && [ -f "$stamp" ] && [ "$(cat "$stamp")" = "$sum $(sha256sum < "$file")" ]; then
+    if [ -n "$sum" ] && [ -f "$file" ] && [ "$(stamp_of "$file")" = "$sum $(sha256sum < "$file")" ]; then
         return 0
     fi
-    rm -f "$stamp"
+    rm -f "$build/$(basename "$file").stamp"
     : > "$build/begun"
-    echo "$*: proves and builds what has changed (all from nothing: some minutes)" >&2
-    if ! run_logged "$build/rt.log" "$@"; then
+    echo "proves and builds crate $crate (from nothing: as long as most of rt ci)" >&2
+    if ! run_logged "$build/rt.log" "$crate" "$@"; then
         tail -n 20 "$build/rt.log" >&2
-        fail "$* failed"
+        fail "crate $crate was not built"
     fi
-    [ -f "$file" ] || fail "$* left no $file"
+    [ -f "$file" ] || fail "crate $crate was built, and there is no $file"
     if [ -n "$sum" ] && [ "$(sources_sum)" = "$sum" ] && ! changed_since "$build/begun"; then
-        echo "$sum $(sha256sum < "$file")" > "$stamp"
+        stamp "$file" "$sum"
     else
-        echo "$*: sources changed while it ran, or cannot all be read; it will run again the next time" >&2
+        echo "sources changed while $crate was built, or cannot all be read; it will be built again the next time" >&2
     fi
+}
+
+# stamp FILE SUM: notes that the file was made from the sources of that sum; stamp_of FILE: what was noted
+stamp() {
+    echo "$2 $(sha256sum < "$1")" > "$build/$(basename "$1").stamp"
+}
+
+stamp_of() {
+    cat "$build/$(basename "$1").stamp" 2> /dev/null
 }
 
 # changed_since FILE: whether a source or a folder of sources has been written since that file was.
 changed_since() {
-    [ -n "$(cd "$root" && find crates.txt crates -newer "$1" ! -path '*/must-fail*')" ]
+    # shellcheck disable=SC2046
+    [ -n "$(cd "$root" && find $(sources) -newer "$1")" ]
 }
 
 # need_archive: tests for what find_archive takes.
@@ -128,13 +148,46 @@ need_archive() {
     fi
 }
 
-# prove_and_archive CRATE: `rt staticlib` alone proves one crate after the other, `rt check` two at a time.
-prove_and_archive() {
-    rt check "$1" && rt staticlib "$1"
+# The archive is for any x86-64: rt's own choice would be x86-64-v2.
+processor=x86-64
+
+# is_over_ci: whether rt ci has passed on these sources here (take_over.sh) and its libraries lie in crates/*/out as it
+# left them: rt check and rt lib put others there, each with a stamp.
+is_over_ci() {
+    [ -n "$sum" ] && [ "$(cat "$build/passed" 2> /dev/null)" = "$sum" ] &&
+        ! ls "$root"/crates/*/out/rlib/stamp > /dev/null 2>&1
 }
 
-# find_archive CRATE: sets archive: the one given, the stand-in, or the crate's, which rt proves and writes. The
-# stand-in is compiled with -DPLAIN_PAIRS=$pairs.
+# build_archive: proves this folder's crate and writes its archive: by rt lib, or else over the libraries that rt ci left,
+# which rt lib would not take: it would prove each of them once more.
+build_archive() {
+    if ! is_over_ci; then
+        rt lib --cpu "$processor"
+    elif ! build_over_ci; then
+        echo "the archive was not built over what rt ci left"
+        rt lib --cpu "$processor"
+    fi
+}
+
+# build_over_ci: what rt lib does with a static library, as `rattle build --help` says it, without building what lies below.
+build_over_ci() (
+    kit=$(dirname "$(rt doc)")
+    own=$(basename "$PWD")
+    set -- --extern "std=$kit/rlibs/std.rlib" -L "dependency=$kit/rlibs"
+    for library in $(sed -n "s/#.*//;s/^$own staticlib *://p" "$root/crates.txt"); do
+        set -- "$@" --extern "$library=../$library/out/rlib/$library.rlib"
+    done
+    for folder in ../*/out/rlib; do
+        set -- "$@" -L "dependency=$folder"
+    done
+    mkdir -p out
+    "$kit/bin/rattle" build --crate-name "$own" src/lib.rt --crate-type staticlib --links "$own=" "$@" \
+        --antt-project "$kit/rattle/logic/antt-project.json" --logic-built "$kit/logic_built" --jobs 2 \
+        --toolchain "$kit/toolchain" --backend llvm --cpu "$processor" -o "out/lib$own.a"
+)
+
+# find_archive CRATE: sets archive: the one given, the stand-in, or that of the static library CRATE, which rt proves and
+# writes. The stand-in is compiled with -DPLAIN_PAIRS=$pairs.
 pairs=1
 
 find_archive() {
@@ -150,9 +203,15 @@ find_archive() {
         ar rcs "$archive" "$build/stand-in.o" "$build/stand-in-keccak.o"
         echo "stand-in: the plain C implementation under the library's names, PLAIN_PAIRS=$pairs"
     else
-        archive=$root/target/staticlib/lib$1.a
-        built "$archive" prove_and_archive "$1"
+        archive=$root/crates/$1/out/lib$1.a
+        built "$1" "out/lib$1.a" build_archive
     fi
+}
+
+# find_crate_program CRATE: sets program: the crate's, which rt proves, builds and runs once.
+find_crate_program() {
+    program=$root/crates/$1/out/$1
+    built "$1" "out/$1" rt run
 }
 
 # need_before: tests for what find_before takes.

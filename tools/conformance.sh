@@ -38,14 +38,11 @@ need_program() {
 # find_program NAME GIVEN: sets program: the one given, or the crate's, which rt proves and builds.
 find_program() {
     program=$2
-    if [ -z "$program" ]; then
-        program=$root/target/bin/$1
-        built "$program" rt check "$1"
-    fi
+    [ -n "$program" ] || find_crate_program "$1"
 }
 
 compare() {
-    find_archive smallwood
+    find_archive smallwood_c
     # shellcheck disable=SC2086
     "$CC" $CFLAGS "$tools/conformance.c" "$archive" -o "$build/conformance"
     set --

@@ -19,7 +19,7 @@ no_words
 need_compiler
 need_archive
 need g++ "to link from C++"
-find_archive smallwood
+find_archive smallwood_c
 outside=$(mktemp -d)
 trap 'rm -rf "$outside"' EXIT
 warnings='-Wall -Wextra -Wpedantic -Werror'

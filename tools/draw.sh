@@ -19,7 +19,7 @@ read_options "$@"
 no_words
 need_compiler
 need_archive
-find_archive smallwood
+find_archive smallwood_c
 warnings='-Wall -Wextra -Wpedantic -Werror'
 sizes=300
 

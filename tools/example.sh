@@ -21,7 +21,7 @@ need_compiler
 need_python
 need timeout "to end programs that hang (Debian: coreutils)"
 need mkfifo "for the line between badge and reader (Debian: coreutils)"
-find_archive smallwood
+find_archive smallwood_c
 
 limit=60 # seconds; the programs have a shorter time of their own
 flags='-std=c11 -O2 -Wall -Wextra -Wpedantic -Werror'

@@ -276,7 +276,7 @@ compile_all
 refuse_drift
 refuse_faults
 refuse_all_dropped
-find_archive smallwood
+find_archive smallwood_c
 [ "$stand_in" = yes ] || compare_names
 refuse_lengths
 try_undefined

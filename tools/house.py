@@ -8,8 +8,9 @@
 
 1. Every imported name is used in its file, and a file has one `use` line for a module.
 2. Every definition and law is used, by something that is used itself or is an end; what is `pub` is needed outside
-   its file. Ends are contracts, theorems `..-spec`, what a must-fail edit puts in, what README.md, docs/PROMISES.md
-   or docs/DECISIONS.md cite, and ENDS below. The same for functions, types and constants of .rt files.
+   its file. Ends are contracts, what an attribute `tactic(..)` names, the answers, invariants and measures that rt asks
+   of a function's proof, theorems `..-spec`, what a must-fail edit puts in, what README.md, docs/PROMISES.md or
+   docs/DECISIONS.md cite, and ENDS below. The same for functions, types and constants of .rt files.
 3. What these three cite in backticks exists, and in the place that they name; so do the must-fail edits.
 4. What a must-fail edit replaces stands once in its file, and the names that it puts in are to be had there.
 5. No file under crates/ has over 500 lines, stored data aside; no line of .rt and .antt files over 400 characters.
@@ -107,21 +108,24 @@ class Words:
                 elif before and before.text in "{;" and after == "=":
                     pass
                 elif not any(text in scope for scope in scopes):
-                    self.bare.add(text)
-                    if "_" in text:
-                        self.bare.update(part for part in text.split("_") if part)
+                    self.bare.update(named_by(text))
 
     def use(self, name):
         return used_in(self.bare, name)
 
 
+def named_by(text):
+    """A name, and of an operator the parts beside it: ≡ for ◌≡◌."""
+    return [text, *(part for part in text.split("◌") if part)] if "◌" in text else [text]
+
+
 def used_in(words, name):
-    """An operator is used by its name, or by its parts: ≡ for _≡_; `do` uses _>>=_ and _>>_."""
-    if name in words or "_" not in name:
+    """An operator is used by its name, or by its parts; `do` uses ◌>>=◌ and ◌>>◌."""
+    if name in words or "◌" not in name:
         return name in words
-    if name in ("_>>=_", "_>>_") and "do" in words:
+    if name in ("◌>>=◌", "◌>>◌") and "do" in words:
         return True
-    parts = [part for part in name.split("_") if part]
+    parts = [part for part in name.split("◌") if part]
     return bool(parts) and all(part in words for part in parts)
 
 
@@ -288,13 +292,41 @@ def imports_of(lines, ghost):
 
 # ---- .rt
 
-CLAUSE = re.compile(r"\b(?:requires|ensures|invariant|decreases)\s*\{")
+CLAUSE = re.compile(r"\b(?:(?:requires|ensures|invariant|decreases)\*?(?:\s+\w+)?|ghost \w+\s*[:=])\s*\{")
 ITEM = re.compile(r"^(?P<pub>pub )?(?:extern \"C\" )?(?P<kind>fn|const|static|struct|enum) (?P<name>\w+)")
+USE = re.compile(r"^(?:pub )?use ([^;]*);", re.M)
+ENTRY = "#[unsafe(no_mangle)]"
+TRAITS = {"Read", "Write", "BufRead"}  # the kit's, which code uses by their methods
 
 
 def without_comments(text):
     """With the comments of an .rt text blanked; lines stay."""
     return re.sub(r"(\"(?:\\.|[^\"\\\n])*\")|//[^\n]*", lambda found: found[1] or "", text)
+
+
+def flat(path, tree):
+    """[(path, name there, name here)] of the tree behind `use`: a::b, a::{b, c as d}, a::{b, c::{d, e}}, a::{self}."""
+    tree = tree.strip()
+    head, brace, inner = tree.partition("{")
+    if not brace:
+        words = tree.split()
+        there = words[0] if words else ""
+        if "::" in there:
+            more, there = there.rsplit("::", 1)
+            path = path + "::" + more if path else more
+        if there == "self":
+            path, there = path.rpartition("::")[0], path.rpartition("::")[2]
+        return [(path, there, words[-1].rsplit("::", 1)[-1] if words[-1] != "self" else there)] if there and there != "*" else []
+    head = head.strip().removesuffix("::")
+    path = path + "::" + head if path and head else path or head
+    found, depth, begin = [], 0, 0
+    inner = inner[:inner.rindex("}")] + ","
+    for i, character in enumerate(inner):
+        depth += (character == "{") - (character == "}")
+        if character == "," and depth == 0:
+            found += flat(path, inner[begin:i]) if inner[begin:i].strip() else []
+            begin = i + 1
+    return found
 
 
 class Item:
@@ -310,12 +342,14 @@ class Code:
         text = without_comments(text)
         self.lines = text.split("\n")
         self.imports = imports_of(self.lines, ghost=True)
-        self.uses = []  # line, text, crate, name
-        for number, line in enumerate(self.lines, 1):
-            match = re.match(r"use ([\w:]+)::(\w+);$", line.strip())
-            if match:
-                self.uses.append((number, match[1], match[2]))
-        body = re.sub(r"^(ghost )?use .*;$", "", text, flags=re.M)
+        self.use_lists = []  # first and last line of a `use`, [(crate or module, name there, name here)]
+        for found in USE.finditer(text):
+            if not found[0].startswith("pub"):
+                first, more = 1 + text.count("\n", 0, found.start()), found[0].count("\n")
+                self.use_lists.append((first, first + more, flat("", found[1])))
+        self.uses = [(first, path, here) for first, _, names in self.use_lists for path, _, here in names]
+        self.tactics = re.findall(r"\b((?:\w+::)+)(specs|proofs)::([\w:]+)::([^\s(){},;:]+)", "".join(re.findall(r"#!?\[tactic\(.*\)\]", text)))
+        body = re.sub(r"^(ghost |pub )?use [^;]*;", lambda found: "\n" * found[0].count("\n"), text, flags=re.M)
         code, clauses, at = [], [], 0
         for found in CLAUSE.finditer(body):
             if found.start() < at:
@@ -339,7 +373,7 @@ class Code:
                 self.items.append(Item(match["kind"], match["name"], number, bool(match["pub"]), entry))
                 line = line[match.end():]
             if line.strip():
-                entry = line.startswith("#[no_mangle]")
+                entry = line.startswith("#[") and (entry or line.startswith(ENTRY))
             if self.items:
                 self.items[-1].text += line + "\n"
         self.words = CodeWords(self.code)
@@ -382,12 +416,13 @@ class Repository:
                 tokens = lex(file.text)
                 file.imports = imports_of(file.lines, ghost=False)
                 file.declarations = declarations(tokens)
-                file.proof = path.name == "Proof.antt"
+                file.of_function = path.parent.name != part
+                file.goals = {i.names[0][1] for i in file.imports if i.whole and i.module.endswith((".Goals", ".Given"))}
                 self.antt[file.name] = file
         constructors = {part for file in self.antt.values() for d in file.declarations if d.kind == "data" for part, _ in d.parts}
         for file in self.antt.values():
             foreign = {here for i in file.imports if self.module_file(i.module) not in self.antt for _, here in i.names}
-            known = {part for name in constructors | foreign for part in [name, *name.split("_")]}
+            known = {part for name in constructors | foreign for part in named_by(name)}
             for d in file.declarations:
                 d.read(known)
             file.words = [d.words for d in file.declarations]
@@ -417,8 +452,8 @@ class Repository:
         return self.antt.get(name) or self.rt.get(name)
 
     def module_file(self, module):
-        """crates/C/specs/X.antt for Rattle·C.specs.X and Rattle·C·specs.specs.X."""
-        match = re.match(r"Rattle·(\w+)(?:·\w+)?\.(specs|proofs)\.(.+)$", module)
+        """crates/C/specs/X.antt for Rattle.C.specs.X."""
+        match = re.match(r"Rattle\.(\w+)\.(specs|proofs)\.(.+)$", module)
         return match and "crates/%s/%s/%s.antt" % (match[1], match[2], match[3].replace(".", "/"))
 
     # -- 1
@@ -437,7 +472,8 @@ class Repository:
 
     def unused_uses(self, file):
         """[(line, crate, name)] of the `use` lines of code."""
-        return [use for use in file.code.uses if use[2] not in file.code.words.all and use[2] not in file.edited_code]
+        words = file.code.words.all | file.edited_code
+        return [use for use in file.code.uses if use[2] not in words and not (use[2] in TRAITS and use[1].startswith("std"))]
 
     def check_imports(self):
         for file in [*self.antt.values(), *self.rt.values()]:
@@ -479,16 +515,24 @@ class Repository:
                 line = ("ghost use %s.{%s};" if ghost else "use %s.{%s}") % (i.module, words)
                 lines[i.line - 1] = None if not kept else line if line != i.text else i.text
             if file.name.endswith(".rt"):
-                unused, seen = self.unused_uses(file), set()
-                for use in file.code.uses:
-                    if use in unused or use[1:] in seen:
-                        lines[use[0] - 1] = None
-                    seen.add(use[1:])
+                self.prune_uses(file, lines)
             text = "\n".join(line for line in lines if line is not None)
             if text != file.text:
                 file.path.write_text(text)
                 if not quiet:
                     print(file.name)
+
+    def prune_uses(self, file, lines):
+        """A list of names from several modules (a::{b, c::d}) is left as it is."""
+        unused, seen = {use[1:] for use in self.unused_uses(file)}, set()
+        for first, end, names in file.code.use_lists:
+            kept = [name for name in names if (name[0], name[2]) not in unused | seen]
+            seen.update((path, here) for path, _, here in names)
+            if len(kept) < len(names) and len({path for path, _, _ in names}) == 1:
+                lines[first - 1:end] = [None] * (end - first + 1)
+                words = [there if there == here else there + " as " + here for _, there, here in kept]
+                if words:
+                    lines[first - 1] = "use %s::%s;" % (names[0][0], words[0] if len(words) == 1 else "{%s}" % ", ".join(words))
 
     # -- 2
 
@@ -513,9 +557,10 @@ class Repository:
 
         def is_end(file, d):
             short = file.name[len("crates/"):]
-            if file.proof and d.name.endswith("-spec") or d.kind == "open" or (short, "*") in ends or (short, d.name) in ends or d.name in cited_names:
+            asked = file.of_function and (d.name.endswith(("-spec", "_spec")) or any((goal, d.name) in d.words.behind for goal in file.goals))
+            if asked or d.kind == "open" or (short, "*") in ends or (short, d.name) in ends or d.name in cited_names:
                 return True
-            return any(d.name.endswith(name[2:]) for name in cited_names if name.startswith("..-"))
+            return any(d.name.endswith(name[2:]) for name in cited_names if is_ending(name))
 
         def scope(file, imports):
             """[(name here, file, name there)], and {alias of a module: file}"""
@@ -551,9 +596,13 @@ class Repository:
                     outside.add(d)
         for file in self.rt.values():
             names, modules = scope(file, file.code.imports)
-            for _, e in used(file.code.clauses, names, modules):
-                roots.append(e)
-                outside.add(e)
+            named = [e for _, e in used(file.code.clauses, names, modules)]
+            for crate, part, module, name in file.code.tactics:
+                crate = file.crate if crate == "crate::" else crate[:-2]
+                there = "crates/%s/%s/%s.antt" % (crate, part, module.replace("::", "/"))
+                named += [declared[there, name]] if (there, name) in declared else []
+            roots += named
+            outside.update(named)
         for file in [*self.antt.values(), *self.rt.values()]:
             is_antt = file.name.endswith(".antt")
             names, modules = scope(file, file.imports if is_antt else file.code.imports)
@@ -638,7 +687,7 @@ class Repository:
                     files = self.place_files(place)
                     if files is None:
                         self.find("citation", doc.name, line, "`%s`: there is no place %s" % (word, place), word)
-                    elif not any(files & where[name] for name in where if name == word or word.startswith("..-") and name.endswith(word[2:])):
+                    elif not any(files & where[name] for name in where if name == word or is_ending(word) and name.endswith(word[2:])):
                         self.find("citation", doc.name, line, "`%s` is not in %s" % (word, place), word)
         for doc in self.docs:
             self.check_cited_edits(doc)
@@ -671,7 +720,7 @@ class Repository:
             return "%s has no such function" % match[1]
         if word in LANGUAGE or " " in word or re.search(r"[&#=+^<>…]", word):
             return None  # a command, a formula, a word of the language
-        if word.startswith("..-"):
+        if is_ending(word):
             return None if any(name.endswith(word[2:]) for name in where) else "no definition ends so"
         if word in where or word in items or word in self.crates or word in labels or word in parameters or word in macros:
             return None
@@ -715,7 +764,7 @@ class Repository:
             for target, old, new in edit_pairs(edit):  # refused for want of a name, it would say nothing
                 if target in texts and target.endswith(".antt") and not new.startswith("use "):
                     there = lex(old + " = λ\n" + texts[target].replace(new, "", 1))
-                    there = {part for token in there for part in [token.text, *token.text.split("_")]}
+                    there = {part for token in there for part in named_by(token.text)}
                     for name in sorted(Words(lex(new)).bare - there):
                         if not name[0].isdigit():
                             self.find("edit", edit.name, 1, "it puts in `%s`, which is not in %s" % (name, target))
@@ -724,10 +773,10 @@ class Repository:
 
     def check_lengths(self):
         self.long_lines = 0
-        for path in sorted((self.root / "crates").rglob("*")):
+        parts = [part for part in sorted(self.root.glob("crates/*/*")) if part.name not in ("stdout", "stdin", "args", "data", "out")]
+        for path in [path for part in parts for path in [part, *sorted(part.rglob("*"))]]:
             name = str(path.relative_to(self.root))
-            parts = path.relative_to(self.root / "crates").parts
-            if not path.is_file() or parts[1] in ("stdout", "stdin", "args", "data"):
+            if not path.is_file():
                 continue
             lines = path.read_text().split("\n")
             count = len(lines) - (lines[-1] == "")
@@ -742,7 +791,7 @@ class Repository:
     def check_index(self):
         for path in sorted((self.root / "crates").glob("*/proofs/Lib.antt")):
             lines = path.read_text().split("\n")
-            modules = [i for i, line in enumerate(lines) if line.startswith("pub mod ")]
+            modules = [i for i, line in enumerate(lines) if line.startswith(("pub mod ", "mod "))]
             if len(modules) > 2 and not any(line.startswith("--") for line in lines[:modules[0]]):
                 self.find("index", str(path.relative_to(self.root)), 1, "%d modules, and no comment before the first that says what they are" % len(modules))
 
@@ -769,6 +818,11 @@ def edit_pairs(edit):
         elif line.startswith("new:"):
             yield target, old, line[5:]
             old = ""
+
+
+def is_ending(word):
+    """Whether a cited word stands for all names that end so: `.._within`."""
+    return word.startswith(("..-", ".._"))
 
 
 PLACE = r"(?:crates/[\w/]+\.antt|\w+\.antt|[a-z_]+/[A-Z]\w*|[a-z_]+(?=\)))"
@@ -805,39 +859,45 @@ def cited(doc):
 
 SAMPLE = {  # a small repository without a finding
     "README.md": "Read `docs/PROMISES.md` and run `tools/house.py --prune`; `one` is the crate.\n",
-    "docs/PROMISES.md": "## Demands\n\n`twice` and `Even` (one/Sets), `half-even` (crates/one/proofs/Halves.antt), `one::double`.\n\n"
+    "docs/PROMISES.md": "## Demands\n\n`twice` and `Even` (one/Sets), `half_even` (crates/one/proofs/Halves.antt), `one::double`.\n\n"
                         "## Must-fail edits\n\n| Mistake | Edit of code | Edit of a definition |\n|---|---|---|\n| a sum | one/three_times, four_times | |\n",
-    "docs/DECISIONS.md": "`..-even` are laws; the field `value` (one/Sets) is a number, `n + n` a formula.\n",
+    "docs/DECISIONS.md": "`.._even` are laws; the field `value` (one/Sets) is a number, `n + n` a formula.\n",
     "tools/house.py": "",
     "crates/one/specs/Lib.antt": "pub mod Sets\n",
-    "crates/one/specs/Sets.antt": "-- Sets.\nuse Prim.Native.Nat.{ℕ, _+_}\n\nunfoldable pub twice : ℕ → ℕ\ntwice n = n + n\n\n"
+    "crates/one/specs/Sets.antt": "-- Sets.\nuse Rattle.std.specs.Prelude.{ℕ, ◌+◌}\n\nunfoldable pub twice : ℕ → ℕ\ntwice n = n + n\n\n"
                                   "pub record Even (n : ℕ) : Type 0 where\n  pub value : ℕ\n\npub data Way : Type 0 where\n  up down : Way\n",
     "crates/one/proofs/Lib.antt": "-- Halves: laws of halves.\npub mod Halves\npub mod Ways\npub mod More\n",
-    "crates/one/proofs/Halves.antt": "use Prim.Native.Nat.{ℕ, _+_}\nuse Rattle·one·specs.specs.Sets.{twice, Even}\n\n"
+    "crates/one/proofs/Halves.antt": "use Rattle.std.specs.Prelude.{ℕ, ◌+◌}\nuse Rattle.one.specs.Sets.{twice, Even}\n\n"
                                      "module _ (n : ℕ)\n    (m : ℕ) where\n  helper : Even (twice n) → ℕ\n  unfolding twice\n  helper e = go n\n    where\n"
-                                     "      go : ℕ → ℕ\n      go k = k + n\n\n  pub half-even : Even (twice n) → ℕ\n  half-even e = helper e\n",
-    "crates/one/proofs/Ways.antt": "use Rattle·one·specs.specs.Sets.{Way, up, down}\nuse Rattle·one·proofs.proofs.Halves as H\n\n"
-                                   "pub turned : Way → Way\nturned up = down\nturned down = up\n\npub both : H.half-even\nboth = H.half-even\n",
-    "crates/one/proofs/More.antt": "",
-    "crates/one/proofs/double/Proof.antt": "use Rattle·one·proofs.proofs.Ways.{turned, both as two}\n\nlocal : turned\nlocal = two\n\npub double-spec : local\ndouble-spec = local\n",
-    "crates/one/src/lib.rt": "ghost use Prim.Native.Nat.{_<_};\nghost use Rattle·one·specs.specs.Sets.{twice};\nuse two::Pair;\n\nconst LIMIT: u32 = 4; // x - y\n\n"
-                             "fn small(n: u32) -> bool {\n    n < LIMIT\n}\n\n#[no_mangle]\npub extern \"C\" fn double(n: u32, p: Pair) -> u32\n    requires { ⌜ n < 5 ⌝ }\n"
-                             "    ensures { λ r. ⌜ r ≡ twice n ⌝ }\n{\n    if small(n) { return n + n; }\n    n + n\n}\n",
+                                     "      go : ℕ → ℕ\n      go k = k + n\n\n  pub half_even : Even (twice n) → ℕ\n  half_even e = helper e\n",
+    "crates/one/proofs/Ways.antt": "use Rattle.one.specs.Sets.{Way, up, down}\nuse Rattle.one.proofs.Halves as H\n\n"
+                                   "pub turned : Way → Way\nturned up = down\nturned down = up\n\npub both : H.half_even\nboth = H.half_even\n",
+    "crates/one/specs/None.antt": "",
+    "crates/one/proofs/More.antt": "use Rattle.std.specs.Prelude.{ℕ}\n\npub far : ℕ → ℕ\nfar n = n\n",
+    "crates/one/proofs/double/Proof.antt": "use Rattle.one.proofs.Ways.{turned, both as two}\n\nlocal : turned\nlocal = two\n\npub double-spec : local\ndouble-spec = local\n",
+    "crates/one/proofs/halve/Answers.antt": "use Rattle.std.specs.Prelude.{ℕ}\nuse Rattle.one.proofs.halve.Goals as goal\n\nstep : ℕ → ℕ\nstep n = n\n\npub loop-i-init : goal.loop-i-init\nloop-i-init c = step c\n",
+    "crates/one/src/lib.rt": "ghost use Rattle.std.specs.Prelude.{◌<◌, ◌≡◌};\nghost use Rattle.one.specs.Sets.{twice};\n\nuse std::io::Read;\nuse two::Pair;\n\nconst LIMIT: u32 = 4; // x - y\n\n"
+                             "fn small(n: u32) -> bool {\n    n < LIMIT\n}\n\n#[unsafe(no_mangle)]\n#[tactic(auto, using(crate::proofs::More::far))]\npub extern \"C\" fn double(n: u32, p: Pair) -> u32\n    requires { n < 5 }\n"
+                             "    ensures exact { result ≡ twice n }\n{\n    if small(n) { return n + n; }\n    n + n\n}\n",
     "crates/one/must-fail/three_times.edit": "Three times.\nfile: src/lib.rt\nold:     if small(n) { return n + n; }\nnew:     if small(n) { return n; }\n",
     "crates/one/must-fail/four_times.edit": "file: specs/Sets.antt\nold: twice n = n + n\nnew: twice n = n\n",
 }
 
 BREAKS = [  # what is broken, file, old text, new text, the finding
-    ("an unused import", "crates/one/specs/Sets.antt", "{ℕ, _+_}", "{ℕ, _+_, _-_}", "`_-_` is imported from Prim.Native.Nat and not used"),
-    ("an import that a variable hides", "crates/one/proofs/Halves.antt", "{twice, Even}", "{twice, Even, k}", "`k` is imported from Rattle·one·specs.specs.Sets and not used"),
-    ("an unused module", "crates/one/specs/Sets.antt", "-- Sets.\n", "use Prim.Native.Nat as N\n", "`N` is imported from Prim.Native.Nat and not used"),
-    ("an import that only code and comments name", "crates/one/src/lib.rt", "{_<_}", "{_<_, _+_, _-_}", "`_+_` is imported"),
+    ("an unused import", "crates/one/specs/Sets.antt", "{ℕ, ◌+◌}", "{ℕ, ◌+◌, ◌-◌}", "`◌-◌` is imported from Rattle.std.specs.Prelude and not used"),
+    ("an import that a variable hides", "crates/one/proofs/Halves.antt", "{twice, Even}", "{twice, Even, k}", "`k` is imported from Rattle.one.specs.Sets and not used"),
+    ("an unused module", "crates/one/specs/Sets.antt", "-- Sets.\n", "use Rattle.std.specs.Prelude as N\n", "`N` is imported from Rattle.std.specs.Prelude and not used"),
+    ("an import that only code and comments name", "crates/one/src/lib.rt", "{◌<◌, ◌≡◌}", "{◌<◌, ◌≡◌, ◌+◌, ◌-◌}", "`◌+◌` is imported"),
     ("an unused import of code", "crates/one/src/lib.rt", "use two::Pair;", "use two::Pair;\nuse two::other;", "`other` is imported from two and not used"),
-    ("two lines for a module", "crates/one/specs/Sets.antt", "{ℕ, _+_}", "{ℕ}\nuse Prim.Native.Nat.{_+_}", "a second `use` line for Prim.Native.Nat"),
+    ("an unused import in a list", "crates/one/src/lib.rt", "use two::Pair;", "use two::{\n    Pair, deep::{other, Pair as Two},\n};", "`other` is imported from two::deep and not used"),
+    ("two lines for a module", "crates/one/specs/Sets.antt", "{ℕ, ◌+◌}", "{ℕ}\nuse Rattle.std.specs.Prelude.{◌+◌}", "a second `use` line for Rattle.std.specs.Prelude"),
     ("an unused law", "crates/one/proofs/Ways.antt", "pub both", "unused : Way\nunused = up\n\npub both", "`unused` is used by nothing"),
     ("an unused law in a block", "crates/one/proofs/Halves.antt", "  pub half", "  unused : ℕ\n  unused = n\n\n  pub half", "`unused` is used by nothing"),
     ("a law that its own proof alone uses", "crates/one/proofs/Ways.antt", "pub both", "again : Way\nagain = again\n\npub both", "`again` is used by nothing"),
-    ("a law whose one user goes", "crates/one/proofs/Ways.antt", "H.half-even\nboth = H.half-even", "Way\nboth = up", "`H` is imported"),
+    ("a law whose one user goes", "crates/one/proofs/Ways.antt", "H.half_even\nboth = H.half_even", "Way\nboth = up", "`H` is imported"),
+    ("a law that an attribute no longer names", "crates/one/src/lib.rt", "More::far", "More::near", "`far` is used by nothing"),
+    ("an answer that is not asked", "crates/one/proofs/halve/Answers.antt", ": goal.loop-i-init", ": goal.loop-i", "`loop-i-init` is used by nothing"),
+    ("an operator's name in parts", "crates/one/specs/Sets.antt", "{ℕ, ◌+◌}", "{ℕ, ◌+◌, n_twice}", "`n_twice` is imported"),
     ("an unused law of a proof", "crates/one/proofs/double/Proof.antt", "\nlocal :", "\nidle : turned\nidle = two\n\nlocal :", "`idle` is used by nothing"),
     ("a needless pub", "crates/one/proofs/Halves.antt", "  helper :", "  pub helper :", "`helper` is `pub`, and no other file needs it"),
     ("an unused function", "crates/one/src/lib.rt", "fn small(", "fn idle(n: u32) -> u32 {\n    n\n}\n\nfn small(", "fn `idle` is used by nothing"),
@@ -854,8 +914,8 @@ BREAKS = [  # what is broken, file, old text, new text, the finding
     ("an old text that stands twice", "crates/one/must-fail/three_times.edit", "old:     if small(n) { return n + n; }", "old: n + n", "its `old:` text stands 2 times"),
     ("an old text that is not there", "crates/one/must-fail/four_times.edit", "old: twice", "old: thrice", "its `old:` text stands nowhere"),
     ("an edit with a name that is not there", "crates/one/must-fail/four_times.edit", "new: twice n = n", "new: twice n = n - n", "it puts in `-`"),
-    ("a file of 501 lines", "crates/one/proofs/More.antt", "", "\n" * 501, "501 lines, and 500 are the most"),
-    ("a line of 401 characters", "crates/one/proofs/More.antt", "", "-- " + "x" * 398, "a line of 401 characters"),
+    ("a file of 501 lines", "crates/one/specs/None.antt", "", "\n" * 501, "501 lines, and 500 are the most"),
+    ("a line of 401 characters", "crates/one/specs/None.antt", "", "-- " + "x" * 398, "a line of 401 characters"),
     ("no index of modules", "crates/one/proofs/Lib.antt", "-- Halves: laws of halves.\n", "", "3 modules, and no comment"),
 ]
 
@@ -880,10 +940,15 @@ def selftest():
             if not any(expected in what for _, _, _, _, what in Repository(root).check()):
                 print("house self-test: not found: %s" % broken)
                 faults += 1
-        put("crates/one/specs/Sets.antt", "{ℕ, _+_}", "{_-_, ℕ}\nuse lib.Seq.{paste}\nuse Prim.Native.Nat.{_+_, ℕ}")
+        put("crates/one/specs/Sets.antt", "{ℕ, ◌+◌}", "{◌-◌, ℕ}\nuse lib.Seq.{paste}\nuse Rattle.std.specs.Prelude.{◌+◌, ℕ}")
         Repository(root).prune(quiet=True)
         if (root / "crates/one/specs/Sets.antt").read_text() != SAMPLE["crates/one/specs/Sets.antt"]:
             print("house self-test: --prune leaves something else")
+            faults += 1
+        put("crates/one/src/lib.rt", "use two::Pair;", "use two::{\n    Pair, other,\n};\nuse two::more;")
+        Repository(root).prune(quiet=True)
+        if (root / "crates/one/src/lib.rt").read_text() != SAMPLE["crates/one/src/lib.rt"]:
+            print("house self-test: --prune leaves other code")
             faults += 1
     print("house self-test: %d breaks, %d faults" % (len(BREAKS), faults))
     return 1 if faults else 0

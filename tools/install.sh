@@ -6,7 +6,7 @@
 #
 #     --archive FILE     installs this archive and does not build the library
 #
-# Needs rt unless an archive is given: it proves the library first, from nothing in seven to eight minutes on two cores.
+# Needs rt unless an archive is given: it proves the library first, which from nothing takes as long as most of `rt ci`.
 
 set -eu
 . "$(dirname "$0")/common.sh"
@@ -18,7 +18,7 @@ prefix=$word
 [ ! -e "$prefix" ] || [ -d "$prefix" ] || fail "$prefix is no directory"
 need_archive
 version=$(library_version)
-find_archive smallwood
+find_archive smallwood_c
 
 # filled FILE: the file with the version in it
 filled() {

@@ -20,7 +20,7 @@ need_compiler
 need objdump "to read the archive's code (Debian: binutils)"
 need ar "to add to a copy of the archive (Debian: binutils)"
 need_archive
-find_archive smallwood
+find_archive smallwood_c
 
 # The baseline, as far as it occurs, by AMD64 Architecture Programmer's Manual, volumes 3 and 4. Integer instructions
 # may have objdump's ending b, w, l or q; of j, set and cmov there is one for each condition.

@@ -23,7 +23,7 @@ need nm "to look for the permutation in the archive (Debian: binutils)"
 permutation=permutation::keccak_f
 [ "$stand_in" = no ] || permutation=permute
 pairs=0
-find_archive smallwood
+find_archive smallwood_c
 nm "$archive" | grep -q " [tT] $permutation\$" ||
     fail "$archive has no function $permutation whose calls can be counted"
 

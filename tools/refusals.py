@@ -87,7 +87,7 @@ class Place:
     def __init__(self, folder):
         self.copy, self.here, self.path = folder / "copy", folder / "here", folder / "path"
         self.called, self.aside = folder / "called", folder / "aside"
-        shutil.copytree(ROOT, self.copy, symlinks=True, ignore=shutil.ignore_patterns("target", ".git", "__pycache__"))
+        shutil.copytree(ROOT, self.copy, symlinks=True, ignore=shutil.ignore_patterns("target", "out", ".git", "__pycache__"))
         for made in self.here, self.path, self.aside:
             made.mkdir()
         (self.here / ARCHIVE).write_bytes(b"!<arch>\n")

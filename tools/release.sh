@@ -5,7 +5,7 @@
 #     tools/release.sh                  packs it into target/release/, unpacks it elsewhere and tries it: the commands
 #                                       on its pages as they stand there, its sums, the names of files in it
 #     tools/release.sh --twice          packs it in two fresh clones, all proved from nothing in each, and compares the
-#                                       sums: a quarter of an hour on two cores
+#                                       sums: as long as two runs of rt ci --anew
 #     tools/release.sh --rebuilt        builds the archive once more, in a fresh clone that takes over the crates proved
 #                                       here, and compares the sums
 #     tools/release.sh --references     lays the files out as they stand, without the archive, and looks for names of
@@ -73,7 +73,7 @@ fill() {
 }
 
 pack() {
-    find_archive smallwood
+    find_archive smallwood_c
     (cd "$root" && fill "$outside/$name")
     mkdir -p "$root/target/release"
     tar -C "$outside" --format=ustar --sort=name --mtime="@$(git -C "$root" log -1 --format=%ct)" --owner=0 --group=0 \
@@ -127,13 +127,17 @@ case $words in
         (cd "$outside" && tail -n 1 commands | sh -eu > planned) || fail "sizes.py lacks something in a release"
         ;;
     ' --rebuilt')
-        find_archive smallwood
+        find_archive smallwood_c
         git clone -q "$root" "$outside/clone"
-        mkdir "$outside/clone/target"
-        cp -a "$root/target/rlib" "$root/target/stamp" "$outside/clone/target/"
-        (cd "$outside/clone" && rt staticlib smallwood) > "$build/rt.log" 2>&1 ||
-            fail "rt staticlib failed in a fresh clone"
-        one=$(sum_of "$archive") two=$(sum_of "$outside/clone/target/staticlib/libsmallwood.a")
+        mkdir -p "$outside/clone/target/tools"
+        [ ! -f "$build/passed" ] || cp "$build/passed" "$outside/clone/target/tools/"
+        for library in "$root"/crates/*/out/rlib; do
+            there=$outside/clone/${library#"$root"/}
+            mkdir -p "${there%/rlib}"
+            cp -a "$library" "$there"
+        done
+        "$outside/clone/tools/install.sh" "$outside/prefix" > "$outside/installed"
+        one=$(sum_of "$archive") two=$(sum_of "$outside/prefix/lib/libsmallwood.a")
         [ "$one" = "$two" ] || fail "the archive built in another clone differs: $one and $two"
         echo "release: the archive built in another clone is the same, $one"
         ;;
@@ -141,7 +145,13 @@ case $words in
         for clone in one a/longer/path/to/two; do
             mkdir -p "$outside/$clone"
             git clone -q "$root" "$outside/$clone"
-            "$outside/$clone/tools/release.sh"
+            (
+                cd "$outside/$clone"
+                sum=$(tools/take_over.sh)
+                rt ci --anew > "$build/rt.log" || fail "rt ci --anew failed in a fresh clone: see $build/rt.log"
+                tools/take_over.sh "$sum"
+                tools/release.sh
+            )
             sum_of "$outside/$clone/target/release/$(basename "$packed")" >> "$outside/both"
         done
         [ "$(sort -u "$outside/both" | wc -l)" = 1 ] || fail "two clones give two releases"

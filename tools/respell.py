@@ -1,7 +1,8 @@
 #!/usr/bin/env python3
 """Turns the repository's own ghost names to today's spelling, once, after the kit's port script.
 
-usage: tools/respell.py [--list] [ROOT]        (ROOT is the top of a checkout; --list prints the table and writes nothing)
+    respell.py [ROOT]          in the checkout there, or here
+    respell.py --list [ROOT]   prints the table of names and writes nothing
 
 Definitions, lemmas, fields and constructors that specs/ and proofs/ declare are in snake case: evalN is eval_n. A capital that
 begins a name makes it a type and stays. A dash joins two names (a definition, a type, or a word of the kit's library) and is an
@@ -125,10 +126,17 @@ def of_kit(text, own):
     return found
 
 
-def main(argv):
-    show = "--list" in argv
-    argv = [a for a in argv if a != "--list"]
-    root = argv[0] if argv else "."
+def main():
+    import paths  # noqa: F401  (makes the module below importable)
+    from arguments import Arguments
+
+    parser = Arguments(__doc__)
+    parser.add_argument("root", metavar="ROOT", nargs="?", default=".")
+    parser.add_argument("--list", action="store_true", help="print the table of names")
+    given = parser.parse_args()
+    show, root = given.list, given.root
+    if not os.path.isdir(os.path.join(root, "crates")):
+        parser.error("'%s' is no checkout" % root)
     to, fields, clash = table(root)
     if show:
         for k, v in sorted(to.items()):
@@ -179,4 +187,4 @@ def main(argv):
 
 
 if __name__ == "__main__":
-    raise SystemExit(main(sys.argv[1:]))
+    sys.exit(main())

@@ -24,7 +24,7 @@ need_python
 need_archive
 
 echo "soak: prepares the library, the program and its inputs; then verdicts for $seconds s"
-find_archive smallwood
+find_archive smallwood_c
 object keccak.o plain/keccak.c
 object converse.o plain/converse.c
 # shellcheck disable=SC2086

@@ -32,7 +32,7 @@ for entry in $entries; do
     [ -n "$(bound "$entry")" ] || fail "include/smallwood.h does not say what stack $entry takes"
 done
 
-find_archive smallwood
+find_archive smallwood_c
 object keccak.o plain/keccak.c
 object plain.o plain/plain.c
 

@@ -25,7 +25,7 @@ need valgrind "to see what depends on secrets"
 need objdump "to look for divisions (Debian: binutils)"
 echo '#include <valgrind/memcheck.h>' | "$CC" -E - > /dev/null 2>&1 ||
     fail "there is no <valgrind/memcheck.h>; it is needed to mark secrets (Debian: valgrind)"
-find_archive smallwood
+find_archive smallwood_c
 
 object keccak.o plain/keccak.c
 object plain.o plain/plain.c

@@ -24,7 +24,7 @@ need_archive
 if [ "$stand_in" = yes ]; then
     CFLAGS="$CFLAGS -fPIC"
 fi
-find_archive smallwood
+find_archive smallwood_c
 
 folder=$build/vectors
 library=$folder/libsmallwood.so
