@@ -1,10 +1,7 @@
 -- Strictly rising lists: each number is below all that follow.
 use Rattle.std.specs.Prelude.{◌≡◌, refl, Bool, true, ◌&&◌, ◌≢◌, ℕ, ◌<◌, ltb}
 use Rattle.std.proofs.Common.{sym, ap₂, ◌∙◌, subst, ⊎_elim, lt_trans, lt_irrefl, ne_of_gt, ltb-true, lt-ltb}
-use mathlib.Core.List.Memᴰ.{cases_cons as in-cons}
-use mathlib.Core.List.Memᴰ.{head as here}
-use mathlib.Core.List.Memᴰ.{not-nil}
-use mathlib.Core.List.Memᴰ.{tail as there}
+use mathlib.Core.List.Memᴰ.{cases_cons as in-cons, head as here, not-nil, tail as there}
 use mathlib.Core.List.{List, [], ◌∷◌, Memᴰ as Mem}
 use Rattle.lists.specs.Choice.{and_true, both_true}
 use Rattle.lists.specs.All.{mem_all, Distinct}

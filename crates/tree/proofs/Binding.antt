@@ -1,7 +1,5 @@
 -- Binding: two openings that give one root agree on every leaf that both open, unless two different strings that they hash share a digest.
-use mathlib.Core.List.Memᴰ.{append_cases as in-cases}
-use mathlib.Core.List.Memᴰ.{append_left as in_left}
-use mathlib.Core.List.Memᴰ.{append_right as in_right}
+use mathlib.Core.List.Memᴰ.{append_cases as in-cases, append_left as in_left, append_right as in_right}
 use mathlib.Core.List.{List, ◌++◌, map, Memᴰ as Mem}
 use mathlib.Core.Logic.{⊎_elim}
 use mathlib.Core.Path.{◌≡◌, sym, ap, ◌∙◌, subst}

@@ -1,10 +1,6 @@
 -- How many nodes are missing: on each level b for each parent, less those of the set; in all at most (b - 1) for each leaf and level.
 use mathlib.Core.Bool.{true, false}
-use mathlib.Core.List.Memᴰ.{append_cases as in-cases}
-use mathlib.Core.List.Memᴰ.{cases_cons}
-use mathlib.Core.List.Memᴰ.{head as here}
-use mathlib.Core.List.Memᴰ.{not-nil}
-use mathlib.Core.List.Memᴰ.{tail as there}
+use mathlib.Core.List.Memᴰ.{append_cases as in-cases, cases_cons, head as here, not-nil, tail as there}
 use mathlib.Core.List.{List, [], ◌∷◌, ◌++◌, Memᴰ as Mem}
 use mathlib.Core.Logic.{⊎_elim}
 use mathlib.Core.Path.{◌≡◌, refl, sym, ap, ◌∙◌}

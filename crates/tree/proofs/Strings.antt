@@ -1,7 +1,6 @@
 -- The strings of nodes: each begins with what it is to begin with, a tree holds their digests, and the root of an opening is that of one of them.
 use mathlib.Core.Path.{◌≡◌, refl, sym, ap, ◌∙◌, subst}
-use mathlib.Core.List.Memᴰ.{append_left as in_left}
-use mathlib.Core.List.Memᴰ.{append_right as in_right}
+use mathlib.Core.List.Memᴰ.{append_left as in_left, append_right as in_right}
 use mathlib.Core.List.{List, ◌++◌, map, flatten, map-map, map-append, append-nil, Memᴰ as Mem}
 use Prim.Native.Nat.{ℕ, zero, suc, ◌/◌, ◌^◌, ◌<◌}
 use native.Mathlib.Nat.{not-suc-le-zero, pow-suc, pow-zero}

@@ -1,6 +1,6 @@
 -- `answers::horner` meets its contract. The invariant: the rows from j on are combined.
 use mathlib.Core.Path.{◌≡◌}
-use Prim.Native.Nat.{◌-◌, ◌<◌}
+use Prim.Native.Nat.{◌<◌}
 use lib.ListN.{length}
 use Rattle.answers.proofs.Combining.{combined_from}
 use Rattle.answers.proofs.horner.Given as goal

@@ -1,6 +1,6 @@
 use mathlib.Core.Path.{ap, ◌∙◌}
 use mathlib.Core.List.{List}
-use Prim.Native.Nat.{ℕ, ◌+◌, ◌-◌}
+use Prim.Native.Nat.{ℕ, ◌+◌}
 use lib.ListN.{get_or, set, length-set}
 use Rattle.lists.specs.Spliced.{spliced_none, copy_next, copy_done}
 use borrow.Author.Rules.{rules}

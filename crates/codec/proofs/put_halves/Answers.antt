@@ -2,7 +2,6 @@ use Rattle.lists.specs.Bytes.{little_endian, length-little_endian}
 use lib.ListN.{get_or}
 use mathlib.Core.Path.{◌∙◌}
 use Rattle.lists.specs.Spliced.{up_to_none, up_to_turn, up_to_all}
-use Prim.Native.Nat.{◌-◌}
 use borrow.Author.Rules.{rules}
 use native.Mathlib.Omega.{arith}
 use Rattle.codec.proofs.put_halves.Goals as goal

@@ -1,6 +1,6 @@
 use mathlib.Core.Path.{refl, ap, ◌∙◌}
 use mathlib.Core.List.{◌++◌}
-use Prim.Native.Nat.{ℕ, ◌-◌}
+use Prim.Native.Nat.{ℕ}
 use lib.ListN.{drop, length-set}
 use Rattle.lists.specs.Pieces.{pieces}
 use Rattle.lists.specs.Numbers.{numbers, read_next}

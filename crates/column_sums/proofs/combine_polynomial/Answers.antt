@@ -1,6 +1,6 @@
 use mathlib.Core.Path.{◌∙◌, ◌≡◌, ap, subst, sym}
 use mathlib.Core.List.{List}
-use Prim.Native.Nat.{◌+◌, ◌-◌, ◌<◌, ◌≤◌, ℕ}
+use Prim.Native.Nat.{◌+◌, ◌<◌, ◌≤◌, ℕ}
 use lib.ListN.{length, get_or, length-set, take}
 use Rattle.lists.specs.Pieces.{piece}
 use Rattle.lists.specs.Fill.{fill_next, fill-rest, filled_none}

@@ -4,7 +4,7 @@ use Rattle.column_sums.specs.Sums.{polynomial_sums}
 use Rattle.lists.specs.Rows.{rows_of}
 use lib.ListN.{drop, length}
 use mathlib.Core.Path.{◌≡◌}
-use Prim.Native.Nat.{◌*◌, ◌+◌, ◌-◌, ◌≤◌}
+use Prim.Native.Nat.{◌*◌, ◌-◌, ◌≤◌}
 use mathlib.Core.List.{◌++◌}
 use Rattle.column_sums.proofs.sum_columns.Given as goal
 

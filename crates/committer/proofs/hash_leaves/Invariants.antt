@@ -1,7 +1,7 @@
 -- `committer::hash_leaves` meets its contract: after i turns the digests of the first i leaves are written.
 use mathlib.Core.Path.{◌≡◌}
 use mathlib.Core.List.{◌++◌}
-use Prim.Native.Nat.{◌+◌, ◌-◌, ◌*◌, ◌≤◌}
+use Prim.Native.Nat.{◌-◌, ◌*◌, ◌≤◌}
 use lib.ListN.{length, drop}
 use Rattle.lists.specs.Rows.{rows_of}
 use Rattle.committer.specs.Clauses.{digest_of}

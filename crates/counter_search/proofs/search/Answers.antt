@@ -1,13 +1,12 @@
 use native.Mathlib.Nat.{not-suc-le-zero}
 use mathlib.Core.Path.{◌∙◌, ◌≡◌, ap, subst, sym}
 use mathlib.Core.List.{List, tail}
-use mathlib.Core.Bool.{false}
 use lib.Seq.{length-take-le}
 use lib.ListN.{take}
 use Rattle.lists.specs.Least.{least_is, least_none}
 use Rattle.counter_search.specs.Tried.{tried_after}
 use Rattle.counter_search.proofs.Tried.{none_next, rest_stays, tail-tried}
-use Prim.Native.Nat.{◌+◌, ◌-◌, ◌<◌, zero-le, ℕ}
+use Prim.Native.Nat.{◌+◌, ◌<◌, zero-le, ℕ}
 use borrow.Author.Rules.{rules}
 use native.Mathlib.Omega.{arith}
 use Rattle.counter_search.proofs.search.Goals as goal

@@ -1,6 +1,5 @@
 -- `counter_search::search` meets its contract: no counter below c qualifies, and the tail's front stays.
 use mathlib.Core.Path.{◌≡◌}
-use mathlib.Core.List.{tail}
 use mathlib.Core.Bool.{false}
 use lib.ListN.{length, take}
 use Rattle.counter_search.specs.Tried.{tried_after}

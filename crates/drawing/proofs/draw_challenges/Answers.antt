@@ -6,7 +6,7 @@ use lib.ListN.{drop, length-set, take}
 use Rattle.lists.specs.Pieces.{pieces}
 use Rattle.lists.specs.Bytes.{from_bytes}
 use Rattle.drawing.proofs.Parts.{challenges_all, challenges_next, challenges_in}
-use Prim.Native.Nat.{◌%◌, ◌*◌, ◌-◌, ◌<◌, ℕ}
+use Prim.Native.Nat.{◌%◌, ◌*◌, ◌<◌, ℕ}
 use Rattle.keccak.specs.Strings.{word}
 use borrow.Author.Rules.{rules}
 use native.Mathlib.Omega.{arith}

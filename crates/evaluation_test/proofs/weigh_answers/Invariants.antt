@@ -1,7 +1,7 @@
 -- `evaluation_test::weigh_answers` meets its contract: after p turns the first p answers are weighed.
 use mathlib.Core.Path.{◌≡◌}
 use mathlib.Core.List.{◌++◌}
-use Prim.Native.Nat.{◌+◌, ◌-◌, ◌*◌, ◌≤◌}
+use Prim.Native.Nat.{◌-◌, ◌*◌, ◌≤◌}
 use lib.ListN.{length, drop}
 use Rattle.lists.specs.Rows.{rows_of}
 use Rattle.evaluation_test.specs.Evaluation.{weighed_row}

@@ -1,6 +1,6 @@
 use mathlib.Core.List.{List}
 use mathlib.Core.Path.{◌≡◌, refl, ◌∙◌, subst}
-use Prim.Native.Nat.{ℕ, ◌+◌, ◌-◌, ◌≤◌}
+use Prim.Native.Nat.{ℕ, ◌+◌, ◌≤◌}
 use Rattle.extrapolation.specs.Extrapolated.{Columns}
 use Rattle.scheme.specs.Layers.{Lent}
 use Rattle.lent.specs.Partly.{lent_rows}

@@ -5,7 +5,6 @@ use lib.ListN.{length}
 use Rattle.stepping.specs.Lanes.{Small}
 use Rattle.extrapolation.specs.Extrapolated.{Columns}
 use Rattle.lent.specs.Partly.{lent_rows}
-use Rattle.scheme.specs.Sizes.{rows}
 use Rattle.commitment.specs.Shape.{sizes_in}
 use Rattle.evaluations.specs.Values.{row_polynomial}
 use Rattle.evaluations.proofs.fill_rows.Given as goal

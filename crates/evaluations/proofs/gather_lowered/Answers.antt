@@ -1,5 +1,5 @@
 use mathlib.Core.Path.{◌≡◌, refl, subst}
-use Prim.Native.Nat.{ℕ, ◌*◌, ◌+◌, ◌-◌, ◌<◌}
+use Prim.Native.Nat.{ℕ, ◌*◌, ◌+◌, ◌<◌}
 use lib.ListN.{get_or, length, length-set}
 use Rattle.algebra.specs.Numbers.{elements_at}
 use Rattle.algebra.specs.Prime.{q}

@@ -1,6 +1,6 @@
 use mathlib.Core.List.{List}
 use mathlib.Core.Path.{◌∙◌, ◌≡◌, ap, refl, subst}
-use Prim.Native.Nat.{ℕ, ◌*◌, ◌-◌}
+use Prim.Native.Nat.{ℕ, ◌*◌}
 use Rattle.stepping.specs.Lanes.{entry}
 use Rattle.scheme.specs.Layers.{Lent, column}
 use Rattle.lent.specs.Partly.{lent_rows}

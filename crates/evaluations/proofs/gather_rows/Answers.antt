@@ -1,5 +1,5 @@
 use mathlib.Core.Path.{◌≡◌, refl, ◌∙◌, subst}
-use Prim.Native.Nat.{ℕ, ◌-◌}
+use Prim.Native.Nat.{ℕ}
 use Rattle.lent.specs.Partly.{lent_rows}
 use Rattle.commitment.specs.Shape.{sizes_in}
 use Rattle.evaluations.specs.Values.{RowLanes}

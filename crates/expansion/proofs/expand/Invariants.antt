@@ -1,7 +1,7 @@
 -- `expansion::expand` meets its contract. The invariant: the form from the point k on is expanded, and k is a multiple of 4.
 use mathlib.Core.Path.{◌≡◌}
 use mathlib.Core.List.{List}
-use Prim.Native.Nat.{ℕ, ◌+◌, ◌-◌, ◌%◌, ◌≤◌, ◌<◌}
+use Prim.Native.Nat.{ℕ, ◌+◌, ◌%◌, ◌≤◌, ◌<◌}
 use lib.ListN.{length}
 use Rattle.algebra.specs.Divided.{expanded}
 use Rattle.expansion.proofs.expand.Given as goal

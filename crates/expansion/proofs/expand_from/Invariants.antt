@@ -1,7 +1,7 @@
 -- `expansion::expand_from` meets its contract. The invariant: the form from the point k on is expanded.
 use mathlib.Core.Path.{◌≡◌}
 use mathlib.Core.List.{List}
-use Prim.Native.Nat.{ℕ, ◌-◌, ◌<◌}
+use Prim.Native.Nat.{ℕ, ◌<◌}
 use lib.ListN.{length}
 use Rattle.lists.specs.Range.{up_from}
 use Rattle.algebra.specs.Divided.{expanded}

@@ -1,6 +1,6 @@
 -- `expansion::expand_singly` meets its contract. The invariant: the form from the point k on is expanded.
 use mathlib.Core.Path.{◌≡◌}
-use Prim.Native.Nat.{◌-◌, ◌≤◌}
+use Prim.Native.Nat.{◌≤◌}
 use lib.ListN.{length}
 use Rattle.algebra.specs.Divided.{expanded}
 use Rattle.expansion.proofs.expand_singly.Given as goal

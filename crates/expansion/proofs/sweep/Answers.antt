@@ -1,5 +1,5 @@
 use mathlib.Core.Path.{refl}
-use Prim.Native.Nat.{ℕ, ◌*◌, ◌-◌, ◌%◌}
+use Prim.Native.Nat.{ℕ, ◌*◌, ◌%◌}
 use lib.ListN.{get_or, length-set}
 use Rattle.algebra.specs.Prime.{q}
 use Rattle.algebra.specs.Divided.{sweep_turn, sweep_done}

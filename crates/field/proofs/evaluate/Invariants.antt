@@ -1,6 +1,6 @@
 -- `field::evaluate` meets its contract. The invariant: the value of the coefficients from i on.
 use mathlib.Core.Path.{◌≡◌}
-use Prim.Native.Nat.{◌≤◌, ◌-◌}
+use Prim.Native.Nat.{◌≤◌}
 use lib.ListN.{length, drop}
 use Rattle.algebra.specs.Numbers.{eval_n}
 use Rattle.field.proofs.evaluate.Given as goal

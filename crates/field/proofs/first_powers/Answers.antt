@@ -1,5 +1,5 @@
 use mathlib.Core.Path.{◌≡◌, refl, ◌∙◌, ap, subst}
-use Prim.Native.Nat.{ℕ, ◌-◌}
+use Prim.Native.Nat.{ℕ}
 use lib.ListN.{length, length-set}
 use Rattle.algebra.specs.Columns.{pow_n, pow_n_start, pow_n_turn}
 use Rattle.lists.specs.Fill.{Filled, filled_none, filled_is, fill_next}

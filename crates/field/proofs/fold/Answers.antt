@@ -1,6 +1,6 @@
 use mathlib.Core.Path.{◌≡◌, refl, sym, ◌∙◌, subst}
 use mathlib.Core.List.{List}
-use Prim.Native.Nat.{ℕ, ◌-◌}
+use Prim.Native.Nat.{ℕ}
 use lib.ListN.{length, length-set}
 use Rattle.algebra.specs.Dot.{accumulated_at, folded_turn, accumulate_n_is}
 use Rattle.lists.specs.Fill.{Filled, entry_of, filled_none, filled_own, filled_is, fill_next, fill-rest}

@@ -1,6 +1,6 @@
 -- `field::inverse` meets its contract. The invariant: a times k leaves r modulo q. Each step puts q % r for r; q is prime, so r stays above 0.
 use mathlib.Core.Path.{◌≡◌}
-use Prim.Native.Nat.{◌<◌, ◌*◌, ◌-◌, ◌%◌}
+use Prim.Native.Nat.{◌<◌, ◌*◌, ◌%◌}
 use Rattle.algebra.specs.Prime.{q}
 use Rattle.field.proofs.inverse.Given as goal
 

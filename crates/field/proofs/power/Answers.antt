@@ -1,5 +1,4 @@
 use mathlib.Core.Path.{◌≡◌, ◌∙◌, ap}
-use Prim.Native.Nat.{◌-◌}
 use Rattle.algebra.specs.Columns.{pow_n, pow_n_start, pow_n_turn}
 use native.Mathlib.Omega.{arith}
 use Rattle.field.proofs.power.Goals as goal

@@ -1,6 +1,6 @@
 use mathlib.Core.Path.{◌≡◌, refl, subst}
 use mathlib.Core.List.{List}
-use Prim.Native.Nat.{ℕ, ◌-◌}
+use Prim.Native.Nat.{ℕ}
 use lib.ListN.{length, length-set}
 use Rattle.lists.specs.Fill.{Filled, entry_of, filled_none, filled_copy, fill_next}
 use native.Mathlib.Omega.{arith}

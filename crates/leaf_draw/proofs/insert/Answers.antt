@@ -2,7 +2,7 @@ use mathlib.Core.List.{List}
 use mathlib.Core.Path.{◌≡◌, ◌∙◌, ap₂, ap}
 use lib.ListN.{length-set, set, get_or}
 use Rattle.leaf_draw.proofs.Moved.{insert_none, carried_first, insert_next, up_to, carried_next, carried_at, insert_all}
-use Prim.Native.Nat.{◌-◌, ℕ}
+use Prim.Native.Nat.{ℕ}
 use borrow.Author.Rules.{rules}
 use native.Mathlib.Omega.{arith}
 use Rattle.leaf_draw.proofs.insert.Goals as goal

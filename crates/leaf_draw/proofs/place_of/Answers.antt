@@ -3,7 +3,7 @@ use Rattle.leaf_draw.specs.Place.{place_of}
 use Rattle.leaf_draw.proofs.Place.{walk_stop, walk_on, walk_end}
 use lib.ListN.{length, drop_of_length-le}
 use mathlib.Core.Path.{ap, sym, ◌∙◌, ◌≡◌}
-use Prim.Native.Nat.{◌-◌, ℕ, ◌+◌}
+use Prim.Native.Nat.{ℕ, ◌+◌}
 use borrow.Author.Rules.{rules}
 use native.Mathlib.Omega.{arith}
 use Rattle.leaf_draw.proofs.place_of.Goals as goal

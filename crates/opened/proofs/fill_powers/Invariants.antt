@@ -1,7 +1,7 @@
 -- `opened::fill_powers` meets its contract: after a turns the first a rows are written.
 use mathlib.Core.Path.{◌≡◌}
 use mathlib.Core.List.{◌++◌}
-use Prim.Native.Nat.{◌+◌, ◌-◌, ◌*◌, ◌≤◌}
+use Prim.Native.Nat.{◌-◌, ◌*◌, ◌≤◌}
 use lib.ListN.{length, drop}
 use Rattle.lists.specs.Rows.{rows_of}
 use Rattle.opened.specs.Powers.{powers_at}

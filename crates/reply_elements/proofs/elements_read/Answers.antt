@@ -1,12 +1,10 @@
 -- `reply_elements::elements_read` meets its contract.
-use mathlib.Core.Path.{sym, ◌∙◌}
-use mathlib.Core.Bool.{Bool}
+use mathlib.Core.Path.{sym, ◌∙◌, ap}
+use mathlib.Core.Bool.{Bool, not}
 use borrow.Author.Tests.{not-false}
 use Rattle.lists.specs.Tests.{each, every_first, every_second, every_last}
 use Rattle.scheme.specs.Sizes.{elements}
 use Rattle.reply_elements.specs.Elements.{record_elements_at}
-use mathlib.Core.Path.{ap}
-use mathlib.Core.Bool.{not}
 use Rattle.reply_elements.proofs.elements_read.Goals as goal
 
 pub returns-then-not-elements_ok : goal.returns-then-not-elements_ok

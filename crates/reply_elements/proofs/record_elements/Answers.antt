@@ -1,6 +1,5 @@
 use mathlib.Core.Path.{◌≡◌, sym, ◌∙◌}
-use mathlib.Core.Bool.{true}
-use Prim.Native.Nat.{◌+◌, ◌-◌, ◌*◌}
+use Prim.Native.Nat.{◌+◌, ◌*◌}
 use Rattle.lists.specs.Tests.{each_next, each_stop, each_none}
 use Rattle.reply_elements.specs.Elements.{record_elements_at}
 use Rattle.lists.specs.Parts.{row_fits, span_length}

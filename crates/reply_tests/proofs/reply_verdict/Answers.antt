@@ -26,7 +26,11 @@ length_for-requires c =
 pub returns-then-reply-length_for : goal.returns-then-reply-length_for
 returns-then-reply-length_for c =
     let s = c.args in
-    let u = posed (sizes_in s.s) s.root.now s.salt.now s.challenges.now s.points.now s.indices.now in record { verdict_value = c.say.ensures.0 ∙ say_7 (sizes_in s.s) s.root.now s.salt.now s.challenges.now s.points.now s.indices.now s.reply.now c.requires c.length_for.result c.length_for.ensures c.if-reply-length_for.true; permutations_value = said_work u c.say.ensures.0 c.say.ensures.1 (no_work u 7 before_hashing.1.1.1.1.1.1.0) }
+    let u = posed (sizes_in s.s) s.root.now s.salt.now s.challenges.now s.points.now s.indices.now in record {
+      verdict_value = c.say.ensures.0
+          ∙ say_7 (sizes_in s.s) s.root.now s.salt.now s.challenges.now s.points.now s.indices.now s.reply.now c.requires c.length_for.result c.length_for.ensures c.if-reply-length_for.true;
+      permutations_value = said_work u c.say.ensures.0 c.say.ensures.1 (no_work u 7 before_hashing.1.1.1.1.1.1.0);
+    }
 
 pub read_verdict-requires : goal.read_verdict-requires
 read_verdict-requires c =

@@ -1,5 +1,5 @@
 -- `reply_tests::words_verdict` meets its contract: the first test that fails says its number.
-use mathlib.Core.Path.{sym, ◌∙◌}
+use mathlib.Core.Path.{sym, ◌∙◌, ap}
 use borrow.Author.Tests.{not-false}
 use Rattle.scheme.proofs.Work.{after_hashing_lem, before_hashing}
 use Rattle.commitment.specs.Shape.{sizes_in}
@@ -7,7 +7,6 @@ use Rattle.commitment.proofs.Places.{record_high}
 use Rattle.reply_tests.specs.Posed.{posed}
 use Rattle.reply_tests.proofs.Verdicts.{said_work, no_work, work-posed, say_3, say_8, say_9, say_10, say_0, index_set, root_fits, elements-tested, root_tested, batching_tested, evaluation_tested, elements_asks, batching_asks, evaluation_asks}
 use native.Mathlib.Omega.{arith}
-use mathlib.Core.Path.{ap}
 use mathlib.Core.Bool.{not}
 use Rattle.reply_tests.proofs.words_verdict.Goals as goal
 

@@ -1,7 +1,7 @@
 -- `reply_values::all_values` meets its contract: after p turns the values of the first p points are written.
 use mathlib.Core.Path.{◌≡◌}
 use mathlib.Core.List.{◌++◌}
-use Prim.Native.Nat.{◌+◌, ◌-◌, ◌*◌, ◌≤◌}
+use Prim.Native.Nat.{◌-◌, ◌*◌, ◌≤◌}
 use lib.ListN.{length, drop}
 use Rattle.lists.specs.Bytes.{words}
 use Rattle.lists.specs.Rows.{rows_of}

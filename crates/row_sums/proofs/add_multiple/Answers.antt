@@ -1,5 +1,5 @@
 use mathlib.Core.Path.{◌≡◌, refl, subst}
-use Prim.Native.Nat.{ℕ, ◌+◌, ◌-◌, ◌/◌, ◌%◌}
+use Prim.Native.Nat.{ℕ, ◌+◌, ◌/◌, ◌%◌}
 use lib.ListN.{length, get_or, length-set}
 use Rattle.lists.specs.Fill.{Filled, entry_of, filled_none, filled_own, fill_next, fill-rest}
 use Rattle.algebra.specs.Dot.{split, low_fits, high_fits}

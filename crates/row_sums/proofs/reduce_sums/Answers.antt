@@ -1,5 +1,5 @@
 use mathlib.Core.Path.{◌≡◌, refl, subst}
-use Prim.Native.Nat.{ℕ, ◌-◌, ◌<◌}
+use Prim.Native.Nat.{ℕ, ◌<◌}
 use lib.ListN.{length, length-set}
 use Rattle.lists.specs.All.{all_at}
 use Rattle.lists.specs.Fill.{Filled, filled_none, filled_is, fill_next}

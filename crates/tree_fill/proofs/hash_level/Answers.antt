@@ -1,5 +1,4 @@
 use mathlib.Core.Path.{refl}
-use Prim.Native.Nat.{◌-◌}
 use native.Mathlib.Nat.{mul_assoc, le_refl}
 use native.Mathlib.Omega.{arith}
 use Rattle.sponge.specs.Digest.{digest-length}

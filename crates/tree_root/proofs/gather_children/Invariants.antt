@@ -1,5 +1,4 @@
 -- `gather_children` meets its contract.
-use Prim.Native.Nat.{◌-◌}
 use lib.ListN.{length, take}
 use Rattle.tree.specs.Tree.{parts, all_parts}
 use Rattle.tree_root.proofs.Gathering.{Gathering}
