@@ -301,7 +301,7 @@ CLAUSE = re.compile(r"\b(?:(?:requires|ensures|invariant|decreases)\*?(?:\s+\w+)
 ITEM = re.compile(r"^(?P<pub>pub )?(?:extern \"C\" )?(?P<kind>fn|const|static|struct|enum) (?P<name>\w+)")
 USE = re.compile(r"^(?:pub )?use ([^;]*);", re.M)
 ENTRY = "#[unsafe(no_mangle)]"
-TRAITS = {"Read", "Write", "BufRead"}  # the kit's, which code uses by their methods
+TRAITS = {"Read", "Write", "BufRead", "Env"}  # the kit's, which code uses by their methods
 
 
 def without_comments(text):

@@ -5,7 +5,7 @@ ghost use Rattle.std.specs.Prelude.{◌≡◌, ◌≤◌, length};
 
 use std::env::FillError;
 use std::io::{ErrorKind, Read};
-use std::rt::Files;
+use std::rt::{Env, Files};
 use std::{fs, io, str};
 
 // Room for what is read, and for what is printed.

@@ -9,7 +9,7 @@ use commitment::{Shape, question_length};
 use question::{Questioned, header};
 use std::env::FillError;
 use std::io::{ErrorKind, Read};
-use std::rt::Files;
+use std::rt::{Env, Files};
 use std::{fs, io, str};
 
 const MOST_POINTS: usize = 8;
