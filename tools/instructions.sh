@@ -33,9 +33,10 @@ conditions='a ae b be e g ge l le ne no np ns o p s'
 
 # Where ud2, which stops a program, may stand: once in each of these functions, behind a branch that is taken where a
 # divisor is 0. The contracts exclude that, and the proofs hold every caller to them; the compiler does not know.
+#     evaluation_test::tabled_walk barycentric::inverses in it: q modulo k as a u32, where a table has over 2^32 entries
 #     leaf_draw::draw_leaves       a word modulo leaves - j, where more leaves are drawn than there are
 #     reply_tests::read_verdict    horner::evaluate_by in it: the width divided by a span of 0, where the width is 0
-stops='leaf_draw::draw_leaves reply_tests::read_verdict'
+stops='evaluation_test::tabled_walk leaf_draw::draw_leaves reply_tests::read_verdict'
 
 # list ARCHIVE: its code, a line for each instruction
 list() {
