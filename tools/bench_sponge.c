@@ -1,4 +1,4 @@
-/* Cost of SHAKE256 with 32 bytes of output: the archive of crate sponge_bench beside plain/keccak.c and OpenSSL
+/* Cost of SHAKE256 with 32 bytes of output: the archive of crate sponge_bench_c beside plain/keccak.c and OpenSSL
  * (plain/evp.c), and beside an older archive, on the same strings in one run.
  *
  *     bench_sponge                    time of a permutation at five lengths, in Markdown, if all peers agree

@@ -4,7 +4,7 @@
 #
 #     tools/bench_sponge.sh
 #
-#     --archive FILE     measures this archive of crate sponge_bench and does not build it
+#     --archive FILE     measures this archive of crate sponge_bench_c and does not build it
 #     --before FILE      measures this older archive of it too, in the same runs: the tables have it as `before`
 #
 # Needs gcc, OpenSSL with its headers (libssl-dev), rt unless an archive is given, and binutils for --before. It fails
@@ -20,7 +20,7 @@ need_compiler
 need_archive
 need_before
 has_openssl EVP_shake256 || fail "OpenSSL's headers are not installed (Debian: libssl-dev)"
-find_archive sponge_bench
+find_archive sponge_bench_c
 find_before sponge_bench
 
 object keccak.o plain/keccak.c

@@ -1,6 +1,6 @@
 -- The values at a place of the basis of interpolation: at n points, the polynomials that are 1 at one point and 0 at the others. Over consecutive points by the table.
-use Rattle.std.specs.Prelude.{◌≡◌, refl, List, [], ◌∷◌, map, ℕ, zero, suc, ◌+◌, ◌-◌, ◌≤◌, ◌<◌, length, get_or, replicate}
-use Rattle.std.proofs.Common.{sym, ◌∙◌, ap, ap₂, not-suc-le-zero, suc-ne-zero, add-suc, add-zero, zero-add, arith}
+use Rattle.std.specs.Prelude.{◌≡◌, refl, List, [], ◌∷◌, map, ℕ, zero, suc, ◌+◌, ◌≤◌, ◌<◌, length, get_or, replicate}
+use Rattle.std.proofs.Common.{sym, ◌∙◌, ap, ap₂, not-suc-le-zero, suc-ne-zero, add-suc, arith}
 use Rattle.std.proofs.Math.Nat.{suc_inj}
 use Rattle.std.proofs.lemmas.List.{length-map, length-replicate}
 use Rattle.lists.specs.All.{Distinct}
@@ -8,13 +8,12 @@ use Rattle.algebra.specs.Prime.{q}
 use Rattle.algebra.specs.Field.{K, of, of_one, ◌⊕◌, ◌⊗◌, 𝟎, 𝟏, dv, ring, dif_path, ⊗-assoc}
 use Rattle.algebra.specs.Poly.{eval, prod}
 use Rattle.algebra.specs.Interp.{dot, bases, length-bases, eval-interp, interp, interp_of_values}
-use Rattle.algebra.specs.Lagrange.{elements_from, down_to, weight, Weights, lsum, lagrange, weights, elements_from_distinct, from_zero}
+use Rattle.algebra.specs.Lagrange.{elements_from, down_to, weight, Weights, lsum, lagrange, weights, elements_from_distinct}
 use Rattle.algebra.specs.Numbers.{eval_n, of_eval_n, ofs, ofs-vals, interp_n}
-use Rattle.algebra.specs.Table.{table_size, inverse_factorial, table}
 use Rattle.lists.specs.Range.{up_from, length-up_from}
 
 -- ---- Lagrange's values: each weight times the differences of z to the other points
-lvals : List K → List K → List K → K → List K
+pub lvals : List K → List K → List K → K → List K
 lvals pre [] ws z = []
 lvals pre (x ∷ post) [] z = []
 lvals pre (x ∷ post) (w ∷ ws) z = (w ⊗ (prod pre z ⊗ prod post z)) ∷ lvals (x ∷ pre) post ws z
@@ -65,7 +64,7 @@ dot_ext (b ∷ bs) (c ∷ cs) l h =
     tail : (b c : K) (ys bs cs : List K) → dot (𝟎 ∷ ys) (b ∷ bs) ≡ dot (𝟎 ∷ ys) (c ∷ cs) → dot ys bs ≡ dot ys cs
     tail b c ys bs cs e = sym (none b (dot ys bs)) ∙ e ∙ none c (dot ys cs)
 
-basis_values : (xs ws : List K) (z : K) → Distinct xs → Weights ws [] xs → map (λ (b : List K). eval b z) (bases xs) ≡ lvals [] xs ws z
+pub basis_values : (xs ws : List K) (z : K) → Distinct xs → Weights ws [] xs → map (λ (b : List K). eval b z) (bases xs) ≡ lvals [] xs ws z
 basis_values xs ws z d h =
     dot_ext _ _ (len ∙ sym (length-lvals [] xs ws z h))
     (λ (ys : List K) (e : length ys ≡ length (map (λ (b : List K). eval b z) (bases xs))). sym (eval-interp xs ys z) ∙ lagrange xs ws ys (e ∙ len) d h z ∙ lsum-dot [] xs ws ys z)
@@ -74,7 +73,7 @@ basis_values xs ws z d h =
     len = length-map (bases xs) (λ (b : List K). eval b z) ∙ length-bases xs
 
 -- ---- over consecutive points: j points below, r above
-lvals_at : (T : ℕ → K) (a i m k : ℕ) (z : K) (j r : ℕ) → j ≡ i + k → r + suc k ≡ m
+pub lvals_at : (T : ℕ → K) (a i m k : ℕ) (z : K) (j r : ℕ) → j ≡ i + k → r + suc k ≡ m
     → get_or (lvals (down_to a i) (elements_from (a + i) m) (weights T i m) z) k 𝟎 ≡ weight T j r ⊗ (prod (down_to a j) z ⊗ prod (elements_from (suc (a + j)) r) z)
 unfolding lvals elements_from weights down_to
 lvals_at T a i zero k z j r e f = absurd (suc-ne-zero (r + k) (sym (add-suc r k) ∙ f))
@@ -86,20 +85,10 @@ lvals_at T a i (suc m) (suc k) z j r e f =
     ap (λ (p : ℕ). get_or (lvals (down_to a (suc i)) (elements_from p m) (weights T (suc i) m) z) k 𝟎) (sym (add-suc a i))
     ∙ lvals_at T a (suc i) m k z j r (omega arith) (omega arith)
 
-ofs-points : (a n : ℕ) → ofs (up_from a n) ≡ elements_from a n
+pub ofs-points : (a n : ℕ) → ofs (up_from a n) ≡ elements_from a n
 unfolding up_from elements_from
 ofs-points a zero = refl
 ofs-points a (suc n) = ap (λ (t : List K). of a ∷ t) (ofs-points (suc a) n)
-
-pub basis_at : (a x n c : ℕ) → c < n → n ≤ table_size → a + n ≤ q
-    → get_or (map (λ (b : List K). eval b (of x)) (bases (ofs (up_from a n)))) c 𝟎
-    ≡ weight inverse_factorial c (n - suc c) ⊗ (prod (down_to a c) (of x) ⊗ prod (elements_from (suc (a + c)) (n - suc c)) (of x))
-unfolding down_to
-basis_at a x n c l u v =
-    ap (λ (t : List K). get_or (map (λ (b : List K). eval b (of x)) (bases t)) c 𝟎) (ofs-points a n)
-    ∙ ap (λ (t : List K). get_or t c 𝟎) (basis_values (elements_from a n) (weights inverse_factorial 0 n) (of x) (elements_from_distinct a n v) (from_zero inverse_factorial table_size table a n u))
-    ∙ ap (λ (p : ℕ). get_or (lvals [] (elements_from p n) (weights inverse_factorial 0 n) (of x)) c 𝟎) (sym (add-zero a))
-    ∙ lvals_at inverse_factorial a 0 n c (of x) c (n - suc c) (sym (zero-add c)) (omega arith)
 
 -- ---- the values 1 have the polynomial 1
 eval_none : (k : ℕ) (z : K) → eval (replicate k 𝟎) z ≡ 𝟎

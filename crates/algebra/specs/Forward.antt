@@ -1,19 +1,18 @@
 -- Interpolation over consecutive points by forward differences: the coefficient k of Newton's form is the difference k at the first point over k factorial.
-use Rattle.std.specs.Prelude.{◌≡◌, refl, List, [], ◌∷◌, ℕ, zero, suc, ◌+◌, ◌*◌, ◌%◌, ◌≤◌, ◌<◌, length, get_or, take}
-use Rattle.std.proofs.Common.{sym, ◌∙◌, ap, ap₂, not-suc-le-zero, mod-lt, add-zero, zero-add, suc-add, add-suc, arith, lit<}
-use Rattle.std.proofs.Math.Seq.{take-length}
-use Rattle.lists.specs.Range.{up_from, length-up_from, up_from_at, up_from_below, up_from_distinct}
-use Rattle.lists.specs.Tabulate.{tabulate, tabulate_from, length-tabulate}
+use Rattle.std.specs.Prelude.{◌≡◌, refl, List, [], ◌∷◌, ℕ, zero, suc, ◌+◌, ◌*◌, ◌%◌, ◌≤◌, ◌<◌, length, get_or}
+use Rattle.std.proofs.Common.{sym, ◌∙◌, ap, ap₂, not-suc-le-zero, mod-lt, add-zero, suc-add, add-suc, arith, lit<}
+use Rattle.lists.specs.Range.{up_from}
+use Rattle.lists.specs.Tabulate.{tabulate, tabulate_from}
 use Rattle.algebra.specs.Prime.{q}
 use Rattle.algebra.specs.Field.{K, of, of_add, of_mul, of_one, of_suc, of_zero, ◌⊕◌, ◌⊗◌, ◌⊝◌, 𝟎, 𝟏, dv, ring, dif_path, ⊕-zero, ⊕-⊝}
 use Rattle.algebra.specs.Lagrange.{Table}
 use Rattle.algebra.specs.Differences.{difference, difference_n, of_difference_n}
-use Rattle.algebra.specs.Table.{table_size, inverse_factorials, inverse_factorial, inverse_factorial_is, table}
-use Rattle.algebra.specs.Numbers.{ofs, Elements, elements_at, interp_n, of_injective}
-use Rattle.algebra.specs.Divided.{sub_n, of_sub_n, of_mod, nev_n, nev_n_below, nform_n, nform_n-interp_n, Good}
+use Rattle.algebra.specs.Table.{inverse_factorials, inverse_factorial, inverse_factorial_is}
+use Rattle.algebra.specs.Numbers.{ofs, Elements}
+use Rattle.algebra.specs.Divided.{sub_n, of_sub_n, of_mod, nev_n}
 
 -- ---- sums of falling powers, c₀ + z (c₁ + (z - 1) (c₂ + ..))
-falling : List K → K → K
+pub falling : List K → K → K
 falling [] z = 𝟎
 falling (c ∷ cs) z = c ⊕ z ⊗ falling cs (z ⊝ 𝟏)
 
@@ -60,7 +59,7 @@ falling_next c (d ∷ ds) z =
 
 -- ---- Newton's forward formula
 -- n coefficients from the number m on: D over factorials
-over : (ℕ → K) → (ℕ → K) → ℕ → ℕ → List K
+pub over : (ℕ → K) → (ℕ → K) → ℕ → ℕ → List K
 over T D zero m = []
 over T D (suc n) m = (D m ⊗ T m) ∷ over T D n (suc m)
 
@@ -88,7 +87,7 @@ falling_over T D E (suc n) m z =
     step : (d e t z f g : K) → (d ⊝ e) ⊗ t ⊕ z ⊗ (f ⊝ g) ≡ (d ⊗ t ⊕ z ⊗ f) ⊝ (e ⊗ t ⊕ z ⊗ g)
     step d e t z f g = rw (← dv d, ← dv e, ← dv t, ← dv z, ← dv f, ← dv g) (simp ring (dif_path _ _ _ _ (omega arith)))
 
-newton_forward : (T : ℕ → K) (size : ℕ) → Table T size → (f : ℕ → K) (j i n : ℕ) → j ≤ n → n < size → falling (over T (λ k. difference k f i) (suc n) 0) (of j) ≡ f (i + j)
+pub newton_forward : (T : ℕ → K) (size : ℕ) → Table T size → (f : ℕ → K) (j i n : ℕ) → j ≤ n → n < size → falling (over T (λ k. difference k f i) (suc n) 0) (of j) ≡ f (i + j)
 unfolding falling over difference
 newton_forward T size h f zero i n l u =
     ap₂ (λ (t z : K). f i ⊗ t ⊕ z ⊗ falling (over T (λ k. difference k f i) n 1) (z ⊝ 𝟏)) h.first of_zero
@@ -112,7 +111,7 @@ newton_forward T size h f (suc j) i (suc n) l u =
 abbrev pub newton_n : List ℕ → ℕ → ℕ
 newton_n ys k = difference_n ys k 0 * get_or inverse_factorials k 0 % q
 
-ofs-newton_n : (ys : List ℕ) → Elements ys → (m n : ℕ) → ofs (tabulate_from m n (newton_n ys)) ≡ over inverse_factorial (λ k. difference k (λ j. of (get_or ys j 0)) 0) n m
+pub ofs-newton_n : (ys : List ℕ) → Elements ys → (m n : ℕ) → ofs (tabulate_from m n (newton_n ys)) ≡ over inverse_factorial (λ k. difference k (λ j. of (get_or ys j 0)) 0) n m
 unfolding over
 ofs-newton_n ys b m zero = refl
 ofs-newton_n ys b m (suc n) =
@@ -124,11 +123,11 @@ newton_n_below : (ys : List ℕ) (m n : ℕ) → Elements (tabulate_from m n (ne
 newton_n_below ys m zero = tt
 newton_n_below ys m (suc n) = (mod-lt _ (lit< tt), newton_n_below ys (suc m) n)
 
-elements-newton_n : (ys : List ℕ) (n : ℕ) → Elements (tabulate n (newton_n ys))
+pub elements-newton_n : (ys : List ℕ) (n : ℕ) → Elements (tabulate n (newton_n ys))
 elements-newton_n ys n = newton_n_below ys 0 n
 
 -- Newton's form over consecutive points is a sum of falling powers
-of_nev_n_up : (a : ℕ) (cs : List ℕ) (z : ℕ) → a + length cs ≤ q → of (nev_n (up_from a (length cs)) cs z) ≡ falling (ofs cs) (of z ⊝ of a)
+pub of_nev_n_up : (a : ℕ) (cs : List ℕ) (z : ℕ) → a + length cs ≤ q → of (nev_n (up_from a (length cs)) cs z) ≡ falling (ofs cs) (of z ⊝ of a)
 unfolding nev_n up_from falling
 of_nev_n_up a [] z l = of_zero
 of_nev_n_up a (c ∷ cs) z l =
@@ -140,30 +139,3 @@ of_nev_n_up a (c ∷ cs) z l =
   where
     apart : (z a : K) → z ⊝ (a ⊕ 𝟏) ≡ z ⊝ a ⊝ 𝟏
     apart z a = rw (← dv z, ← dv a) (simp ring (dif_path _ _ _ _ (omega arith)))
-
-newton_value : (a : ℕ) (ys : List ℕ) (n j : ℕ) → Elements ys → n ≤ table_size → a + n ≤ q → j < n → nev_n (up_from a n) (tabulate n (newton_n ys)) (a + j) ≡ get_or ys j 0
-newton_value a ys zero j b l u m = absurd (not-suc-le-zero m)
-newton_value a ys (suc n) j b l u m =
-    of_injective _ _ (nev_n_below (up_from a (suc n)) (tabulate (suc n) (newton_n ys)) (a + j)) (elements_at ys b j)
-    (ap (λ (k : ℕ). of (nev_n (up_from a k) (tabulate (suc n) (newton_n ys)) (a + j))) (sym (length-tabulate (suc n) (newton_n ys)))
-    ∙ of_nev_n_up a (tabulate (suc n) (newton_n ys)) (a + j) (omega (arith, length-tabulate (suc n) (newton_n ys)))
-    ∙ ap₂ falling (ofs-newton_n ys b 0 (suc n)) (ap (λ (t : K). t ⊝ of a) (sym (of_add a j)) ∙ behind (of a) (of j))
-    ∙ newton_forward inverse_factorial table_size table (λ i. of (get_or ys i 0)) j 0 n (omega arith) (omega arith)
-    ∙ ap (λ (i : ℕ). of (get_or ys i 0)) (zero-add j))
-  where
-    behind : (a j : K) → a ⊕ j ⊝ a ≡ j
-    behind a j = rw (← dv a, ← dv j) (simp ring (dif_path _ _ _ _ (omega arith)))
-
--- Newton's form by differences, expanded, is the interpolation
-pub forward_interp_n : (a n : ℕ) (ys : List ℕ) → Elements ys → length ys ≡ n → n ≤ table_size → a + n ≤ q → nform_n (up_from a n) (tabulate n (newton_n ys)) ≡ interp_n (up_from a n) ys
-forward_interp_n a n ys b e l u =
-    nform_n-interp_n (up_from a n) ys (tabulate n (newton_n ys)) (up_from_below a n q u) (up_from_distinct a n) b (elements-newton_n ys n)
-    (length-tabulate n (newton_n ys) ∙ sym (length-up_from a n)) (e ∙ sym (length-up_from a n)) good
-  where
-    good : Good (up_from a n) ys (tabulate n (newton_n ys)) (length (up_from a n))
-    good j m =
-        let k : j < n = omega (arith, length-up_from a n) in
-        ap₂ (λ (s t : List ℕ). nev_n s t (get_or (up_from a n) j 0)) (take-length (up_from a n))
-        (ap (λ (i : ℕ). take i (tabulate n (newton_n ys))) (length-up_from a n ∙ sym (length-tabulate n (newton_n ys))) ∙ take-length (tabulate n (newton_n ys)))
-        ∙ ap (nev_n (up_from a n) (tabulate n (newton_n ys))) (up_from_at a n j k)
-        ∙ newton_value a ys n j b l u k

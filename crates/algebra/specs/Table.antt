@@ -1,10 +1,8 @@
 -- The table of 320 inverse factorials modulo q, and its rule, shown by one computed test.
 use Rattle.std.specs.Prelude.{◌≡◌, refl, Bool, true, List, [], ◌∷◌, ℕ, zero, suc, ◌+◌, ◌*◌, ◌%◌, ◌<◌, T, eqb, length, get_or, drop}
-use Rattle.std.proofs.Common.{sym, ◌∙◌, ap, not-suc-le-zero, le_of_suc-le-suc, add-zero, suc-add, add-suc, one-add, eqb→eq}
-use Rattle.std.proofs.Math.Nat.{mod-mod}
+use Rattle.std.proofs.Common.{sym, ◌∙◌, ap, not-suc-le-zero, le_of_suc-le-suc, add-zero, suc-add, add-suc, eqb→eq}
 use Rattle.algebra.specs.Prime.{q, both, both_left, both_right}
-use Rattle.algebra.specs.Field.{K, of, of_mul, of_path, of_one, ◌⊗◌, 𝟏}
-use Rattle.algebra.specs.Lagrange.{Table}
+use Rattle.algebra.specs.Field.{K, of, of_one, 𝟏}
 
 unfoldable pub inverse_factorials : List ℕ
 inverse_factorials =
@@ -43,15 +41,15 @@ inverse_factorials =
     ∷ []
 
 -- each entry, from the place i on, times its place is the entry before it, x
-follows : ℕ → ℕ → List ℕ → Bool
+pub follows : ℕ → ℕ → List ℕ → Bool
 follows i x [] = true
 follows i x (y ∷ ys) = both (eqb (y * i % q) x) (follows (suc i) y ys)
 
-table_test : T (follows 1 1 (drop 1 inverse_factorials))
+pub table_test : T (follows 1 1 (drop 1 inverse_factorials))
 unfolding follows both inverse_factorials
 table_test = tt
 
-follows_at : (ys : List ℕ) (i x : ℕ) → T (follows i x ys) → (k : ℕ) → k < length ys → get_or ys k 0 * (i + k) % q ≡ get_or (x ∷ ys) k 0
+pub follows_at : (ys : List ℕ) (i x : ℕ) → T (follows i x ys) → (k : ℕ) → k < length ys → get_or ys k 0 * (i + k) % q ≡ get_or (x ∷ ys) k 0
 unfolding follows
 follows_at [] i x t k l = absurd (not-suc-le-zero l)
 follows_at (y ∷ ys) i x t zero l = rw add-zero (eqb→eq (y * i % q) x (both_left _ (follows (suc i) y ys) t))
@@ -68,20 +66,6 @@ inverse_factorial_is t = refl
 abbrev pub table_size : ℕ
 table_size = 320
 
-rule : (k : ℕ) → suc k < table_size → get_or inverse_factorials (suc k) 0 * suc k % q ≡ get_or inverse_factorials k 0
-unfolding inverse_factorials
-rule k l = ap (λ (m : ℕ). get_or inverse_factorials (suc k) 0 * m % q) (sym (one-add k)) ∙ follows_at (drop 1 inverse_factorials) 1 1 table_test k (le_of_suc-le-suc l)
-
-reduce : (x y : ℕ) → x % q ≡ y → x % q ≡ y % q
-reduce x y e = sym (mod-mod x q) ∙ ap (λ (m : ℕ). m % q) e
-
-table_next : (t : ℕ) → suc t < table_size → inverse_factorial (suc t) ⊗ of (suc t) ≡ inverse_factorial t
-unfolding inverse_factorial
-table_next t l = of_mul (get_or inverse_factorials (suc t) 0) (suc t) ∙ of_path _ (get_or inverse_factorials t 0) (reduce _ _ (rule t l))
-
-table_first : inverse_factorial 0 ≡ 𝟏
+pub table_first : inverse_factorial 0 ≡ 𝟏
 unfolding inverse_factorial inverse_factorials
 table_first = of_one
-
-pub table : Table inverse_factorial table_size
-table = record { first = table_first; next = table_next }

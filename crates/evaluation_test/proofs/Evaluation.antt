@@ -19,7 +19,8 @@ use Rattle.algebra.specs.Table.{table_size}
 use Rattle.algebra.specs.Inverse.{inv_n}
 use Rattle.algebra.specs.Dot.{dot_n, dot_n_comm, dots_of, dots_entry}
 use Rattle.algebra.specs.Numbers.{eval_n, eval_n_below, interp_n}
-use Rattle.algebra.specs.Barycentric.{weights_n, length-weights_n, weighed_n, length-weighed_n, cofactors_n, inverses_from, has_value, run_is, value_test, cofactors_test}
+use Rattle.algebra.specs.Barycentric.{weights_n, weighed_n, cofactors_n, inverses_from, has_value}
+use Rattle.algebra.proofs.Barycentric.{length-weights_n, length-weighed_n, run_is, value_test, cofactors_test}
 use Rattle.scheme.specs.Sizes.{leaf_point}
 use Rattle.lists.specs.Rows.{rows_of, row_at, length-rows}
 use Rattle.opened.specs.Powers.{powers_at}

@@ -38,13 +38,13 @@ pub fn print_salted(rt: &impl Print, s: Shape, m: u32, kappa: u32, tag: usize) -
     ask(a, &tree, &mut question);
     let asked = front_bytes(&question, a.lengths.question);
     let answer = prove_asked(a, asked, &table, &tree, &mut proof);
-    let made = front_bytes(&proof, length_of(&answer));
+    let made = front_bytes(&proof, length_of(answer));
     print_sizes(rt, s)?;
     print_number(rt, b"\nm ", m as u64)?;
     print_number(rt, b" kappa ", kappa as u64)?;
     print_bytes(rt, b"\nquestion ", asked)?;
-    print_number(rt, b"prove ", number_of(&answer))?;
-    print_number(rt, b" ", length_of(&answer) as u64)?;
+    print_number(rt, b"prove ", number_of(answer))?;
+    print_number(rt, b" ", length_of(answer) as u64)?;
     print_bytes(rt, b"\nproof ", made)?;
     print_digest(rt, b"buffer digest ", &proof)?;
     print_check(rt, s, m, kappa, asked, made)

@@ -171,16 +171,16 @@ pub fn prove_asked(
 }
 
 // The length of the proof, 0 with a refusal.
-pub fn length_of(answer: &Proved) -> usize {
+pub fn length_of(answer: Proved) -> usize {
     match answer {
-        Proved::Proof(n) => *n,
+        Proved::Proof(n) => n,
         Proved::Refused(_) => 0,
     }
 }
 
-pub fn number_of(answer: &Proved) -> u64 {
+pub fn number_of(answer: Proved) -> u64 {
     match answer {
         Proved::Proof(_) => 0,
-        Proved::Refused(v) => *v as u64,
+        Proved::Refused(v) => v as u64,
     }
 }

@@ -52,7 +52,7 @@ fn print_prove(
     print_number(rt, b" limit ", a.limit as u64)?;
     print_number(rt, b" question ", a.lengths.question as u64)?;
     print_number(rt, b" buffer ", a.proof_length as u64)?;
-    print_number(rt, b" prove ", number_of(&answer))?;
+    print_number(rt, b" prove ", number_of(answer))?;
     print_same(rt, before, sponge::digest(&proof))
 }
 

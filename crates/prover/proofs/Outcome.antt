@@ -26,7 +26,7 @@ use Rattle.scheme.specs.Reply.{records_at}
 use Rattle.scheme.specs.Open.{reply_of, opened_answers, opened_batching}
 use Rattle.scheme.specs.Commit.{lent_elements, leaf_record}
 use Rattle.fiat_shamir.specs.Offline.{most_bits, offline_tests, offline_verdict}
-use Rattle.fiat_shamir.specs.Draw.{drawn as drawnQ, draw_string, leaf_draw, ranks_at, drawn_indices, qualifies, most_string}
+use Rattle.fiat_shamir.specs.Draw.{drawn as drawn_q, draw_string, leaf_draw, ranks_at, drawn_indices, qualifies, most_string}
 use Rattle.fiat_shamir.specs.Prove.{proved_answers, counter_bytes, counter_draw, counter_ok, proof_length, proof_of, prove_verdict, proving, prove_tests}
 use Rattle.fiat_shamir.proofs.Proving.{prove_asked, proving-refused, proving_done, answers_sized, unqualified}
 use Rattle.lent.proofs.Unsalted.{others, well_unsalted}
@@ -110,8 +110,8 @@ module _ (b : Bytes) (s : Sizes) (m κ : ℕ) (l : Lent) (table : List ℕ) (nod
     search_done other drawn answers n out ed ea en eo =
         let k : ℕ = least limit (counter_ok b κ l) in
         let t : Sizes = header_sizes b in
-        let B : Bytes = bytes_of (flatten (opened_batching (drawnQ b []) l)) in
-        let C : Bytes = bytes_of (flatten (opened_answers (drawnQ b []) l)) in
+        let B : Bytes = bytes_of (flatten (opened_batching (drawn_q b []) l)) in
+        let C : Bytes = bytes_of (flatten (opened_answers (drawn_q b []) l)) in
         let X : Bytes = flatten (map (leaf_record t table l.nonces) (drawn_indices t (counter_draw b l c))) ++ flatten (opened 2 t.h (all_parts nodes) (drawn_indices t (counter_draw b l c))) in
         let long : n ≡ proof_length b l c =
         en ∙ ap₂ (λ (t : Sizes) (j : ℕ). length_with t j (drawn_indices t drawn)) (sym ready.offline.sizes) (sym ready.offline.points)

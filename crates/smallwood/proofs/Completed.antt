@@ -24,7 +24,7 @@ use Rattle.scheme.specs.Honest.{WellLent, Names, Replied, true_values}
 use Rattle.scheme.proofs.Opening.{planning_is}
 use Rattle.scheme.proofs.Complete.{completeness}
 use Rattle.planner.specs.Planned.{verdict_in, number_in}
-use Rattle.opener.specs.Opened.{number_of as openNumber, length_of as openLength}
+use Rattle.opener.specs.Opened.{number_of as open_number, length_of as open_length}
 use Rattle.committer.proofs.commit.Kinds as commit-kinds
 use Rattle.committer.proofs.commit.Reads as commit
 use Rattle.planner.proofs.reply_length.Kinds as size-kinds
@@ -141,7 +141,7 @@ module _
     pub values : length a₄.1.1.0.now ≡ sizes_given.w * (read_question asked).m
 
   -- then none of them refuses, the work is the question's, and the values are the true ones
-  pub completed : Chained → (r₁ ≡ 0) × (verdict_in r₂ ≡ 0) × (openNumber r₃ ≡ 0) × (r₄.verdict ≡ 0) × (r₄.permutations ≡ question_work (read_question asked))
+  pub completed : Chained → (r₁ ≡ 0) × (verdict_in r₂ ≡ 0) × (open_number r₃ ≡ 0) × (r₄.verdict ≡ 0) × (r₄.permutations ≡ question_work (read_question asked))
       × (e₄.1.1.0.now ≡ true_values sizes_given lent_given (read_question asked).evaluation_points)
   completed c =
       let one = committed sizes_given lent_given c.right a₁.1.1.1.1.1.1.1.1.1.1.1.1.1.0.now a₁.1.1.1.1.1.1.1.1.1.1.1.1.1.1.0.now c.room r₁ e₁.1.1.1.1.1.1.1.1.1.1.1.1.1.0.now
@@ -153,7 +153,7 @@ module _
       let et : table ≡ table_of sizes_given lent_given = c.opened-table ∙ one.1 in
       let en : tree ≡ tree_of sizes_given lent_given = c.opened_tree ∙ one.2 in
       let fits : length buffer ≡ reply_length (read_question asked) = c.buffer ∙ two.1 in
-      let three = opened sizes_given lent_given c.right asked c.names table tree et en buffer fits (openNumber r₃) (openLength r₃) e₃.1.1.1.1.1.1.1.1.1.0.now
+      let three = opened sizes_given lent_given c.right asked c.names table tree et en buffer fits (open_number r₃) (open_length r₃) e₃.1.1.1.1.1.1.1.1.1.0.now
       (h₃ ∙ ap₂ (λ (q : Bytes) (x : Lent). opening q x table tree buffer) c.opened_question c.opened_lent) in
       let four = checked sizes_given lent_given c.right asked c.names table tree et en buffer fits a₄.1.0.now (c.checked_reply ∙ three.2) a₄.1.1.0.now c.values r₄.verdict r₄.permutations e₄.1.1.0.now
       (h₄ ∙ ap (λ (q : Bytes). checking_counted q a₄.1.0.now a₄.1.1.0.now) c.checked_question) in

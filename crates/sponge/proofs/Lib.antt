@@ -4,6 +4,8 @@
 pub mod Appended
 -- the padding in bytes
 pub mod Padding
+-- to absorb by the step of a word is to absorb as FIPS 202 does
+pub mod Step
 -- a block by steps, a word each
 pub mod Steps
 -- full blocks, and the last one

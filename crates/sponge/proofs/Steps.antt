@@ -8,7 +8,8 @@ use lib.Bits.{bit_xor, xor_zero_r}
 use lib.ListN.{length, get_or, set}
 use lib.Seq.{set-get_or}
 use Rattle.sponge.specs.Shake.{xor_block}
-use Rattle.sponge.specs.Step.{xor_word, xor_words, block_by_words}
+use Rattle.sponge.specs.Step.{xor_word, xor_words}
+use Rattle.sponge.proofs.Step.{block_by_words}
 use Rattle.sponge.proofs.Appended.{word_past}
 
 past_step : (a : List ℕ) (x : ℕ) (s : List ℕ) (at : ℕ) → length s ≤ at → xor_word a x s at ≡ a

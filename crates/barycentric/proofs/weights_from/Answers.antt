@@ -2,7 +2,8 @@ use mathlib.Core.Path.{◌≡◌, refl, subst}
 use Prim.Native.Nat.{ℕ, ◌-◌, ◌<◌}
 use lib.ListN.{length, length-set}
 use Rattle.algebra.specs.Prime.{q}
-use Rattle.algebra.specs.Barycentric.{weight_n, sign_n, sign_n_below}
+use Rattle.algebra.specs.Barycentric.{weight_n, sign_n}
+use Rattle.algebra.proofs.Barycentric.{sign_n_below}
 use Rattle.algebra.specs.BarycentricTurns.{sign_start, sign_turn, weight-entry}
 use Rattle.lists.specs.Fill.{Filled, filled_none, filled_is, fill-back}
 use native.Mathlib.Omega.{arith}

@@ -6,7 +6,8 @@ use lib.ListN.{length}
 use Rattle.lists.specs.Range.{up_from}
 use Rattle.lists.specs.Tabulate.{tabulate, length-tabulate}
 use Rattle.algebra.specs.Divided.{nform_n}
-use Rattle.algebra.specs.Forward.{newton_n, forward_interp_n}
+use Rattle.algebra.specs.Forward.{newton_n}
+use Rattle.algebra.proofs.Forward.{forward_interp_n}
 use native.Mathlib.Omega.{arith}
 use Rattle.interpolation.proofs.interpolate_from.Goals as goal
 
