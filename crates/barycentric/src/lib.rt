@@ -10,10 +10,7 @@ ghost use Rattle.algebra.specs.Inverse.{inv_n};
 ghost use Rattle.algebra.specs.Table.{table_size};
 ghost use Rattle.algebra.specs.Barycentric.{weight_n, weights_n, weighed_n, rise_n, above_n, cofactors_n};
 
-use field::{Element, multiply, subtract};
-
-// The field's modulus.
-const Q: u32 = 4294967291;
+use field::{Element, Q, multiply, subtract};
 
 // ---- weights
 
@@ -24,12 +21,9 @@ fn weights_from(table: &[u32], out: &mut [u32])
 {
     let n = out.len();
     let mut sign = Element(1);
-    let mut c = n;
-    while 0 < c {
-        let t = multiply(Element(table[n - c]), sign);
-        c -= 1;
-        let v = multiply(Element(table[c]), t);
-        out[c] = v.0;
+    for c in (0..n).rev() {
+        let t = multiply(Element(table[n - 1 - c]), sign);
+        out[c] = multiply(Element(table[c]), t).0;
         sign = subtract(Element(0), sign);
     }
 }
@@ -48,12 +42,8 @@ pub fn weigh(weights: &[u32], values: &mut [u32])
     requires { length values.old ≡ length weights.now }
     ensures { values.new ≡ weighed_n weights.now values.old }
 {
-    let n = weights.len();
-    let mut i = 0;
-    while i < n {
-        let v = multiply(Element(weights[i]), Element(values[i]));
-        values[i] = v.0;
-        i += 1;
+    for (i, value) in values.iter_mut().enumerate() {
+        *value = multiply(Element(weights[i]), Element(*value)).0;
     }
 }
 
@@ -66,13 +56,10 @@ pub fn inverses(out: &mut [u32])
 {
     let n = out.len();
     out[1] = 1;
-    let mut k = 2;
-    while k < n {
+    for k in 2..n {
         let r = k as u32;
         let rest = (Q % r) as usize;
-        let v = multiply(Element(Q - Q / r), Element(out[rest]));
-        out[k] = v.0;
-        k += 1;
+        out[k] = multiply(Element(Q - Q / r), Element(out[rest])).0;
     }
 }
 
@@ -84,15 +71,12 @@ fn chains(near: u32, below: &mut [u32], above: &mut [u32])
     let n = below.len();
     let mut low = Element(1);
     let mut high = Element(1);
-    let mut c = 0;
-    let mut t = n;
-    while 0 < t {
-        t -= 1;
+    for c in 0..n {
+        let t = n - 1 - c;
         below[c] = low.0;
         above[t] = high.0;
         low = multiply(low, Element(near + c as u32));
         high = multiply(high, Element(near + t as u32));
-        c += 1;
     }
 }
 

@@ -15,10 +15,7 @@ ghost use Rattle.algebra.specs.Fold.{fold_n};
 ghost use Rattle.algebra.specs.Divided.{nform_n};
 ghost use Rattle.algebra.specs.Rests.{product_n, block_n, block_size, rest_turn, product_turn, rest_limit, Held, Weights};
 
-use field::{Element, difference, folded, inverse, multiply, product};
-
-// The modulus.
-const Q: u32 = 4294967291;
+use field::{Element, Q, difference, folded, inverse, multiply, product};
 
 // ---- many inverses by one
 
@@ -27,13 +24,10 @@ fn products_before(s: &[u32], room: &mut [u32]) -> Element
     requires { length room.old ≡ length s.now }
     ensures { (result.0 ≡ before_n s.now (length s.now)) × (room.new ≡ tabulate (length s.now) (before_n s.now)) }
 {
-    let n = s.len();
     let mut p = Element(1);
-    let mut i = 0;
-    while i < n {
+    for (i, x) in s.iter().enumerate() {
         room[i] = p.0;
-        p = multiply(p, Element(s[i]));
-        i += 1;
+        p = multiply(p, Element(*x));
     }
     p
 }
@@ -44,9 +38,7 @@ fn inverses_back(all: Element, before: &[u32], s: &mut [u32])
     ensures { s.new ≡ map inv_n s.old }
 {
     let mut a = all;
-    let mut i = s.len();
-    while 0 < i {
-        i -= 1;
+    for i in (0..s.len()).rev() {
         let own = Element(s[i]);
         let v = multiply(a, Element(before[i]));
         s[i] = v.0;
@@ -76,11 +68,9 @@ fn product_on(points: &[u32], from: usize, k: usize, p: Element) -> Element
     ensures { result.0 ≡ product_n points.now k k }
 {
     let mut value = p;
-    let mut i = from;
-    while i < k {
-        let d = difference(points[k], points[i]);
+    for x in &points[from..k] {
+        let d = difference(points[k], *x);
         value = multiply(value, Element(d));
-        i += 1;
     }
     value
 }
@@ -91,23 +81,14 @@ fn block_products(points: &[u32], from: usize, products: &[u32], out: &mut [u32]
     requires { Elements points.now × (from + length out.old ≤ length points.now) × (length products.now ≡ length points.now) × Filled (product_n points.now from) products.now from (length points.now) }
     ensures { out.new ≡ block_n points.now from (length out.old) }
 {
-    let n = out.len();
-    let mut i = 0;
-    while i < n {
+    for (i, place) in out.iter_mut().enumerate() {
         let k = from + i;
-        let v = product_on(points, from, k, Element(products[k]));
-        out[i] = v.0;
-        i += 1;
+        *place = product_on(points, from, k, Element(products[k])).0;
     }
 }
 
 // How many weights are made at once.
 const BLOCK: usize = 8;
-
-// Room for a block. A function of its own, so that a caller's goals do not show the zeros.
-fn blank_block() -> [u32; BLOCK] {
-    [0u32; BLOCK]
-}
 
 // Makes the weights of the points from `from` on, as many as there is room for; returns whether none of their products is 0.
 fn block_weights(points: &[u32], from: usize, products: &[u32], out: &mut [u32]) -> bool
@@ -116,16 +97,8 @@ fn block_weights(points: &[u32], from: usize, products: &[u32], out: &mut [u32])
 {
     block_products(points, from, products, out);
     let n = out.len();
-    let mut room = blank_block();
-    invert(out, &mut room[0..n])
-}
-
-// Where the block that begins at k ends.
-fn block_end(k: usize, n: usize) -> usize
-    requires { k < n }
-    ensures { (k < result) × (result ≤ n) × (result ≤ k + block_size) }
-{
-    if n - k < BLOCK { n } else { k + BLOCK }
+    let mut room = [0u32; BLOCK];
+    invert(out, &mut room[..n])
 }
 
 // Sees to it that point k has its weight: the points below `end` have theirs, and where k is not among them, the next block gets them.
@@ -143,7 +116,7 @@ fn next_weights(
     if k < end {
         return end;
     }
-    let to = block_end(k, points.len());
+    let to = points.len().min(k + BLOCK);
     if block_weights(points, k, products, &mut weights[k..to]) {
         to
     } else {
@@ -153,22 +126,13 @@ fn next_weights(
 
 // ---- the coefficients, one after the other
 
-fn wide(x: u32) -> u64
-    ensures { result ≡ x }
-{
-    x as u64
-}
-
 // The values, as words of 64 bits.
 fn widen(values: &[u32], rests: &mut [u64])
     requires { length rests.old ≡ length values.now }
     ensures { rests.new ≡ values.now }
 {
-    let n = values.len();
-    let mut i = 0;
-    while i < n {
-        rests[i] = wide(values[i]);
-        i += 1;
+    for (i, value) in values.iter().enumerate() {
+        rests[i] = u64::from(*value);
     }
 }
 
@@ -187,8 +151,9 @@ fn take_off(points: &[u32], k: usize, minus: u32, rests: &mut [u64], products: &
     ensures { Filled (rest_turn minus rests.old products.old) rests.new (k + 1) (length points.now) × Filled (product_turn points.now k products.old) products.new (k + 1) (length points.now) }
 {
     let n = points.len();
-    let mut i = k + 1;
-    while i < n - 1 {
+    let behind = n - 1 - k;
+    for pair in 0..behind / 2 {
+        let i = k + 1 + 2 * pair;
         let p = Element(products[i]);
         let t = Element(products[i + 1]);
         let d = difference(points[i], points[k]);
@@ -201,14 +166,14 @@ fn take_off(points: &[u32], k: usize, minus: u32, rests: &mut [u64], products: &
         rests[i + 1] = b;
         products[i] = u.0;
         products[i + 1] = v.0;
-        i += 2;
     }
-    if i < n {
-        let p = Element(products[i]);
-        let d = difference(points[i], points[k]);
-        rests[i] = rest_after(rests[i], minus, p);
-        let u = multiply(p, Element(d));
-        products[i] = u.0;
+    // An odd number of places: the last one by itself.
+    if behind % 2 == 1 {
+        let last = n - 1;
+        let p = Element(products[last]);
+        let d = difference(points[last], points[k]);
+        rests[last] = rest_after(rests[last], minus, p);
+        products[last] = multiply(p, Element(d)).0;
     }
 }
 
@@ -224,7 +189,7 @@ fn opposite(c: Element) -> u32
 fn reduced(rest: u64) -> Element
     ensures { result.0 ≡ rest % q }
 {
-    Element((rest % Q as u64) as u32)
+    Element((rest % u64::from(Q)) as u32)
 }
 
 // Fills `out` with the coefficients of Newton's form; returns whether the points differ. `rests` and `products`, which hold 1, are scratch.
@@ -241,10 +206,8 @@ pub fn divide(
     ensures { (result ≡ differ points.now) × (result ≡ true → nform_n points.now out.new ≡ interp_n points.now values.now) }
 {
     widen(values, rests);
-    let n = points.len();
     let mut end = 0;
-    let mut k = 0;
-    while k < n {
+    for k in 0..points.len() {
         end = next_weights(points, k, end, products, out);
         if end == k {
             return false;
@@ -254,7 +217,6 @@ pub fn divide(
         out[k] = c.0;
         let minus = opposite(c);
         take_off(points, k, minus, rests, products);
-        k += 1;
     }
     true
 }

@@ -1,7 +1,7 @@
 // Newton's form expanded in place: over any points, four at a time, and over consecutive ones, two at a time.
 #![tactic(auto)]
 
-ghost use Rattle.std.specs.Prelude.{◌≡◌, ◌+◌, ◌*◌, ◌%◌, ◌<◌, ◌≤◌, length, take, drop};
+ghost use Rattle.std.specs.Prelude.{◌≡◌, ◌+◌, ◌*◌, ◌<◌, ◌≤◌, length, take, drop};
 ghost use Rattle.algebra.specs.Prime.{q};
 ghost use Rattle.algebra.specs.Numbers.{Elements};
 ghost use Rattle.algebra.specs.Divided.{sweep_n, nform_n};
@@ -9,11 +9,11 @@ ghost use Rattle.algebra.specs.Pairs.{multiple, points_end, three_n, twice_n};
 ghost use Rattle.algebra.specs.Quartic.{onto_n};
 ghost use Rattle.lists.specs.Range.{up_from};
 
-use field::{Element, point, reduce, subtract_product};
+use field::{Element, Q, point, reduce, subtract_product};
 use quartic::{quartic_of, sweep_four};
 
 // 32769 q, which is above 2^15 times any word.
-const MULTIPLE: u64 = 140741783158779;
+const MULTIPLE: u64 = 32769 * Q as u64;
 
 // ---- any points
 
@@ -22,12 +22,9 @@ fn sweep(s: &mut [u32], x: Element)
     requires { x.0 < q }
     ensures { s.new ≡ sweep_n x.0 s.old }
 {
-    let n = s.len();
-    let mut i = 1;
-    while i < n {
+    for i in 1..s.len() {
         let v = subtract_product(Element(s[i - 1]), x, Element(s[i]));
         s[i - 1] = v.0;
-        i += 1;
     }
 }
 
@@ -36,11 +33,8 @@ fn expand_singly(points: &[u32], s: &mut [u32])
     requires { Elements points.now × (length s.old ≡ length points.now) }
     ensures { s.new ≡ nform_n points.now s.old }
 {
-    let mut k = points.len();
-    while 0 < k {
-        k -= 1;
-        let x = Element(points[k]);
-        sweep(&mut s[k..], x);
+    for k in (0..points.len()).rev() {
+        sweep(&mut s[k..], Element(points[k]));
     }
 }
 
@@ -59,22 +53,16 @@ fn expand_four(points: &[u32], s: &mut [u32])
     sweep_four(f, s);
 }
 
-// How many points are taken four at a time: from the first on, as long as at least four coefficients stand behind them.
-fn in_fours(n: usize) -> usize
-    ensures { (result % 4 ≡ 0) × (result ≤ n) × (0 < result → result + 4 ≤ n) }
-{
-    if n < 8 { 0 } else { n - n % 4 - 4 }
-}
-
-// Newton's form expanded in place.
+// Newton's form expanded in place: from the first point on four at a time, as long as at least four coefficients stand behind them.
 pub fn expand(points: &[u32], s: &mut [u32])
     requires { Elements points.now × (length s.old ≡ length points.now) }
     ensures { s.new ≡ nform_n points.now s.old }
 {
-    let mut k = in_fours(points.len());
-    expand_singly(&points[k..], &mut s[k..]);
-    while 0 < k {
-        k -= 4;
+    let blocks = (points.len() / 4).saturating_sub(1);
+    let rest = 4 * blocks;
+    expand_singly(&points[rest..], &mut s[rest..]);
+    for block in (0..blocks).rev() {
+        let k = 4 * block;
         expand_four(&points[k..k + 4], &mut s[k..]);
     }
 }
@@ -97,10 +85,8 @@ fn sweep_twice(s: &mut [u32], x: Element, y: Element)
     ensures { s.new ≡ twice_n x.0 y.0 s.old }
 {
     let last = s.len() - 2;
-    let mut i = 0;
-    while i < last {
+    for i in 0..last {
         s[i] = three_terms(s[i], s[i + 1], s[i + 2], x.0 + y.0, x.0 * y.0);
-        i += 1;
     }
     s[last] = three_terms(s[last], s[last + 1], 0, x.0 + y.0, x.0 * y.0);
 }
@@ -110,17 +96,16 @@ pub fn expand_from(first: Element, s: &mut [u32])
     requires { (0 < length s.old) × (first.0 + length s.old ≤ points_end) }
     ensures { s.new ≡ nform_n (up_from first.0 (length s.old)) s.old }
 {
-    let mut k = s.len() - 1;
-    while 1 < k {
-        k -= 2;
+    let pairs = (s.len() - 1) / 2;
+    let odd = (s.len() - 1) % 2;
+    for pair in (0..pairs).rev() {
+        let k = 2 * pair + odd;
         let x = point(first, k);
         let y = point(first, k + 1);
         s[k] = three_terms(s[k], s[k + 1], s[k + 2], x.0, x.0 * y.0);
         sweep_twice(&mut s[k + 1..], x, y);
     }
-    while 0 < k {
-        k -= 1;
-        let x = point(first, k);
-        sweep(&mut s[k..], x);
+    if odd == 1 {
+        sweep(s, first);
     }
 }

@@ -4,54 +4,32 @@
 // values: the same walk makes both.
 #![tactic(auto)]
 
-ghost use Rattle.std.specs.Prelude.{◌≡◌, ◌⊎◌, ◌+◌, ◌-◌, ◌*◌, ◌/◌, ◌<◌, ◌≤◌, length};
-ghost use Rattle.stepping.specs.Lanes.{lane_count, run, Small, Zeros};
+ghost use Rattle.std.specs.Prelude.{◌≡◌, ◌⊎◌, ◌+◌, ◌*◌, ◌/◌, ◌<◌, ◌≤◌, length};
+ghost use Rattle.stepping.specs.Lanes.{lane_count, run, Small};
 ghost use Rattle.extrapolation.specs.Written.{PutLanes, KeptColumns, KeptRows, Put, Walk};
 ghost use Rattle.extrapolation.specs.Extrapolated.{points_together, Extrapolated};
 
+use field::Q;
 use loading::load;
-use stepping::steps;
-
-// The modulus.
-const Q: u64 = 4294967291;
-
-// The steps of a run.
-const RUN: usize = 24;
+use stepping::{RUN, steps};
 
 // ---- walks along a table
-
-// Room for what a run of steps hands down.
-fn blank_feed() -> [u64; 4 * RUN]
-    ensures { Zeros result }
-{
-    [0u64; 4 * RUN]
-}
 
 // The values at step n of a run.
 fn put_lanes(w: &[u64], n: usize, lanes: usize, start: usize, out: &mut [u32])
     requires { (n < run) × (lanes ≤ lane_count) × (length w.now ≡ lane_count * run) × (start + lanes ≤ length out.old) }
     ensures { PutLanes w.now n lanes start out.old out.new }
 {
-    let mut j = 0;
-    while j < lanes {
-        let v = w[4 * n + j] % Q;
-        out[start + j] = v as u32;
-        j += 1;
+    for j in 0..lanes {
+        out[start + j] = (w[4 * n + j] % u64::from(Q)) as u32;
     }
-}
-
-// a - b, or 0.
-fn less(a: usize, b: usize) -> usize
-    ensures { result ≡ a - b }
-{
-    if b < a { a - b } else { 0 }
 }
 
 // The lesser.
 pub fn least(a: usize, b: usize) -> usize
     ensures { (result ≤ a) × (result ≤ b) × ((result ≡ a) ⊎ (result ≡ b)) }
 {
-    if a < b { a } else { b }
+    a.min(b)
 }
 
 // The values of a run that began at step i: those of the steps from `first` on, the last one in the first row.
@@ -69,12 +47,9 @@ fn put_steps(
     ensures { KeptColumns stride lo lanes out.old out.new × KeptRows i (first + count) stride lo lanes out.old out.new × Put w.now i run first (first + count) stride lo lanes out.new }
 {
     let end = first + count;
-    let to = least(RUN, end - i);
-    let mut n = less(first, i);
-    while n < to {
+    for n in first.saturating_sub(i)..RUN.min(end - i) {
         let x = end - 1 - (i + n);
         put_lanes(w, n, lanes, x * stride + lo, out);
-        n += 1;
     }
 }
 
@@ -93,12 +68,10 @@ fn walk(
     ensures { Small t.new × KeptColumns stride lo lanes out.old out.new × Walk (5 * blocks) t.old first (first + count) stride lo lanes out.new }
 {
     let end = first + count;
-    let mut i = 0;
-    while i < end {
-        let mut w = blank_feed();
+    for i in (0..end).step_by(RUN) {
+        let mut w = [0u64; 4 * RUN]; // what the run hands down
         steps(t, blocks, &mut w, lanes);
         put_steps(&w, i, lanes, first, count, stride, lo, out);
-        i += RUN;
     }
 }
 

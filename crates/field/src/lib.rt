@@ -16,10 +16,13 @@ mod table; // table.rt: the inverse factorials
 
 use table::{INVERSE_FACTORIALS, TABLE_SIZE};
 
-// The modulus, at both widths.
-const Q: u64 = 4294967291;
+// The modulus, and as a number of 64 bits.
+pub const Q: u32 = 4294967291;
 
-const Q32: u32 = 4294967291;
+pub const WIDE_Q: u64 = Q as u64;
+
+// Where sums of products split a product: at 2^33, which is 10 modulo q. (At 2^32 the compiler makes a slow multiply-high of it.)
+pub const SPLIT: u64 = 8589934592;
 
 // An element of the field, and a point of it.
 #[derive(Clone, Copy)]
@@ -31,7 +34,7 @@ pub fn subtract(a: Element, b: Element) -> Element
     requires { b.0 ≤ q }
     ensures { result.0 ≡ (a.0 + (q - b.0)) % q }
 {
-    Element(((a.0 as u64 + (Q - b.0 as u64)) % Q) as u32)
+    Element(((u64::from(a.0) + (WIDE_Q - u64::from(b.0))) % WIDE_Q) as u32)
 }
 
 // a - b without a division, so that a loop over it is compiled to vector instructions.
@@ -39,20 +42,20 @@ pub fn difference(a: u32, b: u32) -> u32
     requires { (a < q) × (b < q) }
     ensures { result ≡ sub_n a b }
 {
-    if a < b { a + (Q32 - b) } else { a - b }
+    if a < b { a + (Q - b) } else { a - b }
 }
 
 pub fn multiply(a: Element, b: Element) -> Element
     ensures { result.0 ≡ (a.0 * b.0) % q }
 {
-    Element(((a.0 as u64 * b.0 as u64) % Q) as u32)
+    Element((product(a.0, b.0) % WIDE_Q) as u32)
 }
 
 // a b, not reduced.
 pub fn product(a: u32, b: u32) -> u64
     ensures { result ≡ a * b }
 {
-    a as u64 * b as u64
+    u64::from(a) * u64::from(b)
 }
 
 // Congruent to x, and far below it, without a division: 2^32 is 5 modulo q.
@@ -82,7 +85,7 @@ pub fn reduce(y: u64) -> u32
 pub fn multiply_add(a: Element, b: Element, c: Element) -> Element
     ensures { result.0 ≡ (a.0 + b.0 * c.0) % q }
 {
-    Element(((a.0 as u64 + b.0 as u64 * c.0 as u64) % Q) as u32)
+    Element(((u64::from(a.0) + product(b.0, c.0)) % WIDE_Q) as u32)
 }
 
 // a - b c, reduced once.
@@ -90,7 +93,7 @@ pub fn subtract_product(a: Element, b: Element, c: Element) -> Element
     requires { b.0 ≤ q }
     ensures { result.0 ≡ (a.0 + (q - b.0 * c.0 % q)) % q }
 {
-    Element(((a.0 as u64 + (Q - b.0 as u64) * c.0 as u64) % Q) as u32)
+    Element(((u64::from(a.0) + product(Q - b.0, c.0)) % WIDE_Q) as u32)
 }
 
 // The inverse, by the remainders q % a, q % (q % a), ..
@@ -101,8 +104,8 @@ pub fn inverse(a: Element) -> Element
     let mut r = a.0;
     let mut k = Element(1);
     while 1 < r {
-        k = multiply(k, Element(Q32 - Q32 / r));
-        r = Q32 % r;
+        k = multiply(k, Element(Q - Q / r));
+        r = Q % r;
     }
     k
 }
@@ -114,10 +117,8 @@ pub fn evaluate(coefficients: &[u32], x: Element) -> Element
     ensures { result.0 ≡ eval_n coefficients.now x.0 }
 {
     let mut value = Element(0);
-    let mut i = coefficients.len();
-    while 0 < i {
-        i -= 1;
-        value = multiply_add(Element(coefficients[i]), x, value);
+    for &coefficient in coefficients.iter().rev() {
+        value = multiply_add(Element(coefficient), x, value);
     }
     value
 }
@@ -127,12 +128,8 @@ pub fn fold(acc: &mut [u32], c: Element, row: &[u32])
     requires { length row.now ≡ length acc.old }
     ensures { acc.new ≡ accumulate_n row.now c.0 acc.old }
 {
-    let n = acc.len();
-    let mut i = 0;
-    while i < n {
-        let v = multiply_add(Element(row[i]), c, Element(acc[i]));
-        acc[i] = v.0;
-        i += 1;
+    for (i, sum) in acc.iter_mut().enumerate() {
+        *sum = multiply_add(Element(row[i]), c, Element(*sum)).0;
     }
 }
 
@@ -141,10 +138,8 @@ pub fn power(x: Element, n: usize) -> Element
     ensures { result.0 ≡ pow_n x.0 n }
 {
     let mut p = Element(1);
-    let mut i = 0;
-    while i < n {
+    for _ in 0..n {
         p = multiply(x, p);
-        i += 1;
     }
     p
 }
@@ -152,23 +147,14 @@ pub fn power(x: Element, n: usize) -> Element
 // How many powers are computed one after the other: one for each of the chains of products that then run side by side.
 const CHAINS: usize = 8;
 
-fn first_count(n: usize) -> usize
-    ensures { (result ≤ n) × (result < n → result ≡ 8) }
-{
-    if n < CHAINS { n } else { CHAINS }
-}
-
 // The first powers; returns the one after them.
 fn first_powers(x: Element, out: &mut [u32]) -> Element
     ensures { (result.0 ≡ pow_n x.0 (length out.old)) × (out.new ≡ tabulate (length out.old) (pow_n x.0)) }
 {
-    let n = out.len();
     let mut p = Element(1);
-    let mut i = 0;
-    while i < n {
-        out[i] = p.0;
+    for place in out.iter_mut() {
+        *place = p.0;
         p = multiply(x, p);
-        i += 1;
     }
     p
 }
@@ -177,14 +163,10 @@ fn first_powers(x: Element, out: &mut [u32]) -> Element
 pub fn powers(x: Element, out: &mut [u32])
     ensures { out.new ≡ tabulate (length out.old) (pow_n x.0) }
 {
-    let n = out.len();
-    let head = first_count(n);
-    let step = first_powers(x, &mut out[0..head]);
-    let mut i = head;
-    while i < n {
-        let v = multiply(step, Element(out[i - CHAINS]));
-        out[i] = v.0;
-        i += 1;
+    let head = out.len().min(CHAINS);
+    let step = first_powers(x, &mut out[..head]);
+    for i in head..out.len() {
+        out[i] = multiply(step, Element(out[i - CHAINS])).0;
     }
 }
 

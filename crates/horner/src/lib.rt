@@ -17,16 +17,10 @@ pub fn evaluate_by(x: Element, powers: &[u32], coefficients: &[u32]) -> Element
 {
     let span = powers.len();
     let step = multiply(x, Element(powers[span - 1]));
-    let mut spans = coefficients.len() / span;
-    let behind = span * spans;
-    let rest = coefficients.len() - behind;
-    let mut value = dot(&powers[0..rest], &coefficients[behind..]);
-    while 0 < spans {
-        spans -= 1;
-        let at = span * spans;
-        let end = at + span;
-        let part = dot(powers, &coefficients[at..end]);
-        value = multiply_add(part, step, value);
+    let (whole, rest) = coefficients.split_at(coefficients.len() - coefficients.len() % span);
+    let mut value = dot(&powers[..rest.len()], rest);
+    for part in whole.rchunks_exact(span) {
+        value = multiply_add(dot(powers, part), step, value);
     }
     value
 }

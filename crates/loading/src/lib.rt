@@ -8,15 +8,17 @@ ghost use Rattle.algebra.specs.Differences.{clip};
 ghost use Rattle.stepping.specs.Lanes.{lane_count, limit, Small, KeptLanes};
 ghost use Rattle.loading.specs.Signs.{value_from, Signed};
 
+use field::Q;
+
+// Twice the modulus.
+const TWICE_Q: u64 = 2 * Q as u64;
+
 // v or -v, by the sign of step k.
 fn signed(v: u32, k: usize) -> u64
     ensures { (of result ≡ sign k ⊗ of v) × (result < limit) }
 {
-    if k % 2 == 0 {
-        v as u64
-    } else {
-        8589934582 - v as u64
-    }
+    let value = u64::from(v);
+    if k % 2 == 0 { value } else { TWICE_Q - value }
 }
 
 // Value k of lane j with its sign, and 0 above the last.
@@ -36,11 +38,8 @@ fn load_lane(values: &[u32], width: usize, lines: usize, j: usize, t: &mut [u64]
     requires { (j < lane_count) × (4 * lines ≤ length t.old) × Small t.old × (4 * width ≤ length values.now) }
     ensures { Small t.new × KeptLanes t.old j t.new × Signed values.now width lines lines j t.new }
 {
-    let mut r = 0;
-    while r < lines {
-        let v = signed_value(values, width, j, lines - 1 - r);
-        t[4 * r + j] = v;
-        r += 1;
+    for r in 0..lines {
+        t[4 * r + j] = signed_value(values, width, j, lines - 1 - r);
     }
 }
 
@@ -49,9 +48,7 @@ pub fn load(values: &[u32], lanes: usize, width: usize, lines: usize, t: &mut [u
     requires { (lanes ≤ lane_count) × (4 * lines ≤ length t.old) × Small t.old × (4 * width ≤ length values.now) }
     ensures { Small t.new × ((j : ℕ) → j < lanes → Signed values.now width lines lines j t.new) }
 {
-    let mut j = 0;
-    while j < lanes {
+    for j in 0..lanes {
         load_lane(values, width, lines, j, t);
-        j += 1;
     }
 }

@@ -16,10 +16,8 @@ fn take_differences(s: &mut [u32], m: usize)
     requires { (m < length s.old) × Elements s.old }
     ensures { Filled (neighbours s.old) s.new 0 m × Elements s.new }
 {
-    let mut i = 0;
-    while i < m {
+    for i in 0..m {
         s[i] = difference(s[i + 1], s[i]);
-        i += 1;
     }
 }
 
@@ -31,12 +29,8 @@ pub fn newton_from(values: &mut [u32], out: &mut [u32])
 {
     let table = inverse_factorials();
     let n = values.len();
-    let mut k = 0;
-    while k < n {
-        let entry = Element(table[k]);
-        let v = multiply(Element(values[0]), entry);
-        out[k] = v.0;
-        k += 1;
-        take_differences(values, n - k);
+    for k in 0..n {
+        out[k] = multiply(Element(values[0]), Element(table[k])).0;
+        take_differences(values, n - k - 1);
     }
 }

@@ -51,7 +51,7 @@ pub fn quartic_of(x: Element, y: Element, z: Element, w: Element) -> Quartic
 fn five_terms(f: Quartic, a: u32, b: u32, c: u32, d: u32, e: u32) -> u32
     ensures { result ≡ five_n f.e1 f.e2 f.e3 f.e4 a b c d e }
 {
-    let sum = a as u64
+    let sum = u64::from(a)
         + folded(product(f.e1, b))
         + folded(product(f.e2, c))
         + folded(product(f.e3, d))
@@ -81,10 +81,8 @@ pub fn sweep_four(f: Quartic, s: &mut [u32])
 {
     first_four(f, s);
     let last = s.len() - 4;
-    let mut i = 4;
-    while i < last {
+    for i in 4..last {
         s[i] = five_terms(f, s[i], s[i + 1], s[i + 2], s[i + 3], s[i + 4]);
-        i += 1;
     }
     s[last] = five_terms(f, s[last], s[last + 1], s[last + 2], s[last + 3], 0);
     s[last + 1] = five_terms(f, s[last + 1], s[last + 2], s[last + 3], 0, 0);

@@ -1,7 +1,7 @@
 // Sums of rows, each times a weight, where the rows stand one after the other.
 #![tactic(auto)]
 
-ghost use Rattle.std.specs.Prelude.{◌≡◌, ◌+◌, ◌*◌, ◌%◌, ◌<◌, ◌≤◌, length, replicate};
+ghost use Rattle.std.specs.Prelude.{◌≡◌, ◌+◌, ◌*◌, ◌%◌, ◌<◌, ◌≤◌, length};
 ghost use Rattle.algebra.specs.Prime.{q};
 ghost use Rattle.lists.specs.Tabulate.{tabulate};
 ghost use Rattle.algebra.specs.Dot.{longest, spare};
@@ -9,20 +9,14 @@ ghost use Rattle.algebra.specs.Sums.{widest, sums_of, low_added, high_added, Sma
 ghost use Rattle.lists.specs.All.{All};
 ghost use Rattle.lists.specs.Fill.{Filled};
 
-use field::product;
-
-// The modulus.
-const Q: u64 = 4294967291;
-
-// Where a product is split: at 2^33, which is 10 modulo q. (At 2^32 the compiler makes a slow multiply-high of it.)
-const SPLIT: u64 = 8589934592;
+use field::{SPLIT, WIDE_Q, product};
 
 // The sums of the lower and the upper parts of products together, reduced.
 fn reduce_sum(low: u64, high: u64) -> u32
     requires { (low < spare) × (high < spare) }
     ensures { result ≡ (low + 10 * high) % q }
 {
-    ((low + 10 * high) % Q) as u32
+    ((low + 10 * high) % WIDE_Q) as u32
 }
 
 // c times the row, added: the lower parts of the products to `low`, the upper parts to `high`.
@@ -30,13 +24,10 @@ fn add_multiple(c: u32, row: &[u32], low: &mut [u64], high: &mut [u64])
     requires { (length low.old ≡ length row.now) × (length high.old ≡ length row.now) × Spare low.old × Spare high.old }
     ensures { Filled (low_added c row.now low.old) low.new 0 (length row.now) × Filled (high_added c row.now high.old) high.new 0 (length row.now) × SmallProducts c row.now (length row.now) }
 {
-    let n = row.len();
-    let mut i = 0;
-    while i < n {
-        let p = product(c, row[i]);
+    for (i, &entry) in row.iter().enumerate() {
+        let p = product(c, entry);
         low[i] += p % SPLIT;
         high[i] += p / SPLIT;
-        i += 1;
     }
 }
 
@@ -46,13 +37,9 @@ fn add_rows(weights: &[u32], rows: &[u32], low: &mut [u64], high: &mut [u64])
     ensures { Summed weights.now (length low.old) rows.now (length weights.now) low.new high.new × Spare low.new × Spare high.new }
 {
     let n = low.len();
-    let count = weights.len();
-    let mut j = 0;
-    while j < count {
+    for (j, &weight) in weights.iter().enumerate() {
         let from = n * j;
-        let to = from + n;
-        add_multiple(weights[j], &rows[from..to], low, high);
-        j += 1;
+        add_multiple(weight, &rows[from..from + n], low, high);
     }
 }
 
@@ -61,23 +48,13 @@ fn reduce_sums(low: &[u64], high: &[u64], out: &mut [u32])
     requires { (length low.now ≡ length out.old) × (length high.now ≡ length out.old) × Spare low.now × Spare high.now }
     ensures { out.new ≡ tabulate (length out.old) (reduced_at low.now high.now) }
 {
-    let n = out.len();
-    let mut i = 0;
-    while i < n {
-        out[i] = reduce_sum(low[i], high[i]);
-        i += 1;
+    for (i, sum) in out.iter_mut().enumerate() {
+        *sum = reduce_sum(low[i], high[i]);
     }
 }
 
 // The entries of the widest rows.
 const WIDEST: usize = 64;
-
-// Room for sums. A function of its own, so that a caller's goals do not show its zeros.
-fn blank_sums() -> [u64; WIDEST]
-    ensures { result ≡ replicate widest 0 }
-{
-    [0u64; WIDEST]
-}
 
 // The sum of the rows, each times its weight, where the rows stand one after the other. Each entry is reduced once, as in `dot`.
 pub fn sum_rows(weights: &[u32], rows: &[u32], out: &mut [u32])
@@ -85,8 +62,8 @@ pub fn sum_rows(weights: &[u32], rows: &[u32], out: &mut [u32])
     ensures { out.new ≡ sums_of weights.now (length out.old) rows.now }
 {
     let n = out.len();
-    let mut low = blank_sums();
-    let mut high = blank_sums();
+    let mut low = [0u64; WIDEST];
+    let mut high = [0u64; WIDEST];
     add_rows(weights, rows, &mut low[..n], &mut high[..n]);
     reduce_sums(&low[..n], &high[..n], out);
 }

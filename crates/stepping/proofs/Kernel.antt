@@ -2,25 +2,23 @@
 use mathlib.Core.Path.{◌≡◌, refl, sym, ap, ap₂, ◌∙◌, subst}
 use mathlib.Core.Logic.{◌≢◌}
 use mathlib.Core.List.{List, [], ◌∷◌}
-use Prim.Native.Nat.{ℕ, zero, suc, ◌+◌, ◌-◌, ◌*◌, ◌/◌, ◌%◌, ◌≤◌, ◌<◌}
-use native.Mathlib.Nat.{add-zero, add-suc, not-suc-le-zero, div-add-mod, mod-lt}
+use Prim.Native.Nat.{ℕ, zero, suc, ◌+◌, ◌-◌, ◌*◌, ◌≤◌, ◌<◌}
+use native.Mathlib.Nat.{add-zero, add-suc, not-suc-le-zero}
 use native.Mathlib.Numerals.{add-one}
 use native.Mathlib.Decide.{ℕ_discrete}
 use native.Mathlib.Omega.{arith}
 use lib.Dec.{lit<}
 use lib.ListN.{length, set, length-set}
 use lib.Seq.{get_or-set_same, get_or-set_other}
-use Rattle.algebra.specs.Field.{K, of, of_path, of_add, same_mod, ◌⊕◌}
+use Rattle.algebra.specs.Field.{K, of, of_path, of_add, ◌⊕◌}
+use Rattle.algebra.specs.Fold.{fold_n, most_folded, folded_mod}
 use Rattle.algebra.specs.Differences.{difference, difference-step}
 use Rattle.stepping.specs.Lanes.{run, limit, entry, Addable, Small, grown, Grown, turned, Five, Handed, LaneStep, KeptLines, KeptLanes}
 
 -- ---- folding
 
-pub fold_same : (x : ℕ) → of (x % 4294967296 + 5 * (x / 4294967296)) ≡ of x
-fold_same x = of_path _ _ (same_mod (x % 4294967296 + 5 * (x / 4294967296)) x (x / 4294967296) 0 (omega (arith, div-add-mod x 4294967296)))
-
-pub fold_small : (x : ℕ) → x < 18446744073709551616 → x % 4294967296 + 5 * (x / 4294967296) < limit
-fold_small x l = let m : x % 4294967296 < 4294967296 = mod-lt x (lit< tt) in omega (arith, div-add-mod x 4294967296)
+pub fold_kept : (r x : ℕ) → (r ≡ fold_n x) × (r ≤ most_folded) → (of r ≡ of x) × (r < limit)
+fold_kept r x h = (of_path r x (folded_mod r x h.0), omega arith)
 
 -- ---- growth
 

@@ -6,14 +6,7 @@ ghost use Rattle.algebra.specs.Prime.{q};
 ghost use Rattle.algebra.specs.Dot.{split, longest, word_end, spare, dot_n, dots_of};
 ghost use Rattle.algebra.specs.Wrapped.{low_of};
 
-use field::{Element, product};
-use std::num::{wrapping_add_u64, wrapping_sub_u64};
-
-// The modulus.
-const Q: u64 = 4294967291;
-
-// Where a product is split: at 2^33, which is 10 modulo q. (At 2^32 the compiler makes a slow multiply-high of it.)
-const SPLIT: u64 = 8589934592;
+use field::{Element, SPLIT, WIDE_Q, product};
 
 // A sum of products: all of it modulo 2^64, and the sum of the products' upper parts.
 #[derive(Clone, Copy)]
@@ -29,8 +22,8 @@ fn add_product(s: Sum, a: u32, b: u32) -> Sum
     let p = product(a, b);
     let upper = s.upper + p / SPLIT;
     Sum {
-        all: wrapping_add_u64(s.all, p),
-        upper: upper,
+        all: s.all.wrapping_add(p),
+        upper,
     }
 }
 
@@ -39,8 +32,8 @@ fn reduce_parts(s: Sum) -> Element
     requires { (low_of s.all s.upper < spare) × (s.upper < spare) }
     ensures { result.0 ≡ (low_of s.all s.upper + 10 * s.upper) % q }
 {
-    let low = wrapping_sub_u64(s.all, s.upper << 33);
-    Element(((low + 10 * s.upper) % Q) as u32)
+    let low = s.all.wrapping_sub(s.upper << 33);
+    Element(((low + 10 * s.upper) % WIDE_Q) as u32)
 }
 
 // The sum of the products of the entries, reduced once at the end.
@@ -48,12 +41,9 @@ pub fn dot(a: &[u32], b: &[u32]) -> Element
     requires { (length b.now ≡ length a.now) × (length a.now ≤ longest) }
     ensures { result.0 ≡ dot_n a.now b.now }
 {
-    let n = a.len();
     let mut s = Sum { all: 0, upper: 0 };
-    let mut i = 0;
-    while i < n {
-        s = add_product(s, a[i], b[i]);
-        i += 1;
+    for (&x, &y) in a.iter().zip(b) {
+        s = add_product(s, x, y);
     }
     reduce_parts(s)
 }
@@ -71,19 +61,15 @@ fn four_dots(weights: &[u32], a: &[u32], b: &[u32], c: &[u32], d: &[u32]) -> Fou
     requires { (length weights.now ≤ longest) × (length a.now ≡ length weights.now) × (length b.now ≡ length weights.now) × (length c.now ≡ length weights.now) × (length d.now ≡ length weights.now) }
     ensures { (result.a.0 ≡ dot_n weights.now a.now) × (result.b.0 ≡ dot_n weights.now b.now) × (result.c.0 ≡ dot_n weights.now c.now) × (result.d.0 ≡ dot_n weights.now d.now) }
 {
-    let n = weights.len();
     let mut s = Sum { all: 0, upper: 0 };
     let mut t = Sum { all: 0, upper: 0 };
     let mut u = Sum { all: 0, upper: 0 };
     let mut v = Sum { all: 0, upper: 0 };
-    let mut i = 0;
-    while i < n {
-        let w = weights[i];
+    for (i, &w) in weights.iter().enumerate() {
         s = add_product(s, w, a[i]);
         t = add_product(t, w, b[i]);
         u = add_product(u, w, c[i]);
         v = add_product(v, w, d[i]);
-        i += 1;
     }
     Four {
         a: reduce_parts(s),
@@ -100,30 +86,27 @@ pub fn dots(weights: &[u32], rows: &[u32], out: &mut [u32])
 {
     let width = weights.len();
     let n = out.len();
-    let mut j = 0;
-    while j < n {
+    for group in 0..n / 4 {
+        let j = 4 * group;
         let start = j * width;
         let second = start + width;
-        if n - j < 4 {
-            let v = dot(weights, &rows[start..second]);
-            out[j] = v.0;
-            j += 1;
-        } else {
-            let third = second + width;
-            let fourth = third + width;
-            let end = fourth + width;
-            let v = four_dots(
-                weights,
-                &rows[start..second],
-                &rows[second..third],
-                &rows[third..fourth],
-                &rows[fourth..end],
-            );
-            out[j] = v.a.0;
-            out[j + 1] = v.b.0;
-            out[j + 2] = v.c.0;
-            out[j + 3] = v.d.0;
-            j += 4;
-        }
+        let third = second + width;
+        let fourth = third + width;
+        let end = fourth + width;
+        let v = four_dots(
+            weights,
+            &rows[start..second],
+            &rows[second..third],
+            &rows[third..fourth],
+            &rows[fourth..end],
+        );
+        out[j] = v.a.0;
+        out[j + 1] = v.b.0;
+        out[j + 2] = v.c.0;
+        out[j + 3] = v.d.0;
+    }
+    for j in n - n % 4..n {
+        let from = j * width;
+        out[j] = dot(weights, &rows[from..from + width]).0;
     }
 }

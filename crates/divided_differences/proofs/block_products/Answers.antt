@@ -12,4 +12,4 @@ returns c =
     let f : ℕ → ℕ = λ j. product_n c.args.points.now (c.args.from + j) (c.args.from + j) in
     let n : ℕ = length c.args.out.now in
     let e : loop.i ≡ n = omega arith in
-    filled_is f loop.out n loop.invariant.2 (subst (λ (k : ℕ). Filled f loop.out 0 k) e loop.invariant.3)
+    filled_is f loop.out n loop.invariant.0 (subst (λ (k : ℕ). Filled f loop.out 0 k) e loop.invariant.1)

@@ -11,6 +11,3 @@ use Rattle.divided_differences.proofs.inverses_back.Given as goal
 abbrev pub invariant-loop-i : goal.invariant-loop-i
 invariant-loop-i l =
     (l.i ≤ length l.initial.s) × (length l.before ≡ length l.initial.s) × (length l.s ≡ length l.initial.s) × ((l.a.0 * before_n l.initial.s l.i) % q ≡ 1) × Filled (entry_of l.initial.s) l.s 0 l.i × Filled (λ j. inv_n (get_or l.initial.s j 0)) l.s l.i (length l.initial.s)
-
-abbrev pub decreases-loop-i : goal.decreases-loop-i
-decreases-loop-i l = l.i

@@ -1,4 +1,4 @@
-use mathlib.Core.Path.{◌≡◌, refl, ◌∙◌, ap, subst}
+use mathlib.Core.Path.{◌≡◌, ◌∙◌, ap, subst}
 use mathlib.Core.List.{List}
 use Prim.Native.Nat.{ℕ}
 use lib.ListN.{length, length-set}
@@ -10,18 +10,16 @@ use Rattle.divided_differences.proofs.products_before.Goals as goal
 pub loop-i-init : goal.loop-i-init
 loop-i-init c =
     let s : List ℕ = c.args.s.now in
-    (refl, omega arith, omega arith, before_none s, filled_none (before_n s) c.args.room.now 0 0 (omega arith))
+    (omega arith, before_none s, filled_none (before_n s) c.args.room.now 0 0 (omega arith))
 
 pub loop-i-preserved : goal.loop-i-preserved
 loop-i-preserved c =
     let multiply = c.multiply-p in
     let loop = c.loop-i in
     let s : List ℕ = c.args.s.now in (
-      refl,
-      omega arith,
-      simp length-set loop.invariant.2,
-      before_turn s loop.i loop.p.0 multiply.result.0 loop.invariant.3 multiply.ensures,
-      fill_next (before_n s) loop.room 0 loop.i loop.p.0 (omega arith) loop.invariant.3 loop.invariant.4,
+      simp length-set loop.invariant.0,
+      before_turn s loop.i loop.p.0 multiply.result.0 loop.invariant.1 multiply.ensures,
+      fill_next (before_n s) loop.room 0 loop.i loop.p.0 (omega arith) loop.invariant.1 loop.invariant.2,
     )
 
 pub returns : goal.returns
@@ -29,6 +27,6 @@ returns c =
     let loop = c.loop-i in
     let s : List ℕ = c.args.s.now in
     let e : loop.i ≡ length s = omega arith in (
-      loop.invariant.3 ∙ ap (before_n s) e,
-      filled_is (before_n s) loop.room (length s) loop.invariant.2 (subst (λ (k : ℕ). Filled (before_n s) loop.room 0 k) e loop.invariant.4),
+      loop.invariant.1 ∙ ap (before_n s) e,
+      filled_is (before_n s) loop.room (length s) loop.invariant.0 (subst (λ (k : ℕ). Filled (before_n s) loop.room 0 k) e loop.invariant.2),
     )

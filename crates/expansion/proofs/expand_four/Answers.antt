@@ -1,14 +1,7 @@
 -- `expansion::expand_four` meets its contract: the coefficients expanded by themselves, then swept.
-use native.Mathlib.Nat.{le_of_lt}
-use Rattle.algebra.specs.Numbers.{elements_at}
 use Rattle.algebra.specs.Quartic.{expand_four}
-use borrow.Author.Rules.{rules}
 use native.Mathlib.Omega.{arith}
 use Rattle.expansion.proofs.expand_four.Goals as goal
-
-pub quartic_of-f-requires : goal.quartic_of-f-requires
-quartic_of-f-requires c =
-    search (rules, le_of_lt, elements_at c.args.points.now c.requires.0)
 
 pub returns : goal.returns
 returns c =

@@ -3,7 +3,6 @@ use mathlib.Core.List.{List}
 use Prim.Native.Nat.{ℕ, ◌-◌}
 use lib.ListN.{length}
 use borrow.Rule.Slice.PartMut.{put_mid}
-use Rattle.algebra.specs.Numbers.{elements_at}
 use Rattle.algebra.specs.Divided.{expanded, expand_start, length-expanded}
 use Rattle.expansion.proofs.Parts.{expand_loop}
 use native.Mathlib.Omega.{arith}
@@ -11,10 +10,6 @@ use Rattle.expansion.proofs.expand_singly.Goals as goal
 
 pub loop-k-init : goal.loop-k-init
 loop-k-init c = (omega arith, expand_start c.args.points.now c.args.s.now c.requires.1, omega arith)
-
-pub sweep-requires : goal.sweep-requires
-sweep-requires c =
-    elements_at c.args.points.now c.requires.0 (c.loop-k.k - 1)
 
 pub loop-k-preserved : goal.loop-k-preserved
 loop-k-preserved c =
@@ -29,8 +24,3 @@ loop-k-preserved c =
       ap length r ∙ length-expanded points s₀ (loop.k - 1) c.requires.1 (omega arith) ∙
           c.requires.1,
     )
-
-pub returns : goal.returns
-returns c =
-    let e : c.loop-k.k ≡ 0 = omega arith in
-    c.loop-k.invariant.1 ∙ ap (expanded c.args.points.now c.args.s.now) e

@@ -7,6 +7,3 @@ use Rattle.expansion.proofs.expand_singly.Given as goal
 
 abbrev pub invariant-loop-k : goal.invariant-loop-k
 invariant-loop-k l = (l.k ≤ length l.points) × (l.s ≡ expanded l.points l.initial.s l.k) × (length l.s ≡ length l.points)
-
-abbrev pub decreases-loop-k : goal.decreases-loop-k
-decreases-loop-k l = l.k

@@ -6,9 +6,6 @@ use Rattle.algebra.specs.Divided.{sweep_turn, sweep_done}
 use native.Mathlib.Omega.{arith}
 use Rattle.expansion.proofs.sweep.Goals as goal
 
-pub loop-i-init : goal.loop-i-init
-loop-i-init c = (refl, omega arith, omega arith, refl, refl)
-
 pub loop-i-preserved : goal.loop-i-preserved
 loop-i-preserved c =
     let loop = c.loop-i in

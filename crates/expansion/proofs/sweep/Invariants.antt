@@ -6,7 +6,4 @@ use Rattle.algebra.specs.Divided.{sweep_n, stage}
 use Rattle.expansion.proofs.sweep.Given as goal
 
 abbrev pub invariant-loop-i : goal.invariant-loop-i
-invariant-loop-i l = (l.n ≡ length l.initial.s) × (1 ≤ l.i) × (l.i ≤ max l.n 1) × (l.s ≡ stage (sweep_n l.x.0 l.initial.s) l.initial.s (l.i - 1)) × (length l.s ≡ length l.initial.s)
-
-abbrev pub decreases-loop-i : goal.decreases-loop-i
-decreases-loop-i l = l.n - l.i
+invariant-loop-i l = (l.i-end ≡ length l.initial.s) × (1 ≤ l.i) × (l.i ≤ max l.i-end 1) × (l.s ≡ stage (sweep_n l.x.0 l.initial.s) l.initial.s (l.i - 1)) × (length l.s ≡ length l.initial.s)

@@ -1,25 +1,10 @@
-use mathlib.Core.Path.{◌≡◌, refl, ◌∙◌, subst}
-use Prim.Native.Nat.{ℕ, ◌*◌, ◌-◌, ◌≤◌}
-use native.Mathlib.Nat.{mul-le-mul}
+use mathlib.Core.Path.{◌≡◌, ◌∙◌, subst}
+use Prim.Native.Nat.{ℕ, ◌-◌}
 use lib.ListN.{length, length-set}
 use Rattle.algebra.specs.Divided.{stage}
-use Rattle.algebra.specs.Pairs.{points_end, twice_n, twice_turn, twice_done}
-use borrow.Author.Rules.{rules}
+use Rattle.algebra.specs.Pairs.{twice_n, twice_turn, twice_done}
 use native.Mathlib.Omega.{arith}
 use Rattle.expansion.proofs.sweep_twice.Goals as goal
-
-pub loop-i-init : goal.loop-i-init
-loop-i-init c = (omega arith, omega arith, refl, refl)
-
-pub overflow_mul-x : goal.overflow_mul-x
-overflow_mul-x c =
-    let h : c.args.x.0 * c.args.y.0 ≤ 268435456 = mul-le-mul
-    {n₂ = points_end} {m₂ = points_end} (omega arith) (omega arith) in search rules
-
-pub three_terms-requires : goal.three_terms-requires
-three_terms-requires c =
-    let h : c.args.x.0 * c.args.y.0 ≤ 268435456 = mul-le-mul
-    {n₂ = points_end} {m₂ = points_end} (omega arith) (omega arith) in (omega arith, h)
 
 pub loop-i-preserved : goal.loop-i-preserved
 loop-i-preserved c =
@@ -32,16 +17,6 @@ loop-i-preserved c =
           c.three_terms.ensures.0,
       length-set loop.s loop.i c.three_terms.result ∙ loop.invariant.3,
     )
-
-pub overflow_mul-x-2 : goal.overflow_mul-x-2
-overflow_mul-x-2 c =
-    let h : c.args.x.0 * c.args.y.0 ≤ 268435456 = mul-le-mul {n₂ = points_end}
-    {m₂ = points_end} (omega arith) (omega arith) in search rules
-
-pub three_terms-requires-2 : goal.three_terms-requires-2
-three_terms-requires-2 c =
-    let h : c.args.x.0 * c.args.y.0 ≤ 268435456 = mul-le-mul {n₂ = points_end}
-    {m₂ = points_end} (omega arith) (omega arith) in (omega arith, h)
 
 pub returns : goal.returns
 returns c =

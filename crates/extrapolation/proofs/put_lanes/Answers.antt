@@ -1,5 +1,6 @@
-use mathlib.Core.Path.{refl}
-use lib.ListN.{length-set}
+use mathlib.Core.Path.{refl, ap}
+use Prim.Native.Nat.{ℕ, ◌+◌, ◌*◌, ◌%◌}
+use lib.ListN.{get_or, length-set}
 use Rattle.extrapolation.proofs.Putting.{put_none, put_turn}
 use native.Mathlib.Omega.{arith}
 use Rattle.extrapolation.proofs.put_lanes.Goals as goal
@@ -19,5 +20,5 @@ loop-j-preserved c =
       simp length-set loop.invariant.4,
       simp length-set loop.invariant.5,
       put_turn args.w.now args.n loop.j args.start args.out.now loop.out _
-          (omega (arith, loop.invariant.4, c.loop-j-test.true)) refl loop.invariant.6,
+          (omega (arith, loop.invariant.4, c.loop-j-test.true)) (ap (λ (m : ℕ). get_or args.w.now (4 * args.n + loop.j) 0 % m) c.from.ensures) loop.invariant.6,
     )

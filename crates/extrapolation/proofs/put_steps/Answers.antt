@@ -1,6 +1,9 @@
-use mathlib.Core.Path.{refl, ◌∙◌}
+use mathlib.Core.Path.{◌≡◌, refl, ◌∙◌}
+use mathlib.Core.Logic.{◌⊎◌}
 use Prim.Native.Nat.{ℕ, ◌+◌, ◌-◌}
 use Rattle.extrapolation.proofs.Putting.{steps_none, steps_turn, steps_done}
+use borrow.Author.Rules.{rules}
+use Rattle.stepping.specs.Lanes.{run}
 use native.Mathlib.Omega.{arith}
 use Rattle.extrapolation.proofs.put_steps.Goals as goal
 
@@ -8,10 +11,10 @@ pub loop-n-init : goal.loop-n-init
 loop-n-init c =
     let s = c.args in (
       refl,
-      c.least-to.ensures.0,
-      c.least-to.ensures.1,
-      omega (arith, c.less-n.ensures),
-      omega (arith, c.less-n.ensures, c.requires.4),
+      omega arith,
+      omega arith,
+      omega (arith, c.saturating_sub-n.ensures),
+      omega (arith, c.saturating_sub-n.ensures, c.requires.4),
       c.requires.0,
       c.requires.1,
       c.requires.2,
@@ -19,7 +22,7 @@ loop-n-init c =
       refl,
       c.requires.5,
       c.requires.4,
-      steps_none s.w.now s.i s.lanes s.first (s.first + s.count) s.stride s.lo s.out.now c.less-n.result c.less-n.ensures,
+      steps_none s.w.now s.i s.lanes s.first (s.first + s.count) s.stride s.lo s.out.now c.saturating_sub-n.result c.saturating_sub-n.ensures,
     )
 
 pub loop-n-preserved : goal.loop-n-preserved
@@ -47,5 +50,6 @@ loop-n-preserved c =
 pub returns : goal.returns
 returns c =
     let loop = c.loop-n in let s = c.args in
-    steps_done s.w.now s.i s.lanes s.first (s.first + s.count) s.stride s.lo s.out.now loop.out loop.n c.least-to.result c.loop-n-test.false
-    c.least-to.ensures.2 loop.invariant.12
+    let to : (c.min-n-end.result ≡ run) ⊎ (c.min-n-end.result ≡ s.first + s.count - s.i) = search rules in
+    steps_done s.w.now s.i s.lanes s.first (s.first + s.count) s.stride s.lo s.out.now loop.out loop.n c.min-n-end.result c.loop-n-test.false
+    to loop.invariant.12

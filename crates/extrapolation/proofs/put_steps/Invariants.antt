@@ -8,8 +8,5 @@ use Rattle.extrapolation.proofs.put_steps.Given as goal
 
 abbrev pub invariant-loop-n : goal.invariant-loop-n
 invariant-loop-n l =
-    (l.end ≡ l.first + l.count) × (l.to ≤ run) × (l.to ≤ l.end - l.i) × (l.first ≤ l.i + l.n) × (l.n ≤ 65560) × (l.lanes ≤ 4) × (length l.w ≡ 4 * run) × (l.lo + l.lanes ≤ l.stride) × (l.count * l.stride ≤ length l.out) × (length l.out ≡ length l.initial.out) × (l.i < l.end) ×
+    (l.end ≡ l.first + l.count) × (l.n-end ≤ run) × (l.n-end ≤ l.end - l.i) × (l.first ≤ l.i + l.n) × (l.n ≤ 65560) × (l.lanes ≤ 4) × (length l.w ≡ 4 * run) × (l.lo + l.lanes ≤ l.stride) × (l.count * l.stride ≤ length l.out) × (length l.out ≡ length l.initial.out) × (l.i < l.end) ×
     (l.end ≤ 65536) × StepsInv l.w l.i l.lanes l.first (l.first + l.count) l.stride l.lo l.initial.out l.out l.n
-
-abbrev pub decreases-loop-n : goal.decreases-loop-n
-decreases-loop-n l = l.to - l.n

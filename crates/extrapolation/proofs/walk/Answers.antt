@@ -1,6 +1,7 @@
 use mathlib.Core.Path.{refl, ◌∙◌}
-use Prim.Native.Nat.{◌+◌, ◌*◌}
-use Rattle.extrapolation.proofs.Putting.{walk_none, walk_turn, walk_done}
+use Prim.Native.Nat.{ℕ, ◌+◌, ◌*◌}
+use Rattle.stepping.specs.Lanes.{run}
+use Rattle.extrapolation.proofs.Putting.{zeros, walk_none, walk_turn, walk_done}
 use native.Mathlib.Omega.{arith}
 use Rattle.extrapolation.proofs.walk.Goals as goal
 
@@ -38,6 +39,20 @@ loop-i-preserved c =
           c.steps.new.t c.steps.new.w
           c.put_steps.new.out loop.invariant.9 c.steps.ensures c.put_steps.ensures,
     )
+
+pub steps-requires : goal.steps-requires
+steps-requires c =
+    let loop = c.loop-i in
+    (loop.invariant.2, loop.invariant.4, refl, loop.invariant.9.small, zeros (4 * run))
+
+pub returns-2 : goal.returns-2
+returns-2 c =
+    let loop = c.loop-i in
+    let s = c.args in
+    let lines : ℕ = 5 * s.blocks in
+    let end : ℕ = s.first + s.count in
+    walk_done lines s.lanes s.first end s.stride s.lo s.t.now s.out.now c.steps.new.t c.put_steps.new.out (loop.i + run) (omega arith)
+    (walk_turn lines s.lanes s.first end s.stride s.lo s.t.now s.out.now loop.t loop.out loop.i c.steps.new.t c.steps.new.w c.put_steps.new.out loop.invariant.9 c.steps.ensures c.put_steps.ensures)
 
 pub returns : goal.returns
 returns c =

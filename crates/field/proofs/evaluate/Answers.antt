@@ -1,22 +1,22 @@
-use mathlib.Core.Path.{◌≡◌, sym}
-use mathlib.Core.List.{List}
-use Prim.Native.Nat.{ℕ, ◌*◌, ◌-◌, ◌+◌, ◌%◌}
-use lib.ListN.{drop, get_or}
-use Rattle.algebra.specs.Prime.{q}
-use Rattle.algebra.specs.Numbers.{eval_n, eval_n_turn, eval_n_end}
-use native.Mathlib.Omega.{arith}
+use mathlib.Core.Path.{◌≡◌, refl, ◌∙◌, ap}
+use mathlib.Core.List.{[], ◌∷◌, ◌++◌, map}
+use Prim.Native.Nat.{ℕ}
+use Rattle.std.proofs.Common.{reverse, Bor}
+use Rattle.std.proofs.lemmas.List.{map-append, reverse-append}
+use Rattle.algebra.specs.Numbers.{eval_n}
 use Rattle.field.proofs.evaluate.Goals as goal
 
-pub loop-i-init : goal.loop-i-init
-loop-i-init c = (omega arith, sym (eval_n_end c.args.coefficients.now c.args.x.0))
+pub loop-coefficient-init : goal.loop-coefficient-init
+unfolding eval_n
+loop-coefficient-init c = refl
 
-pub loop-i-preserved : goal.loop-i-preserved
-loop-i-preserved c =
-    let p : List ℕ = c.args.coefficients.now in
+pub loop-coefficient-preserved : goal.loop-coefficient-preserved
+unfolding eval_n
+loop-coefficient-preserved c =
+    let loop = c.loop-coefficient in
     let x : ℕ = c.args.x.0 in
-    let i : ℕ = c.loop-i.i in
-    let s : (get_or p (i - 1) 0 + x * eval_n (drop i p) x) % q ≡ eval_n (drop (i - 1) p) x = eval_n_turn p x i (omega arith) (omega arith) in
-    (omega arith, cc)
-
-pub returns : goal.returns
-returns c = let z : c.loop-i.i ≡ 0 = omega arith in cc
+    let a : ℕ = c.in-Some.field-0.now in
+    let now : Bor ℕ → ℕ = λ y. y.now in
+    let e : reverse (map now (loop.yielded ++ (c.in-Some.field-0 ∷ []))) ≡ a ∷ reverse (map now loop.yielded) =
+    ap reverse (map-append now loop.yielded (c.in-Some.field-0 ∷ [])) ∙ reverse-append (map now loop.yielded) (a ∷ []) in
+    c.multiply_add-value.ensures ∙ rw (e, loop.invariant)

@@ -1,12 +1,9 @@
--- `field::evaluate` meets its contract. The invariant: the value of the coefficients from i on.
+-- `field::evaluate` meets its contract. The invariant: the value of the coefficients so far, which came from the last on.
 use mathlib.Core.Path.{◌≡◌}
-use Prim.Native.Nat.{◌≤◌}
-use lib.ListN.{length, drop}
+use mathlib.Core.List.{map}
+use Rattle.std.proofs.Common.{reverse}
 use Rattle.algebra.specs.Numbers.{eval_n}
 use Rattle.field.proofs.evaluate.Given as goal
 
-abbrev pub invariant-loop-i : goal.invariant-loop-i
-invariant-loop-i l = (l.i ≤ length l.coefficients) × (l.value.0 ≡ eval_n (drop l.i l.coefficients) l.x.0)
-
-abbrev pub decreases-loop-i : goal.decreases-loop-i
-decreases-loop-i l = l.i
+abbrev pub invariant-loop-coefficient : goal.invariant-loop-coefficient
+invariant-loop-coefficient l = l.value.0 ≡ eval_n (reverse (map (λ y. y.now) l.yielded)) l.x.0

@@ -1,7 +1,7 @@
 use mathlib.Core.Path.{◌≡◌, ◌∙◌, ap}
 use mathlib.Core.Logic.{◌≢◌}
 use Prim.Native.Nat.{ℕ, ◌<◌, ◌*◌, ◌-◌, ◌%◌, ◌/◌}
-use native.Mathlib.Nat.{mod-lt, div-le_self, mul-one, mod-eq_of_lt}
+use native.Mathlib.Nat.{mod-lt, mul-one, mod-eq_of_lt}
 use Rattle.algebra.specs.Prime.{q, prime}
 use Rattle.algebra.specs.Inverse.{inv_n-unique, inverse-step}
 use native.Mathlib.Omega.{arith}
@@ -9,18 +9,6 @@ use Rattle.field.proofs.inverse.Goals as goal
 
 pub loop-r-init : goal.loop-r-init
 loop-r-init c = (omega arith, omega arith, omega arith, rw mul-one (mod-eq_of_lt c.requires.1))
-
-pub nonzero_div-r : goal.nonzero_div-r
-nonzero_div-r c = omega arith
-
-pub overflow_sub-r : goal.overflow_sub-r
-overflow_sub-r c = omega (arith, div-le_self q c.loop-r.r)
-
-pub nonzero_rem-r : goal.nonzero_rem-r
-nonzero_rem-r c = omega arith
-
-pub loop-r-smaller : goal.loop-r-smaller
-loop-r-smaller c = let h : 0 < c.loop-r.r = omega arith in mod-lt _ h
 
 pub loop-r-preserved : goal.loop-r-preserved
 loop-r-preserved c =

@@ -17,6 +17,6 @@ loop-r-preserved c =
       simp length-set loop.invariant.2,
       simp length-set loop.invariant.3,
       loop.invariant.4,
-      load_turn s.values.now s.width s.lines s.j s.t.now loop.t loop.r c.signed_value-v.result
-          loop.invariant.1 c.loop-r-test.true loop.invariant.2 loop.invariant.5 c.signed_value-v.ensures,
+      load_turn s.values.now s.width s.lines s.j s.t.now loop.t loop.r c.signed_value.result
+          loop.invariant.1 c.loop-r-test.true loop.invariant.2 loop.invariant.5 c.signed_value.ensures,
     )

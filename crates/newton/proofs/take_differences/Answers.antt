@@ -17,11 +17,10 @@ loop-i-preserved c =
     let loop = c.loop-i in
     let s : List ℕ = c.args.s.now in
     let v : ℕ = c.difference.result in
-    let e : v ≡ neighbours s loop.i = c.difference.ensures ∙ ap₂ sub_n (loop.invariant.3 (loop.i + 1) (omega arith) (omega arith)) (loop.invariant.3 loop.i (omega arith) (omega arith)) in
+    let e : v ≡ neighbours s loop.i = c.difference.ensures ∙ ap₂ sub_n (loop.invariant.2 (loop.i + 1) (omega arith) (omega arith)) (loop.invariant.2 loop.i (omega arith) (omega arith)) in
     let b : v < q = subst (λ (t : ℕ). t < q) (sym c.difference.ensures) (mod-lt _ (lit< tt)) in (
-      omega arith,
-      length-set loop.s loop.i v ∙ loop.invariant.1,
-      fill_next (neighbours s) loop.s 0 loop.i v (omega arith) e loop.invariant.2,
-      fill-rest (entry_of s) loop.s loop.i (length s) v loop.invariant.3,
-      elements-set loop.s loop.i v b loop.invariant.4,
+      length-set loop.s loop.i v ∙ loop.invariant.0,
+      fill_next (neighbours s) loop.s 0 loop.i v (omega arith) e loop.invariant.1,
+      fill-rest (entry_of s) loop.s loop.i (length s) v loop.invariant.2,
+      elements-set loop.s loop.i v b loop.invariant.3,
     )

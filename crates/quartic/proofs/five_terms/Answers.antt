@@ -12,7 +12,7 @@ returns c =
     let two = c.folded-2 in
     let three = c.folded-3 in
     let four = c.folded-4 in
-    c.reduce.ensures
+    (rw c.from.ensures at c.reduce.ensures)
     ∙ five_folded args.a (args.f.e1 * args.b) (args.f.e2 * args.c) (args.f.e3 * args.d) (args.f.e4 * args.e) one.result two.result three.result four.result
     (folded_mod _ _ (one.ensures.0 ∙ ap fold_n c.product.ensures))
     (folded_mod _ _ (two.ensures.0 ∙ ap fold_n c.product-2.ensures))

@@ -1,16 +1,11 @@
 use mathlib.Core.Path.{◌≡◌, refl, ◌∙◌, subst}
 use mathlib.Core.List.{List}
 use Prim.Native.Nat.{ℕ, ◌+◌, ◌-◌}
-use lib.ListN.{length, get_or, set, length-set}
+use lib.ListN.{length, get_or, length-set}
 use Rattle.lists.specs.Tabulate.{filled}
 use Rattle.algebra.specs.Quartic.{quartic_at, quartic_turn, quartic_last}
 use native.Mathlib.Omega.{arith}
 use Rattle.quartic.proofs.sweep_four.Goals as goal
-
-pub loop-i-init : goal.loop-i-init
-loop-i-init c =
-    let n : length c.first_four.new.s ≡ length c.args.s.now = c.first_four.auto.s in
-    (omega arith, omega arith, omega arith, refl, λ t l e. e)
 
 pub loop-i-preserved : goal.loop-i-preserved
 loop-i-preserved c =
@@ -24,35 +19,6 @@ loop-i-preserved c =
       λ t l e. quartic_turn f.e1 f.e2 f.e3 f.e4 t loop.s loop.i v.result (get_or loop.s loop.i 0) (get_or loop.s (loop.i + 1) 0) (get_or loop.s (loop.i + 2) 0) (get_or loop.s (loop.i + 3) 0)
           (get_or loop.s (loop.i + 4) 0) (omega arith) (omega arith) (loop.invariant.4 t l e) refl refl refl refl refl v.ensures,
     )
-
-pub bounds-s-last-6 : goal.bounds-s-last-6
-bounds-s-last-6 c = simp length-set (omega arith)
-
-pub bounds-s-last-7 : goal.bounds-s-last-7
-bounds-s-last-7 c = simp length-set (omega arith)
-
-pub bounds-s-last-8 : goal.bounds-s-last-8
-bounds-s-last-8 c = simp length-set (omega arith)
-
-pub bounds-s-last-9 : goal.bounds-s-last-9
-bounds-s-last-9 c = simp length-set (omega arith)
-
-pub bounds-s-last-10 : goal.bounds-s-last-10
-bounds-s-last-10 c = simp length-set (omega arith)
-
-pub bounds-s-last-11 : goal.bounds-s-last-11
-bounds-s-last-11 c = simp length-set (omega arith)
-
-pub bounds-s-last-12 : goal.bounds-s-last-12
-bounds-s-last-12 c = simp length-set (omega arith)
-
-pub shape_of-s : goal.shape_of-s
-shape_of-s c =
-    let loop = c.loop-i in
-    let last : ℕ = length c.first_four.new.s - 4 in
-    let v = c.five_terms-2.result in
-    let w = c.five_terms-3.result in
-    length-set (set (set loop.s last v) (last + 1) w) (last + 2) c.five_terms-4.result ∙ length-set (set loop.s last v) (last + 1) w ∙ length-set loop.s last v ∙ loop.invariant.3 ∙ c.first_four.auto.s
 
 pub returns : goal.returns
 returns c =

@@ -1,45 +1,16 @@
 use mathlib.Core.Path.{◌≡◌, refl, sym, ◌∙◌, subst}
 use mathlib.Core.List.{List}
-use Prim.Native.Nat.{ℕ, ◌+◌, ◌-◌, ◌*◌, ◌≤◌}
+use Prim.Native.Nat.{ℕ, ◌+◌, ◌-◌, ◌*◌}
 use lib.ListN.{length, get_or, take, drop}
 use Rattle.lists.specs.Fill.{Filled}
 use Rattle.lists.specs.Parts.{row_fits, span_length, part_is}
 use Rattle.algebra.specs.Sums.{low_added, high_added, SmallProducts, Summed, summed_none, summed_turn, summed-spare}
-use borrow.Author.Rules.{rules}
 use native.Mathlib.Omega.{arith}
 use Rattle.row_sums.proofs.add_rows.Goals as goal
 
 pub loop-j-init : goal.loop-j-init
 loop-j-init c =
-    (refl, refl, omega arith, refl, c.requires.0, summed_none c.args.weights.now (length c.args.low.now) c.args.rows.now c.args.low.now c.args.high.now refl c.requires.0 c.requires.3 c.requires.4)
-
-pub overflow_mul-from : goal.overflow_mul-from
-overflow_mul-from c =
-    let r = row_fits (length c.args.low.now) c.loop-j.j (length c.args.weights.now) (omega arith) in
-    let b : length c.args.low.now * length c.args.weights.now ≤ length
-    c.args.rows.now = c.requires.1 in
-    search rules
-
-pub overflow_add-to : goal.overflow_add-to
-overflow_add-to c =
-    let r = row_fits (length c.args.low.now) c.loop-j.j (length c.args.weights.now) (omega arith) in
-    let b : length c.args.low.now * length c.args.weights.now ≤ length
-    c.args.rows.now = c.requires.1 in
-    search rules
-
-pub offset_bounds-rows-from : goal.offset_bounds-rows-from
-offset_bounds-rows-from c =
-    let r = row_fits (length c.args.low.now) c.loop-j.j (length c.args.weights.now) (omega arith) in
-    let b : length c.args.low.now * length c.args.weights.now ≤ length
-    c.args.rows.now = c.requires.1 in
-    search rules
-
-pub slice_bounds-add_multiple-end : goal.slice_bounds-add_multiple-end
-slice_bounds-add_multiple-end c =
-    let r = row_fits (length c.args.low.now) c.loop-j.j (length c.args.weights.now) (omega arith) in
-    let b : length c.args.low.now * length c.args.weights.now ≤ length
-    c.args.rows.now = c.requires.1 in
-    search rules
+    (refl, c.requires.0, summed_none c.args.weights.now (length c.args.low.now) c.args.rows.now c.args.low.now c.args.high.now refl c.requires.0 c.requires.3 c.requires.4)
 
 pub add_multiple-requires : goal.add_multiple-requires
 add_multiple-requires c =
@@ -47,8 +18,8 @@ add_multiple-requires c =
     let n : ℕ = length c.args.low.now in
     let r = row_fits n loop.j (length c.args.weights.now) (omega arith) in
     let e : length (take (n * loop.j + n - n * loop.j) (drop (n * loop.j) c.args.rows.now)) ≡ n = span_length (n * loop.j) n c.args.rows.now (omega (arith, r, c.requires.1)) in
-    let b = summed-spare c.args.weights.now n c.args.rows.now loop.j loop.low loop.high (omega (arith, c.requires.2)) loop.invariant.3 loop.invariant.4 loop.invariant.5 in
-    (loop.invariant.3 ∙ sym e, loop.invariant.4 ∙ sym e, b.0, b.1)
+    let b = summed-spare c.args.weights.now n c.args.rows.now loop.j loop.low loop.high (omega (arith, c.requires.2)) loop.invariant.0 loop.invariant.1 loop.invariant.2 in
+    (loop.invariant.0 ∙ sym e, loop.invariant.1 ∙ sym e, b.0, b.1)
 
 pub loop-j-preserved : goal.loop-j-preserved
 loop-j-preserved c =
@@ -61,16 +32,13 @@ loop-j-preserved c =
     let e : length row ≡ n = span_length (n * loop.j) n rs (omega (arith, r, c.requires.1)) in
     let x : List ℕ = c.add_multiple.new.low in
     let y : List ℕ = c.add_multiple.new.high in (
-      refl,
-      refl,
-      omega arith,
-      c.add_multiple.auto.low ∙ loop.invariant.3,
-      c.add_multiple.auto.high ∙ loop.invariant.4,
+      c.add_multiple.auto.low ∙ loop.invariant.0,
+      c.add_multiple.auto.high ∙ loop.invariant.1,
       summed_turn ws n rs loop.j row loop.low loop.high x y (omega arith) (part_is n loop.j rs)
           (subst (λ (k : ℕ). Filled (low_added (get_or ws loop.j 0) row loop.low) x 0 k) e c.add_multiple.ensures.0)
           (subst (λ (k : ℕ). Filled (high_added (get_or ws loop.j 0) row loop.high) y 0 k) e c.add_multiple.ensures.1)
           (subst (λ (k : ℕ). SmallProducts (get_or ws loop.j 0) row k) e c.add_multiple.ensures.2)
-          loop.invariant.5,
+          loop.invariant.2,
     )
 
 pub returns : goal.returns
@@ -79,5 +47,5 @@ returns c =
     let ws : List ℕ = c.args.weights.now in
     let n : ℕ = length c.args.low.now in
     let e : loop.j ≡ length ws = omega arith in
-    let b = summed-spare ws n c.args.rows.now loop.j loop.low loop.high (omega (arith, c.requires.2)) loop.invariant.3 loop.invariant.4 loop.invariant.5 in
-    (subst (λ (k : ℕ). Summed ws n c.args.rows.now k loop.low loop.high) e loop.invariant.5, b.0, b.1)
+    let b = summed-spare ws n c.args.rows.now loop.j loop.low loop.high (omega (arith, c.requires.2)) loop.invariant.0 loop.invariant.1 loop.invariant.2 in
+    (subst (λ (k : ℕ). Summed ws n c.args.rows.now k loop.low loop.high) e loop.invariant.2, b.0, b.1)

@@ -1,7 +1,7 @@
 use mathlib.Core.Path.{◌≡◌}
 use lib.ListN.{length-set}
 use Rattle.stepping.specs.Lanes.{run}
-use Rattle.stepping.proofs.Kernel.{lane_holds, lane_turn, lane_done, lane_fits}
+use Rattle.stepping.proofs.Kernel.{fold_kept, lane_holds, lane_turn, lane_done, lane_fits}
 use native.Mathlib.Omega.{arith}
 use Rattle.stepping.proofs.lane.Goals as goal
 
@@ -39,5 +39,5 @@ returns c =
     let loop = c.loop-n in let args = c.args in
     let z : loop.n ≡ run = omega (arith, loop.invariant.0, c.loop-n-test.false) in
     lane_done args.t.now args.at c.folded.result c.folded-2.result c.folded-3.result c.folded-4.result c.folded-5.result
-    loop.invariant.1 args.w.now args.j loop.w loop.v loop.n z loop.invariant.4 loop.invariant.5 c.folded.ensures c.folded-2.ensures
-    c.folded-3.ensures c.folded-4.ensures c.folded-5.ensures
+    loop.invariant.1 args.w.now args.j loop.w loop.v loop.n z loop.invariant.4 loop.invariant.5 (fold_kept _ _ c.folded.ensures) (fold_kept _ _ c.folded-2.ensures)
+    (fold_kept _ _ c.folded-3.ensures) (fold_kept _ _ c.folded-4.ensures) (fold_kept _ _ c.folded-5.ensures)
