@@ -1,2 +1,3 @@
 -- What the functions write, on lists.
+pub mod Copies
 pub mod Leaves

@@ -1,16 +1,13 @@
-// Digests in rows of bytes: copies, a digest written to its place, the string and the digest of a leaf, what a node's string begins with.
+// Digests in rows of bytes: the first one, a digest written to its place, the string and the digest of a leaf, what a node's string begins with.
 //
 // A digest has 32 bytes; in a row they stand one after the other. A function that writes a digest returns how many permutations were run for it.
 #![tactic(auto)]
 
 ghost use Rattle.std.specs.Prelude.{◌≡◌, ◌∷◌, ◌++◌, ◌+◌, ◌*◌, ◌/◌, ◌≤◌, ◌<◌, length, take, drop};
-ghost use Rattle.std.proofs.Math.Seq.{paste};
 ghost use Rattle.sponge.specs.Digest.{digest};
 ghost use Rattle.tree.specs.Leaf.{leaf_string, salt_length, prefix_length, record_start, index_end, longest_record};
 
 use node_sets::LeafIndex;
-
-const SALT: usize = 32; // bytes of a salt
 
 pub const PREFIX: usize = 33; // what every string begins with: a byte, the salt
 
@@ -20,27 +17,7 @@ const LONGEST_LEAF: usize = 339; // a string with the longest record
 
 pub const NODE: usize = 97; // a node's string: the prefix, two digests
 
-// ---- Copies and digests
-
-// Copies n bytes of src, from a place on, to a place of dst.
-pub fn copy(dst: &mut [u8], to: usize, src: &[u8], from: usize, n: usize)
-    requires { (to + n ≤ length dst.old) × (from + n ≤ length src.now) }
-    ensures { dst.new ≡ paste dst.old to (drop from src.now) n }
-{
-    let mut i = 0;
-    while i < n {
-        dst[to + i] = src[from + i];
-        i += 1;
-    }
-}
-
-// Copies the first n bytes.
-fn copy_front(dst: &mut [u8], src: &[u8], n: usize)
-    requires { (n ≤ length dst.old) × (n ≤ length src.now) }
-    ensures { take n dst.new ≡ take n src.now }
-{
-    copy(dst, 0, src, 0, n);
-}
+// ---- Digests
 
 // The first digest.
 pub fn first_digest(s: &[u8]) -> [u8; 32]
@@ -48,7 +25,7 @@ pub fn first_digest(s: &[u8]) -> [u8; 32]
     ensures { result ≡ take 32 s.now }
 {
     let mut d = [0u8; 32];
-    copy_front(&mut d, s, 32);
+    d.copy_from_slice(&s[..32]);
     d
 }
 
@@ -59,8 +36,7 @@ fn digest_into(s: &[u8], out: &mut [u8]) -> usize
     ensures value { result ≡ length s.now / 136 + 1 }
 {
     let h = sponge::hash(s);
-    let d = h.digest;
-    copy(out, 0, &d, 0, 32);
+    out.copy_from_slice(&h.digest);
     h.permutations
 }
 
@@ -83,10 +59,10 @@ fn leaf_string(salt: &[u8], index: LeafIndex, leaf: &[u8], buf: &mut [u8])
     ensures { take (record_start + length leaf.now) buf.new ≡ leaf_string salt.now index.0 leaf.now }
 {
     buf[0] = 0;
-    copy(buf, 1, salt, 0, SALT);
+    buf[1..PREFIX].copy_from_slice(salt);
     buf[PREFIX] = (index.0 % 256) as u8;
     buf[PREFIX + 1] = (index.0 / 256 % 256) as u8;
-    copy(buf, RECORD_START, leaf, 0, leaf.len());
+    buf[RECORD_START..RECORD_START + leaf.len()].copy_from_slice(leaf);
 }
 
 // The digest of a leaf, given the commitment's salt, the leaf's index and its record of values and nonce.
@@ -108,7 +84,7 @@ pub fn node_buffer(salt: &[u8]) -> [u8; NODE]
     requires { length salt.now ≡ salt_length }
     ensures { (length result ≡ 97) × (take prefix_length result ≡ 1 ∷ salt.now) }
 {
-    let mut buf = [1u8; NODE];
-    copy(&mut buf, 1, salt, 0, SALT);
-    buf
+    let mut node = [1u8; NODE];
+    node[1..PREFIX].copy_from_slice(salt);
+    node
 }

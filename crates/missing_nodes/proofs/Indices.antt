@@ -1,11 +1,11 @@
 -- From a set of leaf indices to what the inner functions ask for.
 use mathlib.Core.List.{List}
-use mathlib.Core.Path.{◌≡◌, refl, sym, ap, subst}
+use mathlib.Core.Path.{◌≡◌, refl, ap}
 use Prim.Native.Nat.{ℕ, ◌*◌, ◌^◌, ◌≤◌}
 use native.Mathlib.Nat.{mul-one, mul-le-mul}
 use native.Mathlib.Omega.{arith}
-use lib.ListN.{length, take}
-use Rattle.lists.specs.All.{Below}
+use lib.ListN.{length}
+use lib.Seq.{take-length}
 use Rattle.lists.specs.Bytes.{Bytes}
 use Rattle.lists.specs.Rising.{Rising}
 use Rattle.tree.specs.Clauses.{IndexSet}
@@ -29,13 +29,13 @@ index_count {h} {s} i = record {
   total = omega (arith, missing_few h s i.rising, mul-le-mul i.few i.depth);
 }
 
-pub index_list : {h : ℕ} {s idx : List ℕ} → IndexSet h s → length idx ≡ 64 → take (length s) idx ≡ s
+pub index_list : {h : ℕ} {s : List ℕ} → IndexSet h s
     → {width : ℕ} {tree out : Bytes} → width ≡ 2 ^ h → length tree ≡ 32 * tree_size 2 h → 32 * length (missing 2 h s) ≤ length out
-    → CanListNodes 2 h width idx (length s) tree out
-index_list {h} {s} i long copied {out = out} w t o = record {
-  set = index_nodes i long copied;
+    → CanListNodes 2 h width s (length s) tree out
+index_list i w t o = record {
+  set = index_nodes i;
   wide = w;
-  leaves = subst (Below (2 ^ h)) (sym copied) i.leaves;
+  leaves = rw take-length i.leaves;
   tree_has = omega (arith, t);
-  room = subst (λ (x : List ℕ). 32 * length (missing 2 h x) ≤ length out) (sym copied) o;
+  room = rw take-length o;
 }

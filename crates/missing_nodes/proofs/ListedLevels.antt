@@ -1,12 +1,12 @@
 -- What a turn of `list_level` and of `list_nodes` does, on lists.
-use mathlib.Core.List.{List, [], ◌++◌, map, flatten, map-append, append_assoc, append-nil}
+use mathlib.Core.List.{List, [], ◌++◌, map, flatten, map-append, append_assoc, append-nil, Memᴰ as Mem}
 use mathlib.Core.Path.{◌≡◌, refl, sym, ap, ap₂, ◌∙◌, subst}
 use Prim.Native.Nat.{ℕ, zero, suc, ◌+◌, ◌*◌, ◌/◌, ◌^◌, ◌≤◌, ◌<◌, ◌-◌}
 use native.Mathlib.Nat.{zero-add, pow-suc, div-lt_iff_lt-mul, add-zero, not-suc-le-zero, pow-succ', mul-div_cancel, mul-le-mul_left}
 use native.Mathlib.Numerals.{sub-one}
 use native.Mathlib.Omega.{arith}
 use lib.ListN.{length, get_or, take, drop, length-drop, drop_of_length-le, take-append-drop}
-use lib.Seq.{get_or-drop, drop-drop}
+use lib.Seq.{get_or-drop, drop-drop, take-length}
 use Rattle.lists.specs.All.{Below, below_mem}
 use Rattle.lists.specs.Bytes.{Bytes}
 use Rattle.lists.specs.Maps.{map_cong}
@@ -20,7 +20,7 @@ use Rattle.tree.proofs.Counts.{missing_none, missing_count}
 use Rattle.lists.specs.Drops.{drop_later}
 use Rattle.tree.proofs.Members.{parents_below}
 use Rattle.tree.proofs.Turns.{Turn, no_siblings}
-use Rattle.node_sets.proofs.Sets.{set-kept}
+use Rattle.node_sets.proofs.Sets.{set-kept, set-alone}
 use Rattle.node_sets.proofs.Turns.{set-length, turn_at, index_in}
 
 -- Where `list_level` stands after some turns: what is left of the set s begins at place a
@@ -90,6 +90,19 @@ module _ {b : ℕ} {idx : List ℕ} {n : ℕ} {tree : Bytes} {start : ℕ} {out�
         rest = v.rest;
         spent = omega (arith, v.missing_are, ap (λ (x : List ℕ). length (siblings b x)) nil ∙ ap length (no_siblings b));
       }
+
+-- a level's set is a whole slice: what a turn of `list_level` gives, and what its caller asks with a set in a longer slice
+pub listed_whole : {first b : ℕ} {s : List ℕ} {ds : List Bytes} {start : ℕ} {out₀ out : Bytes} {a t a' t' : ℕ}
+    → Listed first b s ds start out₀ out a t a' t' → Listed first b (take (length s) s) ds start out₀ out a t a' t'
+listed_whole g = rw take-length g
+
+pub level-alone : {b : ℕ} {idx : List ℕ} {n : ℕ} {tree : Bytes} {start : ℕ} {out : Bytes} {t : ℕ} → CanListLevel b idx n tree start out t
+    → CanListLevel b (take n idx) (length (take n idx)) tree start out t
+level-alone {idx = idx} {n} c = record {
+  set = set-alone c.set;
+  tree_has = λ i m. c.tree_has i (subst (Mem i) (take-length (take n idx)) m);
+  room = rw (take-length (take n idx)) c.room;
+}
 
 -- ---- all levels
 

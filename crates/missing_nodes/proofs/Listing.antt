@@ -5,9 +5,9 @@ use mathlib.Core.Path.{◌≡◌, sym, ap, ◌∙◌}
 use Prim.Native.Nat.{ℕ, suc, ◌+◌, ◌*◌, ◌/◌, ◌≤◌, ◌<◌, ◌-◌}
 use native.Mathlib.Omega.{arith}
 use lib.ListN.{length, take, drop, length-drop}
-use lib.Seq.{drop-drop, paste, drop-paste}
+use lib.Seq.{take-length, drop-drop, paste, drop-paste}
 use Rattle.lists.specs.Bytes.{Bytes}
-use Rattle.missing_nodes.specs.Clauses.{Listed}
+use Rattle.missing_nodes.specs.Clauses.{CanList, Listed}
 use Rattle.tree.specs.Tree.{at, all_parts}
 use Rattle.tree.specs.Walk.{used, skipped, heads}
 use Rattle.tree.proofs.Children.{used_own, used_listed, used_most, skipped_own, skipped_listed, next_filled}
@@ -41,7 +41,7 @@ module _ {first b : ℕ} {s : List ℕ} {ds : List Bytes} {start : ℕ} {out₀ 
   }
 
   -- there is room for one more
-  pub listing_room : heads (drop a s) c ≡ false → (m : ℕ) → 32 * (t₀ + (b - used first b (drop a₀ s))) ≤ m → 32 * t + 32 ≤ m
+  listing_room : heads (drop a s) c ≡ false → (m : ℕ) → 32 * (t₀ + (b - used first b (drop a₀ s))) ≤ m → 32 * t + 32 ≤ m
   listing_room e m h =
       omega (arith, g.own, g.both, h, used_listed c left (drop a s) pos e, used_most (c + 1) (left - 1) (drop a s), used_most first b (drop a₀ s))
 
@@ -77,6 +77,12 @@ listing_done {first} {b} {s} {ds} {start} {out₀} {a₀} {t₀} {out} {a} {t} {
       own = omega (arith, g.own);
       listed = omega (arith, g.own, g.both, used_most first b (drop a₀ s));
     }
+
+-- .. in out
+pub listing_fits : {first b : ℕ} {s : List ℕ} {ds : List Bytes} {tree : Bytes} {start : ℕ} {out₀ : Bytes} {a₀ t₀ : ℕ} {out : Bytes} {a t c left : ℕ}
+    → CanList first b s (length s) a₀ tree start out₀ t₀ → Listing first b s ds start out₀ a₀ t₀ out a t c left → 0 < left → heads (drop a s) c ≡ false
+    → 32 * t + 32 ≤ length out
+listing_fits {out₀ = out₀} can g pos e = omega (arith, listing_room g pos e (length out₀) (rw take-length at can.room), g.same)
 
 -- a digest of the tree is copied to place t
 module _ (out tree : Bytes) (t j : ℕ) {out' : Bytes} (e : out' ≡ paste out (32 * t) (drop (32 * j) tree) 32) (room : 32 * t + 32 ≤ length out) (has : j < length tree / 32) where

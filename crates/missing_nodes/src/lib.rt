@@ -1,10 +1,10 @@
 // The missing nodes of a set of leaves: how many they are, and their digests, copied from a tree.
 //
 // The inner functions are general in the number b of a node's children; the public ones take two.
-// A set of nodes of one level is the first n numbers of idx, in rising order. a is a place in a set, t a place in a list of nodes.
+// A set of nodes of one level is a slice of numbers in rising order. a is a place in a set, t a place in a list of nodes.
 #![tactic(auto)]
 
-ghost use Rattle.std.specs.Prelude.{◌≡◌, ◌*◌, ◌^◌, ◌≤◌, ◌<◌, length, take, drop};
+ghost use Rattle.std.specs.Prelude.{◌≡◌, ◌*◌, ◌^◌, ◌≤◌, ◌<◌, length, drop};
 ghost use mathlib.Core.List.{◌++◌, flatten};
 ghost use Rattle.tree.specs.Sets.{missing, tree_size};
 ghost use Rattle.tree.specs.Ancestors.{changes};
@@ -12,8 +12,7 @@ ghost use Rattle.tree.specs.Tree.{all_parts, opened};
 ghost use Rattle.tree.specs.Clauses.{IndexSet};
 ghost use Rattle.missing_nodes.specs.Clauses.{CanCount, CanList, Listed, CanListLevel, LevelListed, CanListNodes, NodesListed};
 
-use digests::copy;
-use node_sets::{Place, copy_indices, next_is, to_parents};
+use node_sets::{Place, next_is, to_parents};
 
 // ---- Counting
 
@@ -40,13 +39,11 @@ fn count_nodes(b: usize, bits: usize, h: usize, indices: &[usize]) -> usize
     let mut n = indices.len();
     let mut t = 0;
     let mut shift = 0;
-    let mut left = h;
-    while 0 < left {
+    for _ in 0..h {
         shift += bits;
         let w = count_changes(shift, indices) + 1;
         t += b * w - n;
         n = w;
-        left -= 1;
     }
     t
 }
@@ -65,54 +62,41 @@ pub fn count_missing(h: usize, indices: &[usize]) -> usize
 fn list_children(
     first: usize,
     b: usize,
-    idx: &[usize],
-    n: usize,
+    set: &[usize],
     a: usize,
     tree: &[u8],
     start: usize,
     out: &mut [u8],
     t: usize,
 ) -> Place
-    requires { CanList first b idx.now n a tree.now start out.old t }
-    ensures { Listed first b (take n idx.now) (all_parts tree.now) start out.old out.new a t result.a result.t }
+    requires { CanList first b set.now (length set.now) a tree.now start out.old t }
+    ensures { Listed first b set.now (all_parts tree.now) start out.old out.new a t result.a result.t }
 {
     let mut a = a;
     let mut t = t;
-    let mut c = first;
-    let mut left = b;
-    while 0 < left {
-        if next_is(idx, n, a, c) {
+    for c in first..first + b {
+        if next_is(set, a, c) {
             a += 1;
-            c += 1;
-            left -= 1;
         } else {
-            copy(out, 32 * t, tree, 32 * (start + c), 32);
+            let to = 32 * t;
+            let from = 32 * (start + c);
+            out[to..to + 32].copy_from_slice(&tree[from..from + 32]);
             t += 1;
-            c += 1;
-            left -= 1;
         }
     }
     Place { a, t }
 }
 
 // Lists the missing nodes of one level. Returns the next place in out.
-fn list_level(
-    b: usize,
-    idx: &[usize],
-    n: usize,
-    tree: &[u8],
-    start: usize,
-    out: &mut [u8],
-    t: usize,
-) -> usize
-    requires { CanListLevel b idx.now n tree.now start out.old t }
-    ensures { LevelListed b (take n idx.now) (all_parts tree.now) start out.old out.new t result }
+fn list_level(b: usize, set: &[usize], tree: &[u8], start: usize, out: &mut [u8], t: usize) -> usize
+    requires { CanListLevel b set.now (length set.now) tree.now start out.old t }
+    ensures { LevelListed b set.now (all_parts tree.now) start out.old out.new t result }
 {
     let mut a = 0;
     let mut t = t;
-    while a < n {
-        let p = idx[a] / b;
-        let g = list_children(b * p, b, idx, n, a, tree, start, out, t);
+    while a < set.len() {
+        let p = set[a] / b;
+        let g = list_children(b * p, b, set, a, tree, start, out, t);
         a = g.a;
         t = g.t;
     }
@@ -124,25 +108,22 @@ fn list_nodes(
     b: usize,
     h: usize,
     width: usize,
-    idx: &mut [usize],
-    n: usize,
+    set: &mut [usize],
     tree: &[u8],
     out: &mut [u8],
 ) -> usize
-    requires { CanListNodes b h width idx.old n tree.now out.old }
-    ensures { NodesListed b h (take n idx.old) (all_parts tree.now) out.old out.new result }
+    requires { CanListNodes b h width set.old (length set.old) tree.now out.old }
+    ensures { NodesListed b h set.old (all_parts tree.now) out.old out.new result }
 {
-    let mut n = n;
+    let mut n = set.len();
     let mut t = 0;
     let mut start = 0;
     let mut width = width;
-    let mut left = h;
-    while 0 < left {
-        t = list_level(b, idx, n, tree, start, out, t);
-        n = to_parents(b, idx, n);
+    for _ in 0..h {
+        t = list_level(b, &set[..n], tree, start, out, t);
+        n = to_parents(b, &mut set[..n]);
         start += width;
         width = width / b;
-        left -= 1;
     }
     t
 }
@@ -153,7 +134,8 @@ pub fn list_missing(h: usize, n: usize, indices: &[usize], tree: &[u8], out: &mu
     ensures value { result ≡ length (missing 2 h indices.now) }
     ensures out_after { out.new ≡ flatten (opened 2 h (all_parts tree.now) indices.now) ++ drop (32 * result) out.old }
 {
-    let mut idx = [0usize; 64];
-    copy_indices(&mut idx, indices);
-    list_nodes(2, h, n, &mut idx, indices.len(), tree, out)
+    let mut room = [0usize; 64];
+    let set = &mut room[..indices.len()];
+    set.copy_from_slice(indices);
+    list_nodes(2, h, n, set, tree, out)
 }

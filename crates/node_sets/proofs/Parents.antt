@@ -7,7 +7,7 @@ use native.Mathlib.Nat.{add-zero, not-suc-le-zero}
 use native.Mathlib.Numerals.{add-one}
 use native.Mathlib.Omega.{arith}
 use lib.ListN.{length, get_or, take, drop, length-drop, drop_of_length-le, set, length-set}
-use lib.Seq.{get_or-drop, drop-drop, length-take-le, get_or-take, take-set-lt, drop-set-lt, take-suc-set, append_snoc}
+use lib.Seq.{get_or-drop, drop-drop, length-take-le, take_all, get_or-take, take-set-lt, drop-set-lt, take-suc-set, append_snoc}
 use Rattle.tree.specs.Sets.{parents}
 use Rattle.tree.specs.Walk.{used, heads}
 use Rattle.tree.proofs.Children.{used_own, used_listed}
@@ -41,6 +41,10 @@ pub record ParentsInv (b : ℕ) (idx₀ : List ℕ) (n : ℕ) (idx : List ℕ) (
 module _ {b : ℕ} {idx₀ : List ℕ} {n : ℕ} (can : NodeSet b idx₀ n) where
   pub set_holds : ParentsInv b idx₀ n idx₀ 0 0
   set_holds = record { behind = omega arith; bounded = omega arith; same_idx = refl; rest-set = refl; parents_are = refl }
+
+  -- a set that is a whole slice
+  pub set_whole : {idx : List ℕ} {a w : ℕ} → ParentsInv b idx₀ (length idx₀) idx a w → take (length idx₀) idx ≡ idx
+  set_whole {idx} v = take_all (length idx₀) idx (omega (arith, v.same_idx))
 
   module _ {idx : List ℕ} {a w : ℕ} (v : ParentsInv b idx₀ n idx a w) (more : a < n) where
     same_index : get_or idx₀ a 0 ≡ get_or idx a 0

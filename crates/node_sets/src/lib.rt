@@ -1,6 +1,6 @@
 // Numbers of nodes: the index of a leaf, and sets of nodes of one level with their parents.
 //
-// A set is the first n numbers of idx, in rising order; a is a place in it. A node has b children.
+// A set is a slice of numbers in rising order; a is a place in it. A node has b children.
 #![tactic(auto)]
 
 ghost use Rattle.std.specs.Prelude.{◌≡◌, ◌+◌, ◌≤◌, ◌<◌, length, get_or, take, drop};
@@ -32,60 +32,40 @@ pub fn opened_index(indices: &[usize], a: usize) -> LeafIndex
     LeafIndex(i as u32)
 }
 
-// Copies a set of indices to the front of dst.
-pub fn copy_indices(dst: &mut [usize], src: &[usize])
-    requires { length src.now ≤ length dst.old }
-    ensures { take (length src.now) dst.new ≡ src.now }
-{
-    let mut i = 0;
-    while i < src.len() {
-        dst[i] = src[i];
-        i += 1;
-    }
-}
-
 // ---- Sets of nodes
 
 // Does the set go on with c, from place a on?
-pub fn next_is(idx: &[usize], n: usize, a: usize, c: usize) -> bool
-    requires { n ≤ length idx.now }
-    ensures { result ≡ heads (drop a (take n idx.now)) c }
+pub fn next_is(set: &[usize], a: usize, c: usize) -> bool
+    ensures { result ≡ heads (drop a set.now) c }
 {
-    if a < n { idx[a] == c } else { false }
+    a < set.len() && set[a] == c
 }
 
 // The place in the set, from a on, behind those of the b children from first on that it has.
-fn skip_children(first: usize, b: usize, idx: &[usize], n: usize, a: usize) -> usize
-    requires { (n ≤ length idx.now) × (first + b ≤ 4294967296) }
-    ensures { result ≡ a + used first b (drop a (take n idx.now)) }
+fn skip_children(first: usize, b: usize, set: &[usize], a: usize) -> usize
+    requires { first + b ≤ 4294967296 }
+    ensures { result ≡ a + used first b (drop a set.now) }
 {
     let mut a = a;
-    let mut c = first;
-    let mut left = b;
-    while 0 < left {
-        if next_is(idx, n, a, c) {
+    for c in first..first + b {
+        if next_is(set, a, c) {
             a += 1;
-            c += 1;
-            left -= 1;
-        } else {
-            c += 1;
-            left -= 1;
         }
     }
     a
 }
 
 // The set's parents take its place. Returns their number.
-pub fn to_parents(b: usize, idx: &mut [usize], n: usize) -> usize
-    requires { NodeSet b idx.old n }
-    ensures { (result ≡ length (parents b (take n idx.old))) × (take result idx.new ≡ parents b (take n idx.old)) }
+pub fn to_parents(b: usize, set: &mut [usize]) -> usize
+    requires { NodeSet b set.old (length set.old) }
+    ensures { (result ≡ length (parents b set.old)) × (take result set.new ≡ parents b set.old) }
 {
     let mut a = 0;
     let mut w = 0;
-    while a < n {
-        let p = idx[a] / b;
-        a = skip_children(b * p, b, idx, n, a);
-        idx[w] = p;
+    while a < set.len() {
+        let p = set[a] / b;
+        a = skip_children(b * p, b, set, a);
+        set[w] = p;
         w += 1;
     }
     w

@@ -19,23 +19,21 @@ fn xor_word(a: &mut [u64; 25], lane: usize, s: &[u8], at: usize)
     requires { (lane < 25) × (at ≤ length s.now) }
     ensures { a.new ≡ W.xor_word a.old lane s.now at }
 {
-    let w = word(s, at);
-    a[lane] = a[lane] ^ w;
+    a[lane] ^= word(s, at);
 }
 
 // The lanes of the rate ⊕ the bytes of a block, or of what the string has of it: full words, and then those left. Full words cost no test of their own:
-// the loop's test is that of `word`, and of a whole block the compiler knows the length.
+// each is a part of known length.
 fn xor_words(a: &mut [u64; 25], s: &[u8])
     requires { (length a.old ≡ 25) × (length s.now ≤ 136) }
     ensures { a.new ≡ S.xor_block a.old s.now 0 }
 {
-    let mut lane: usize = 0;
-    while 8 <= s.len() - 8 * lane {
-        xor_word(a, lane, s, 8 * lane);
-        lane += 1;
+    let full = s.len() / 8;
+    for lane in 0..full {
+        let at = 8 * lane;
+        xor_word(a, lane, &s[at..at + 8], 0);
     }
-    let left = 8 * lane;
-    xor_word(a, lane, s, left);
+    xor_word(a, full, s, 8 * full);
 }
 
 // The lanes of the rate ⊕ the last block of the padded string, of which the string itself has the bytes s. The padding goes straight into the state:
@@ -48,8 +46,8 @@ fn xor_last_block(a: &mut [u64; 25], s: &[u8])
     let n = s.len();
     let lane = n / 8;
     let shift = n % 8 * 8;
-    a[lane] = a[lane] ^ (0x1f << shift);
-    a[16] = a[16] ^ 0x8000_0000_0000_0000;
+    a[lane] ^= 0x1f << shift;
+    a[16] ^= 0x8000_0000_0000_0000;
 }
 
 // A state, and how many permutations were run for it.
@@ -66,15 +64,14 @@ fn absorb(s: &[u8]) -> Absorbed
 {
     let mut a = [0u64; 25];
     let mut ran: usize = 0;
-    let mut at: usize = 0;
-    while RATE <= s.len() - at {
-        let next = at + RATE;
-        xor_words(&mut a, &s[at..next]);
+    let blocks = s.len() / RATE;
+    for block in 0..blocks {
+        let at = RATE * block;
+        xor_words(&mut a, &s[at..at + RATE]);
         keccak_f(&mut a);
         ran += 1;
-        at = next;
     }
-    xor_last_block(&mut a, &s[at..]);
+    xor_last_block(&mut a, &s[RATE * blocks..]);
     keccak_f(&mut a);
     Absorbed {
         state: a,
@@ -124,14 +121,13 @@ fn absorb_blocks(a: &mut [u64; 25], s: &[u8]) -> usize
     requires { length a.old ≡ 25 }
     ensures { (result ≡ length s.now / 136 * 136) × (a.new ≡ R.absorbed_from a.old s.now (length s.now / 136)) }
 {
-    let mut done: usize = 0;
-    while RATE <= s.len() - done {
-        let next = done + RATE;
-        xor_words(a, &s[done..next]);
+    let full = s.len() / RATE;
+    for block in 0..full {
+        let at = RATE * block;
+        xor_words(a, &s[at..at + RATE]);
         keccak_f(a);
-        done = next;
     }
-    done
+    RATE * full
 }
 
 // All blocks of the padded string go into the state.
@@ -149,14 +145,13 @@ fn squeeze_all(a: [u64; 25], out: &mut [u8])
     ensures { out.new ≡ R.output a (length out.old) }
 {
     let mut b = a;
-    let mut at: usize = 0;
-    while RATE < out.len() - at {
-        let next = at + RATE;
-        squeeze_block(b, &mut out[at..next]);
+    let before_last = out.len().saturating_sub(1) / RATE;
+    for block in 0..before_last {
+        let at = RATE * block;
+        squeeze_block(b, &mut out[at..at + RATE]);
         keccak_f(&mut b);
-        at = next;
     }
-    squeeze_block(b, &mut out[at..]);
+    squeeze_block(b, &mut out[RATE * before_last..]);
 }
 
 // The state after the full blocks of a string, for `draw_after`.

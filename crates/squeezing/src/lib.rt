@@ -8,43 +8,14 @@ ghost use Rattle.keccak.specs.Strings.{bytes};
 pub fn squeeze(a: [u64; 25]) -> [u8; 32]
     ensures { result ≡ take 32 (bytes a) }
 {
-    let a0 = a[0];
-    let a1 = a[1];
-    let a2 = a[2];
-    let a3 = a[3];
+    let w = a[0].to_le_bytes();
+    let x = a[1].to_le_bytes();
+    let y = a[2].to_le_bytes();
+    let z = a[3].to_le_bytes();
     [
-        ((a0 >> 0) % 256) as u8,
-        ((a0 >> 8) % 256) as u8,
-        ((a0 >> 16) % 256) as u8,
-        ((a0 >> 24) % 256) as u8,
-        ((a0 >> 32) % 256) as u8,
-        ((a0 >> 40) % 256) as u8,
-        ((a0 >> 48) % 256) as u8,
-        ((a0 >> 56) % 256) as u8,
-        ((a1 >> 0) % 256) as u8,
-        ((a1 >> 8) % 256) as u8,
-        ((a1 >> 16) % 256) as u8,
-        ((a1 >> 24) % 256) as u8,
-        ((a1 >> 32) % 256) as u8,
-        ((a1 >> 40) % 256) as u8,
-        ((a1 >> 48) % 256) as u8,
-        ((a1 >> 56) % 256) as u8,
-        ((a2 >> 0) % 256) as u8,
-        ((a2 >> 8) % 256) as u8,
-        ((a2 >> 16) % 256) as u8,
-        ((a2 >> 24) % 256) as u8,
-        ((a2 >> 32) % 256) as u8,
-        ((a2 >> 40) % 256) as u8,
-        ((a2 >> 48) % 256) as u8,
-        ((a2 >> 56) % 256) as u8,
-        ((a3 >> 0) % 256) as u8,
-        ((a3 >> 8) % 256) as u8,
-        ((a3 >> 16) % 256) as u8,
-        ((a3 >> 24) % 256) as u8,
-        ((a3 >> 32) % 256) as u8,
-        ((a3 >> 40) % 256) as u8,
-        ((a3 >> 48) % 256) as u8,
-        ((a3 >> 56) % 256) as u8,
+        w[0], w[1], w[2], w[3], w[4], w[5], w[6], w[7], x[0], x[1], x[2], x[3], x[4], x[5], x[6],
+        x[7], y[0], y[1], y[2], y[3], y[4], y[5], y[6], y[7], z[0], z[1], z[2], z[3], z[4], z[5],
+        z[6], z[7],
     ]
 }
 
@@ -53,11 +24,8 @@ pub fn squeeze_block(a: [u64; 25], out: &mut [u8])
     requires { length out.old ≤ 136 }
     ensures { out.new ≡ take (length out.old) (bytes a) }
 {
-    let mut i: usize = 0;
-    while i < out.len() {
-        let k = i / 8;
+    for (i, byte) in out.iter_mut().enumerate() {
         let shift = i % 8 * 8;
-        out[i] = ((a[k] >> shift) % 256) as u8;
-        i += 1;
+        *byte = ((a[i / 8] >> shift) % 256) as u8;
     }
 }

@@ -12,7 +12,7 @@ ghost use Rattle.tree.specs.Sets.{tree_size};
 ghost use Rattle.tree.specs.Tree.{parts, all_parts, tree as tree_of};
 ghost use Rattle.tree_fill.specs.Clauses.{CanHashLevel, with_level, CanFillLevels};
 
-use digests::{PREFIX, copy, node_buffer, write_digest};
+use digests::{PREFIX, node_buffer, write_digest};
 
 // Hashes one level: part begins with its b * w digests, and the w digests of the level above are written into the part that begins after them.
 fn hash_level(b: usize, w: usize, part: &mut [u8], buf: &mut [u8], off: usize)
@@ -22,11 +22,10 @@ fn hash_level(b: usize, w: usize, part: &mut [u8], buf: &mut [u8], off: usize)
 {
     let size = 32 * b;
     let above = size * w;
-    let mut p = 0;
-    while p < w {
-        copy(buf, off, part, size * p, size);
+    for p in 0..w {
+        let children = size * p;
+        buf[off..].copy_from_slice(&part[children..children + size]);
         write_digest(buf, &mut part[above..], p);
-        p += 1;
     }
 }
 
@@ -35,15 +34,13 @@ fn fill_levels(b: usize, h: usize, n: usize, tree: &mut [u8], buf: &mut [u8], of
     requires { CanFillLevels b h n tree.old buf.old off }
     ensures { tree.new ≡ flatten (tree_of digest b (take off buf.old) h (parts n tree.old)) }
 {
-    let mut left = h;
     let mut n = n;
     let mut start = 0;
-    while 0 < left {
+    for _ in 0..h {
         let w = n / b;
         hash_level(b, w, &mut tree[start..], buf, off);
         start += 32 * n;
         n = w;
-        left -= 1;
     }
 }
 

@@ -1,17 +1,19 @@
 -- What a turn of `gather_children` does, on lists.
 use mathlib.Core.Bool.{true, false}
 use mathlib.Core.List.{List, [], ◌++◌, flatten, append-nil}
-use mathlib.Core.Path.{◌≡◌, refl, sym, ap, ◌∙◌}
-use Prim.Native.Nat.{ℕ, suc, ◌+◌, ◌*◌, ◌≤◌, ◌<◌, ◌-◌}
+use mathlib.Core.Path.{◌≡◌, sym, ap, ◌∙◌}
+use Prim.Native.Nat.{ℕ, suc, ◌+◌, ◌*◌, ◌/◌, ◌≤◌, ◌<◌, ◌-◌}
 use native.Mathlib.Omega.{arith}
 use lib.ListN.{length, take, drop}
-use lib.Seq.{take_all}
+use lib.Seq.{take_all, take-length}
+use borrow.Rule.Slice.PartMut.{put_mid}
 use Rattle.lists.specs.Bytes.{Bytes}
-use Rattle.tree_root.specs.Clauses.{Gathered}
-use Rattle.tree.specs.Tree.{at}
+use Rattle.tree_root.specs.Clauses.{CanGather, Gathered}
+use Rattle.tree.specs.Tree.{at, parts}
 use Rattle.tree.specs.Walk.{used, fill, heads}
 use Rattle.tree.proofs.Children.{fill_own, fill_listed, used_own, used_listed, used_most, next_filled}
-use Rattle.tree.proofs.Digests.{at_drop}
+use Rattle.tree.proofs.Digests.{at_drop, copy_part}
+use Rattle.digests.proofs.Copies.{put_span, span_kept}
 use Rattle.lists.specs.Drops.{tail-drop}
 
 -- buf is filled for all children but the last left ones, of which c is the first
@@ -23,19 +25,6 @@ pub record Gathering (first b : ℕ) (s : List ℕ) (ds ns : List Bytes) (pre : 
   pub both : a + t + left ≡ a₀ + t₀ + b
   pub filled : take (off + 32 * (b - left)) buf ++ flatten (fill c left (drop a s) (drop a ds) (drop t ns))
       ≡ pre ++ flatten (fill first b (drop a₀ s) (drop a₀ ds) (drop t₀ ns))
-
-pub gathering_holds : (first b : ℕ) (s : List ℕ) (ds ns : List Bytes) (buf : Bytes) (off a t : ℕ)
-    → Gathering first b s ds ns (take off buf) off a t (length buf) buf a t first b
-gathering_holds first b s ds ns buf off a t =
-    let e : off + 32 * (b - b) ≡ off = omega arith in
-    record {
-      size = refl;
-      most = omega arith;
-      number = refl;
-      own = refl;
-      both = refl;
-      filled = ap (λ (k : ℕ). take k buf ++ flatten (fill first b (drop a s) (drop a ds) (drop t ns))) e;
-    }
 
 module _ {first b : ℕ} {s : List ℕ} {ds ns : List Bytes} {pre : Bytes} {off a₀ t₀ len : ℕ} {buf : Bytes} {a t c left : ℕ}
     (g : Gathering first b s ds ns pre off a₀ t₀ len buf a t c left) (pos : 0 < left) where
@@ -79,9 +68,24 @@ module _ {first b : ℕ} {s : List ℕ} {ds ns : List Bytes} {pre : Bytes} {off 
   }
 
   -- a child that the set does not have is among the nodes
-  pub gathering_room : heads (drop a s) c ≡ false → (m : ℕ) → t₀ + (b - used first b (drop a₀ s)) ≤ m → t < m
+  gathering_room : heads (drop a s) c ≡ false → (m : ℕ) → t₀ + (b - used first b (drop a₀ s)) ≤ m → t < m
   gathering_room e m h =
       omega (arith, g.own, g.both, h, used_listed c left (drop a s) pos e, used_most (c + 1) (left - 1) (drop a s), used_most first b (drop a₀ s))
+
+-- a child that the set does not have, where the set is a whole slice, is among the nodes
+pub gathering_among : {first b : ℕ} {s : List ℕ} {ds ns : List Bytes} {pre : Bytes} {off a₀ t₀ len : ℕ} {buf : Bytes} {a t c left : ℕ} {dig nodes buf₀ : Bytes}
+    → CanGather first b s (length s) a₀ dig nodes t₀ buf₀ off → Gathering first b s ds ns pre off a₀ t₀ len buf a t c left → 0 < left → heads (drop a s) c ≡ false
+    → t < length nodes / 32
+gathering_among {nodes = nodes} can g pos e = gathering_room g pos e (length nodes / 32) (rw take-length at can.listed)
+
+-- digest j of the row x, copied to the place `to` of buf
+module _ (buf x : Bytes) (to k j m : ℕ) {y : Bytes} (size : k ≡ 32) (copied : y ≡ take (32 * j + 32 - 32 * j) (drop (32 * j) x)) (room : to + 32 ≤ length buf) (has : j < m)
+    (whole : 32 * m ≤ length x) where
+  pub digest-put : {p : ℕ} → p ≡ to → take (p + 32) (put_mid to k buf y) ≡ take p buf ++ at (parts m x) j
+  digest-put e = rw e (ap (take (to + 32)) (put_span buf x to k (32 * j) 32 size copied) ∙ copy_part buf x to j m room has whole)
+
+  pub digest-kept : length (put_mid to k buf y) ≡ length buf
+  digest-kept = span_kept buf x to k (32 * j) 32 size copied room (omega arith)
 
 pub gathering_done : {first b : ℕ} {s : List ℕ} {ds ns : List Bytes} {pre : Bytes} {off a₀ t₀ len : ℕ} {buf : Bytes} {a t c left : ℕ}
     → off + 32 * b ≡ len → left ≡ 0 → Gathering first b s ds ns pre off a₀ t₀ len buf a t c left → Gathered first b s ds ns pre buf a₀ t₀ a t

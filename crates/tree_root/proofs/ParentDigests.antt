@@ -1,11 +1,11 @@
 -- What a turn of `hash_parents` does, on lists.
 use mathlib.Core.List.{List, [], ◌∷◌, ◌++◌, map, flatten, append-nil}
-use mathlib.Core.Path.{◌≡◌, refl, sym, ap, ap₂, ◌∙◌}
+use mathlib.Core.Path.{◌≡◌, refl, sym, ap, ap₂, ◌∙◌, subst}
 use Prim.Native.Nat.{ℕ, ◌+◌, ◌*◌, ◌/◌, ◌^◌, ◌≤◌, ◌<◌, ◌-◌}
 use native.Mathlib.Nat.{add-mul, one-mul, zero-mul, mul-le-mul_right}
 use native.Mathlib.Omega.{arith}
 use lib.ListN.{length, get_or, take, drop, length-drop, drop_of_length-le}
-use lib.Seq.{take_at, drop-drop, length-take-le, append_snoc}
+use lib.Seq.{take_at, take-length, drop-drop, length-take-le, append_snoc}
 use Rattle.sponge.specs.Digest.{digest-length, digest}
 use Rattle.lists.specs.Bytes.{Bytes}
 use Rattle.lists.specs.Pieces.{pieces, length-pieces}
@@ -16,6 +16,8 @@ use Rattle.tree.specs.Work.{permutations_for}
 use Rattle.tree.specs.Walk.{used, fill}
 use Rattle.tree.proofs.Digests.{replaced_parts, replaced_rest, replaced_length}
 use Rattle.tree.proofs.Turns.{Turn, no_parents, no_siblings, no_strings}
+use Rattle.node_sets.specs.Clauses.{NodeSet}
+use Rattle.node_sets.proofs.Sets.{set-alone}
 use Rattle.node_sets.proofs.Turns.{set-length, turn_at, children_fit}
 
 -- Where a level stands after some turns. s, ds and ns are the set, its digests and the nodes as the level found them, from node t₀ on:
@@ -54,7 +56,7 @@ module _ {b : ℕ} {idx : List ℕ} {n : ℕ} {dig₀ nodes : Bytes} {t₀ : ℕ
 
   module _ {dig buf : Bytes} {a w t ran : ℕ} (v : HashParentsInv b (take n idx) n dig₀ nodes t₀ buf₀ off dig buf a w t ran) (more : a < n) where
     -- there is room for one digest more
-    pub hash_parents_room : 32 * w + 32 ≤ length dig
+    hash_parents_room : 32 * w + 32 ≤ length dig
     hash_parents_room = omega (arith, v.behind, can.digests, v.same_dig)
 
     pub parents_gather : CanGather (b * (get_or idx a 0 / b)) b idx n a dig nodes t buf off
@@ -142,3 +144,23 @@ module _ {b : ℕ} {idx : List ℕ} {n : ℕ} {dig₀ nodes : Bytes} {t₀ : ℕ
         },
         v.worked ∙ ap (λ (k : ℕ). k * permutations_for (length buf₀)) count,
       )
+
+-- a set that is a whole slice: what a turn of `hash_parents` gives
+pub gathered_whole : {first b : ℕ} {s : List ℕ} {ds ns : List Bytes} {pre buf : Bytes} {a t a' t' : ℕ}
+    → Gathered first b s ds ns pre buf a t a' t' → Gathered first b (take (length s) s) ds ns pre buf a t a' t'
+gathered_whole g = rw take-length g
+
+-- .. and a set in a longer slice: what `root_from` asks of it, and gets
+pub parents-alone : {b : ℕ} {idx : List ℕ} {n : ℕ} {dig nodes : Bytes} {t : ℕ} {buf : Bytes} {off : ℕ} → CanHashParents b idx n dig nodes t buf off
+    → CanHashParents b (take n idx) (length (take n idx)) dig nodes t buf off
+parents-alone {idx = idx} {n} c = record {
+  set = set-alone c.set;
+  digests = omega (arith, c.digests, set-length c.set);
+  room = c.room;
+  listed = rw (take-length (take n idx)) c.listed;
+  countable = rw (take-length (take n idx)) c.countable;
+}
+
+pub hashed_alone : {b : ℕ} {idx : List ℕ} {n : ℕ} {pre : Bytes} (dig : Bytes) {ns : List Bytes} {t : ℕ} {dig' : Bytes} {t' : ℕ} → NodeSet b idx n
+    → ParentsHashed b pre (take n idx) (parts (length (take n idx)) dig) ns t dig' t' → ParentsHashed b pre (take n idx) (parts n dig) ns t dig' t'
+hashed_alone {b} {idx} {n} {pre} dig {ns} {t} {dig'} {t'} o h = subst (λ (k : ℕ). ParentsHashed b pre (take n idx) (parts k dig) ns t dig' t') (set-length o) h

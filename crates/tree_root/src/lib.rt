@@ -1,7 +1,7 @@
 // The root that an opening gives: from the digests of some leaves and the missing nodes, level by level.
 //
 // The inner functions are general in the number b of a node's children and in what a node's string begins with; root_of takes two children, and 0x01 and the salt.
-// A set of nodes of one level is the first n numbers of idx, in rising order; dig holds its digests. nodes holds the digests of missing nodes.
+// A set of nodes of one level is a slice of numbers in rising order; dig begins with its digests. nodes holds the digests of missing nodes.
 // a is a place in a set, t a place in a list of nodes. buf is a node's string; its first off bytes are there from the start. ran counts the permutations run so far.
 #![tactic(auto)]
 
@@ -15,15 +15,14 @@ ghost use Rattle.tree.specs.Work.{permutations_for};
 ghost use Rattle.tree.specs.Clauses.{IndexSet};
 ghost use Rattle.tree_root.specs.Clauses.{CanGather, Gathered, CanHashParents, ParentsHashed, CanRoot};
 
-use digests::{PREFIX, copy, node_buffer, write_digest};
-use node_sets::{Place, copy_indices, next_is, to_parents};
+use digests::{PREFIX, node_buffer, write_digest};
+use node_sets::{Place, next_is, to_parents};
 
 // Writes the digests of the b children from first on into buf, from off on: each is the set's next one, if the set has the child, or else the next of the nodes.
 fn gather_children(
     first: usize,
     b: usize,
-    idx: &[usize],
-    n: usize,
+    set: &[usize],
     a: usize,
     dig: &[u8],
     nodes: &[u8],
@@ -31,25 +30,21 @@ fn gather_children(
     buf: &mut [u8],
     off: usize,
 ) -> Place
-    requires { CanGather first b idx.now n a dig.now nodes.now t buf.old off }
-    ensures { Gathered first b (take n idx.now) (parts n dig.now) (all_parts nodes.now) (take off buf.old) buf.new a t result.a result.t }
+    requires { CanGather first b set.now (length set.now) a dig.now nodes.now t buf.old off }
+    ensures { Gathered first b set.now (parts (length set.now) dig.now) (all_parts nodes.now) (take off buf.old) buf.new a t result.a result.t }
 {
     let mut a = a;
     let mut t = t;
-    let mut c = first;
-    let mut left = b;
-    while 0 < left {
-        let to = off + 32 * (b - left);
-        if next_is(idx, n, a, c) {
-            copy(buf, to, dig, 32 * a, 32);
+    for c in first..first + b {
+        let to = off + 32 * (c - first);
+        if next_is(set, a, c) {
+            let own = 32 * a;
+            buf[to..to + 32].copy_from_slice(&dig[own..own + 32]);
             a += 1;
-            c += 1;
-            left -= 1;
         } else {
-            copy(buf, to, nodes, 32 * t, 32);
+            let missing = 32 * t;
+            buf[to..to + 32].copy_from_slice(&nodes[missing..missing + 32]);
             t += 1;
-            c += 1;
-            left -= 1;
         }
     }
     Place { a, t }
@@ -65,26 +60,25 @@ struct Level {
 // Hashes the set's parents: their digests take the place of the set's in dig.
 fn hash_parents(
     b: usize,
-    idx: &[usize],
-    n: usize,
+    set: &[usize],
     dig: &mut [u8],
     nodes: &[u8],
     t: usize,
     buf: &mut [u8],
     off: usize,
 ) -> Level
-    requires { CanHashParents b idx.now n dig.old nodes.now t buf.old off }
-    ensures parents_hashed { ParentsHashed b (take off buf.old) (take n idx.now) (parts n dig.old) (all_parts nodes.now) t dig.new result.t }
-    ensures permutations_value { result.permutations ≡ length (parents b (take n idx.now)) * permutations_for (length buf.old) }
+    requires { CanHashParents b set.now (length set.now) dig.old nodes.now t buf.old off }
+    ensures parents_hashed { ParentsHashed b (take off buf.old) set.now (parts (length set.now) dig.old) (all_parts nodes.now) t dig.new result.t }
+    ensures permutations_value { result.permutations ≡ length (parents b set.now) * permutations_for (length buf.old) }
     ensures buf_unchanged { take off buf.new ≡ take off buf.old }
 {
     let mut a = 0;
     let mut w = 0;
     let mut t = t;
     let mut ran = 0;
-    while a < n {
-        let p = idx[a] / b;
-        let g = gather_children(b * p, b, idx, n, a, dig, nodes, t, buf, off);
+    while a < set.len() {
+        let p = set[a] / b;
+        let g = gather_children(b * p, b, set, a, dig, nodes, t, buf, off);
         a = g.a;
         t = g.t;
         ran += write_digest(buf, dig, w);
@@ -100,27 +94,24 @@ fn hash_parents(
 fn root_from(
     b: usize,
     h: usize,
-    idx: &mut [usize],
-    n: usize,
+    set: &mut [usize],
     dig: &mut [u8],
     nodes: &[u8],
     buf: &mut [u8],
     off: usize,
 ) -> usize
-    requires { CanRoot b h idx.old n dig.old nodes.now buf.old off }
-    ensures dig_after { take 32 dig.new ≡ root_from digest b (take off buf.old) h (take n idx.old) (parts n dig.old) (all_parts nodes.now) }
-    ensures value { result ≡ length (nodes_above b h (take n idx.old)) * permutations_for (length buf.old) }
+    requires { CanRoot b h set.old (length set.old) dig.old nodes.now buf.old off }
+    ensures dig_after { take 32 dig.new ≡ root_from digest b (take off buf.old) h set.old (parts (length set.old) dig.old) (all_parts nodes.now) }
+    ensures value { result ≡ length (nodes_above b h set.old) * permutations_for (length buf.old) }
 {
-    let mut n = n;
+    let mut n = set.len();
     let mut t = 0;
     let mut ran = 0;
-    let mut left = h;
-    while 0 < left {
-        let level = hash_parents(b, idx, n, dig, nodes, t, buf, off);
+    for _ in 0..h {
+        let level = hash_parents(b, &set[..n], dig, nodes, t, buf, off);
         t = level.t;
         ran += level.permutations;
-        n = to_parents(b, idx, n);
-        left -= 1;
+        n = to_parents(b, &mut set[..n]);
     }
     ran
 }
@@ -131,17 +122,9 @@ pub fn root_of(salt: &[u8], h: usize, indices: &[usize], digests: &mut [u8], nod
     ensures digests_after { take 32 digests.new ≡ root_from digest 2 (1 ∷ salt.now) h indices.now (parts (length indices.now) digests.old) (all_parts nodes.now) }
     ensures value { result ≡ length (nodes_above 2 h indices.now) * permutations_for (prefix_length + 32 * 2) }
 {
-    let mut idx = [0usize; 64];
-    copy_indices(&mut idx, indices);
+    let mut room = [0usize; 64];
+    let set = &mut room[..indices.len()];
+    set.copy_from_slice(indices);
     let mut buf = node_buffer(salt);
-    root_from(
-        2,
-        h,
-        &mut idx,
-        indices.len(),
-        digests,
-        nodes,
-        &mut buf,
-        PREFIX,
-    )
+    root_from(2, h, set, digests, nodes, &mut buf, PREFIX)
 }

@@ -1,47 +1,36 @@
+use mathlib.Core.Path.{◌≡◌}
+use Prim.Native.Nat.{◌+◌, ◌-◌, ◌≤◌, ◌<◌}
+use native.Mathlib.Nat.{sub-zero}
 use native.Mathlib.Omega.{arith}
-use Rattle.missing_nodes.proofs.ListedLevels.{list_nodes_holds, list_nodes_list, list_nodes_next, list_nodes_again, list_nodes_done}
+use lib.Seq.{take-length}
+use Rattle.node_sets.proofs.Sets.{parents-put, parents-room}
+use Rattle.missing_nodes.proofs.ListedLevels.{level-alone, list_nodes_holds, list_nodes_list, list_nodes_next, list_nodes_again, list_nodes_done}
 use Rattle.missing_nodes.proofs.list_nodes.Goals as goal
 
-pub loop-left-init : goal.loop-left-init
-loop-left-init c = list_nodes_holds c.requires
+pub loop-init : goal.loop-init
+loop-init c = rw sub-zero (list_nodes_holds c.requires)
 
 pub list_level-t-requires : goal.list_level-t-requires
 list_level-t-requires c =
-    let l = c.loop-left in
-    let more = c.loop-left-test.true in
-    list_nodes_list c.requires l.invariant more
-
-pub to_parents-n-requires : goal.to_parents-n-requires
-to_parents-n-requires c = c.loop-left.invariant.can.set
+    let more : 0 < c.args.h - c.loop.counter = omega arith in
+    level-alone (list_nodes_list c.requires c.loop.invariant more)
 
 pub overflow_add-start : goal.overflow_add-start
 overflow_add-start c =
-    let l = c.loop-left in
-    let more = c.loop-left-test.true in
-    omega (arith, list_nodes_next c.requires l.invariant more, c.well_formed)
+    let more : 0 < c.args.h - c.loop.counter = omega arith in
+    omega (arith, list_nodes_next c.requires c.loop.invariant more, c.well_formed)
 
-pub nonzero_div-width : goal.nonzero_div-width
-nonzero_div-width c = c.requires.set.arity
-
-pub overflow_sub-left : goal.overflow_sub-left
-overflow_sub-left c = c.loop-left-test.true
-
-pub loop-left-smaller : goal.loop-left-smaller
-loop-left-smaller c = omega (arith, c.loop-left-test.true)
-
-pub loop-left-preserved : goal.loop-left-preserved
-loop-left-preserved c =
-    let l = c.loop-left in
-    let more = c.loop-left-test.true in
+pub loop-preserved : goal.loop-preserved
+loop-preserved c =
+    let v = c.loop.invariant in
+    let more : 0 < c.args.h - c.loop.counter = omega arith in
+    let one : c.args.h - c.loop.counter - 1 ≡ c.args.h - (c.loop.counter + 1) = omega arith in
     let g = c.list_level-t in
     let r = c.to_parents-n in
-    list_nodes_again c.requires l.invariant more g.ensures g.auto.out r.ensures.0 r.ensures.1 r.auto.idx
-
-pub shape_of-idx : goal.shape_of-idx
-shape_of-idx c = c.loop-left.invariant.same_idx
-
-pub shape_of-out : goal.shape_of-out
-shape_of-out c = c.loop-left.invariant.same_out
+    rw (← one)
+    (list_nodes_again c.requires v more g.ensures g.auto.out r.ensures.0 (parents-put v.can.set r.new.set r.auto.set r.ensures.0 r.ensures.1) (parents-room v.can.set r.new.set r.auto.set))
 
 pub returns : goal.returns
-returns c = list_nodes_done c.requires c.loop-left.invariant c.loop-left-test.false
+returns c =
+    let none : c.args.h - c.loop.counter ≤ 0 = omega arith in
+    rw take-length at (list_nodes_done c.requires c.loop.invariant none)

@@ -1,52 +1,36 @@
-use mathlib.Core.Path.{refl, sym, ◌∙◌}
+use mathlib.Core.Path.{◌≡◌, sym, ap, ◌∙◌}
+use mathlib.Core.List.{List}
+use Prim.Native.Nat.{ℕ, ◌+◌, ◌-◌, ◌<◌}
 use native.Mathlib.Omega.{arith}
-use lib.ListN.{take, length-take}
+use lib.ListN.{drop}
+use Rattle.tree.specs.Walk.{used}
 use Rattle.tree.proofs.Children.{heads_lt}
 use Rattle.node_sets.proofs.Parents.{skip_own, skip_listed, skip_done}
 use Rattle.node_sets.proofs.skip_children.Goals as goal
-
-pub loop-left-init : goal.loop-left-init
-loop-left-init c = (refl, refl)
-
-pub next_is-requires : goal.next_is-requires
-next_is-requires c = c.requires.0
+use Rattle.node_sets.proofs.skip_children.Goals.{then-next_is, else-next_is}
 
 pub overflow_add-a : goal.overflow_add-a
 overflow_add-a c =
-    let a = c.args in
-    omega (arith, heads_lt (take a.n a.idx.now) c.loop-left.a c.loop-left.c ((sym c.next_is.ensures ∙ c.if-next_is.true)), length-take a.n a.idx.now, c.ranges.n)
+    omega (arith, heads_lt c.args.set.now c.loop-c.a c.loop-c.c (sym c.next_is.ensures ∙ c.if-next_is.true))
 
-pub overflow_add-c : goal.overflow_add-c
-overflow_add-c c = omega (arith, c.loop-left.invariant.0, c.requires.1, c.loop-left-test.true)
+-- one child fewer is left
+fewer : (s : List ℕ) (a i n : ℕ) → a + used (i + 1) (n - i - 1) (drop a s) ≡ a + used (i + 1) (n - (i + 1)) (drop a s)
+fewer s a i n = let e : n - i - 1 ≡ n - (i + 1) = omega arith in ap (λ (k : ℕ). a + used (i + 1) k (drop a s)) e
 
-pub overflow_sub-left : goal.overflow_sub-left
-overflow_sub-left c = c.loop-left-test.true
-
-pub loop-left-smaller-then-next_is : goal.loop-left-smaller-then-next_is
-loop-left-smaller-then-next_is c = omega (arith, c.loop-left-test.true)
-
-pub loop-left-preserved-then-next_is : goal.loop-left-preserved-then-next_is
-loop-left-preserved-then-next_is c =
-    let a = c.args in
-    let p = c.loop-left-test.true in
-    (omega (arith, c.loop-left.invariant.0), sym (skip_own (take a.n a.idx.now) c.loop-left.a c.loop-left.c c.loop-left.left p ((sym c.next_is.ensures ∙ c.if-next_is.true))) ∙ c.loop-left.invariant.1)
-
-pub overflow_add-c-else-next_is : goal.overflow_add-c-else-next_is
-overflow_add-c-else-next_is c = omega (arith, c.loop-left.invariant.0, c.requires.1, c.loop-left-test.true)
-
-pub overflow_sub-left-else-next_is : goal.overflow_sub-left-else-next_is
-overflow_sub-left-else-next_is c = c.loop-left-test.true
-
-pub loop-left-smaller : goal.loop-left-smaller
-loop-left-smaller c = omega (arith, c.loop-left-test.true)
-
-pub loop-left-preserved : goal.loop-left-preserved
-loop-left-preserved c =
-    let a = c.args in
-    let p = c.loop-left-test.true in
-    (omega (arith, c.loop-left.invariant.0), sym (skip_listed (take a.n a.idx.now) c.loop-left.a c.loop-left.c c.loop-left.left p ((sym c.next_is.ensures ∙ c.if-next_is.false))) ∙ c.loop-left.invariant.1)
+pub loop-c-preserved : goal.loop-c-preserved
+loop-c-preserved c =
+    let s = c.args.set.now in
+    let l = c.loop-c in
+    let n : ℕ = c.args.first + c.args.b in
+    let more : 0 < n - l.c = omega arith in
+    elim c.if-next_is.branch [
+      | then-next_is w ↦ ap (λ (a : ℕ). a + used (l.c + 1) (n - (l.c + 1)) (drop a s)) w.a-is
+          ∙ sym (skip_own s l.a l.c (n - l.c) more (sym c.next_is.ensures ∙ w.if-next_is.true) ∙ fewer s (l.a + 1) l.c n) ∙ l.invariant
+      | else-next_is w ↦ ap (λ (a : ℕ). a + used (l.c + 1) (n - (l.c + 1)) (drop a s)) w.a-is
+          ∙ sym (skip_listed s l.a l.c (n - l.c) more (sym c.next_is.ensures ∙ w.if-next_is.false) ∙ fewer s l.a l.c n) ∙ l.invariant
+    ]
 
 pub returns : goal.returns
 returns c =
-    let a = c.args in
-    sym (skip_done (take a.n a.idx.now) c.loop-left.a c.loop-left.c c.loop-left.left c.loop-left-test.false) ∙ c.loop-left.invariant.1
+    let l = c.loop-c in
+    sym (skip_done c.args.set.now l.a l.c (c.args.first + c.args.b - l.c) (omega arith)) ∙ l.invariant

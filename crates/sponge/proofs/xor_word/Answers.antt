@@ -4,4 +4,4 @@ use Rattle.sponge.proofs.xor_word.Goals as goal
 
 pub returns : goal.returns
 unfolding xor_word
-returns c = rw c.word-w.ensures
+returns c = rw c.word.ensures

@@ -2,7 +2,7 @@ use mathlib.Core.Path.{◌≡◌, refl, sym, ap, ◌∙◌}
 use mathlib.Core.List.{List}
 use Prim.Native.Nat.{ℕ, ◌/◌, ◌%◌, ◌<◌, ◌≤◌}
 use native.Mathlib.Omega.{arith}
-use lib.ListN.{length, get_or, set, take, length-set}
+use lib.ListN.{length, get_or, set, take}
 use lib.Seq.{get_or-take, length-take-le}
 use Rattle.lists.specs.Tabulate.{tabulate, tabulate_is, get_d_tabulate, filled, fill_more, fill_all}
 use Rattle.keccak.specs.Strings.{bytes}
@@ -16,20 +16,14 @@ front a d h =
     (tabulate_is d (byte a) (take d (bytes a)) (length-take-le d (bytes a) h)
     (λ k b. let inside : k < 200 = omega arith in get_or-take d (bytes a) k 0 b ∙ get_d_tabulate 200 (byte a) k inside))
 
-pub loop-i-init : goal.loop-i-init
-loop-i-init c = (omega arith, refl, refl)
-
 pub loop-i-preserved : goal.loop-i-preserved
 loop-i-preserved c =
     let l = c.loop-i in
     let a = c.args.a in
-    let out = c.args.out.now in (
-      omega arith,
-      length-set l.out l.i _ ∙ l.invariant.1,
-      ap (λ (x : ℕ). set l.out l.i (get_or a (l.i / 8) 0 / x % 256)) (sym (pow-bytes (l.i % 8)))
-          ∙ ap (λ (o : List ℕ). set o l.i (byte a l.i)) l.invariant.2
-          ∙ fill_more (byte a) l.i out (omega arith),
-    )
+    let out = c.args.out.now in
+    ap (λ (x : ℕ). set l.out l.i (get_or a (l.i / 8) 0 / x % 256)) (sym (pow-bytes (l.i % 8)))
+    ∙ ap (λ (o : List ℕ). set o l.i (byte a l.i)) l.invariant
+    ∙ fill_more (byte a) l.i out (omega arith)
 
 pub returns : goal.returns
 returns c =
@@ -37,4 +31,4 @@ returns c =
     let a = c.args.a in
     let out = c.args.out.now in
     let all : l.i ≡ length out = omega arith in
-    l.invariant.2 ∙ ap (λ (n : ℕ). filled (byte a) n out) all ∙ fill_all (byte a) (length out) out refl ∙ front a (length out) (omega arith)
+    l.invariant ∙ ap (λ (n : ℕ). filled (byte a) n out) all ∙ fill_all (byte a) (length out) out refl ∙ front a (length out) (omega arith)

@@ -1,48 +1,43 @@
+use mathlib.Core.Path.{◌≡◌}
+use Prim.Native.Nat.{◌+◌, ◌-◌, ◌≤◌, ◌<◌}
+use native.Mathlib.Nat.{sub-zero}
 use native.Mathlib.Omega.{arith}
+use lib.Seq.{take-length}
+use Rattle.node_sets.proofs.Sets.{parents-put, parents-room}
+use Rattle.tree_root.proofs.ParentDigests.{parents-alone, hashed_alone}
 use Rattle.tree_root.proofs.Roots.{root_holds, root_parents, root_again, root_count, root_done, root_worked}
 use Rattle.tree_root.proofs.root_from.Goals as goal
 
-pub loop-left-init : goal.loop-left-init
-loop-left-init c = root_holds c.requires
+pub loop-init : goal.loop-init
+loop-init c = rw sub-zero (root_holds c.requires)
 
 pub hash_parents-level-requires : goal.hash_parents-level-requires
 hash_parents-level-requires c =
-    let p = root_parents c.requires c.loop-left.invariant c.loop-left-test.true in
-    record { set = p.set; digests = p.digests; room = p.room; listed = omega (arith, p.listed); countable = p.countable }
+    let more : 0 < c.args.h - c.loop.counter = omega arith in
+    parents-alone (root_parents c.requires c.loop.invariant more)
 
 pub overflow_add-ran : goal.overflow_add-ran
 overflow_add-ran c =
-    let l = c.loop-left in
-    omega (arith, root_count c.requires l.invariant c.loop-left-test.true c.hash_parents-level.ensures.permutations_value)
+    let more : 0 < c.args.h - c.loop.counter = omega arith in
+    omega (arith, root_count c.requires c.loop.invariant more c.hash_parents-level.ensures.permutations_value)
 
-pub to_parents-n-requires : goal.to_parents-n-requires
-to_parents-n-requires c = c.loop-left.invariant.can.set
-
-pub overflow_sub-left : goal.overflow_sub-left
-overflow_sub-left c = c.loop-left-test.true
-
-pub loop-left-smaller : goal.loop-left-smaller
-loop-left-smaller c = omega (arith, c.loop-left-test.true)
-
-pub loop-left-preserved : goal.loop-left-preserved
-loop-left-preserved c =
-    let l = c.loop-left in
+pub loop-preserved : goal.loop-preserved
+loop-preserved c =
+    let v = c.loop.invariant in
+    let more : 0 < c.args.h - c.loop.counter = omega arith in
+    let one : c.args.h - c.loop.counter - 1 ≡ c.args.h - (c.loop.counter + 1) = omega arith in
     let g = c.hash_parents-level in
     let r = c.to_parents-n in
-    root_again c.requires l.invariant c.loop-left-test.true g.ensures.parents_hashed g.ensures.buf_unchanged g.ensures.permutations_value r.ensures.0 r.ensures.1
-    r.auto.idx g.auto.dig g.auto.buf
+    rw (← one)
+    (root_again c.requires v more (hashed_alone c.loop.dig v.can.set g.ensures.parents_hashed) g.ensures.buf_unchanged g.ensures.permutations_value
+    r.ensures.0 (parents-put v.can.set r.new.set r.auto.set r.ensures.0 r.ensures.1) (parents-room v.can.set r.new.set r.auto.set) g.auto.dig g.auto.buf)
 
-pub shape_of-idx : goal.shape_of-idx
-shape_of-idx c = c.loop-left.invariant.same_idx
+pub returns-clause-dig_after : goal.returns-clause-dig_after
+returns-clause-dig_after c =
+    let none : c.args.h - c.loop.counter ≤ 0 = omega arith in
+    rw take-length at (root_done c.requires c.loop.invariant none)
 
-pub shape_of-dig : goal.shape_of-dig
-shape_of-dig c = c.loop-left.invariant.same_dig
-
-pub shape_of-buf : goal.shape_of-buf
-shape_of-buf c = c.loop-left.invariant.same_buf
-
-pub returns : goal.returns
-returns c =
-    let p = c.requires in
-    let v = c.loop-left.invariant in
-    record { dig_after = root_done p v c.loop-left-test.false; value = root_worked p v c.loop-left-test.false }
+pub returns-clause-value : goal.returns-clause-value
+returns-clause-value c =
+    let none : c.args.h - c.loop.counter ≤ 0 = omega arith in
+    rw take-length at (root_worked c.requires c.loop.invariant none)

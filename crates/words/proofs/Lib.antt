@@ -1,0 +1,2 @@
+-- the library's number of eight bytes
+pub mod Eight
