@@ -1,10 +1,8 @@
 -- Answers of n words each, written one after the other.
-use Rattle.commitment.proofs.Places.{batching_high}
-use Rattle.scheme.specs.Sizes.{Sizes, SizesInOrder, width}
 use mathlib.Core.Path.{◌≡◌, sym, ap, ap₂, ◌∙◌, subst}
 use mathlib.Core.List.{List, map, flatten}
 use Prim.Native.Nat.{ℕ, ◌+◌, ◌-◌, ◌*◌, ◌≤◌, ◌<◌}
-use native.Mathlib.Nat.{mul_comm, le_trans}
+use native.Mathlib.Nat.{mul_comm}
 use lib.ListN.{length, get_or, take, drop}
 use Rattle.lists.specs.Bytes.{Bytes, bytes_of, length-bytes_of, bytes_of-flatten}
 use Rattle.lists.specs.Parts.{row_fits, span_length}
@@ -40,11 +38,8 @@ module _ (f : ℕ → List ℕ) (xs : List ℕ) (n at : ℕ) (o : Bytes) where
 
 -- ---- the mask of repetition k
 
-pub mask_few : (s : Sizes) → SizesInOrder s → (n k : ℕ) → n ≡ width s → k < s.η → n * k + n ≤ 1280
-mask_few s g n k e l = le_trans (row_fits n k s.η l) (subst (λ (j : ℕ). j * s.η ≤ 1280) (sym e) (batching_high s g))
-
 module _ (n k η : ℕ) (masks : List ℕ) (whole : length masks ≡ η * n) (l : k < η) where
-  pub mask_room : n * k + n ≤ length masks
+  mask_room : n * k + n ≤ length masks
   mask_room = subst (λ (j : ℕ). n * k + n ≤ j) (mul_comm n η ∙ sym whole) (row_fits n k η l)
 
   pub mask_length : length (take (n * k + n - n * k) (drop (n * k) masks)) ≡ n

@@ -4,8 +4,8 @@ use mathlib.Core.List.{List, [], ◌∷◌, map}
 use Prim.Native.Nat.{ℕ, suc, ◌+◌, ◌-◌, ◌*◌, ◌%◌, ◌≤◌, ◌<◌}
 use native.Mathlib.Nat.{mul-zero, mul-suc, zero-mul, le_of_eq}
 use native.Mathlib.Omega.{arith}
-use lib.ListN.{length, get_or, take, drop, length-map, length-drop, drop_of_length-le, set}
-use lib.Seq.{ext_get_or, drop-cons, length-take-le}
+use lib.ListN.{length, get_or, take, drop, length-map, drop_of_length-le, set}
+use lib.Seq.{ext_get_or, drop-cons}
 use Rattle.lists.specs.All.{Distinct}
 use Rattle.lists.specs.Range.{up_from, length-up_from, up_from_below, up_from_distinct}
 use Rattle.lists.specs.Maps.{get_or-map_in}
@@ -50,13 +50,6 @@ next_row n z r rs e =
     ∙ sym (combination_at n z (r ∷ rs) i k))
 
 -- ---- the rows one after the other in a list, n elements each
-
--- the last of them
-pub last-length : (n μ : ℕ) (x : List ℕ) → length x ≡ n * μ → 0 < μ → length (take (length x - n * (μ - 1)) (drop (n * (μ - 1)) x)) ≡ n
-last-length n μ x w l =
-    let k : suc (μ - 1) ≡ μ = omega arith in
-    let d : length x - n * (μ - 1) ≡ n = omega (arith, w, ap (λ (t : ℕ). n * t) k, mul-suc n (μ - 1)) in
-    length-take-le (length x - n * (μ - 1)) (drop (n * (μ - 1)) x) (le_of_eq (sym (length-drop (n * (μ - 1)) x))) ∙ d
 
 -- the combination of the rows from j on
 unfoldable pub combined_from : ℕ → ℕ → ℕ → List ℕ → ℕ → List ℕ

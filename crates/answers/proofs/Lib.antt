@@ -4,5 +4,4 @@
 pub mod Combining
 pub mod Rows
 -- answers written as bytes, one and all
-pub mod Writing
 pub mod Answers

@@ -1,5 +1,5 @@
 -- The rows with their tails: they are field elements, and what is lent gives their combinations.
-use mathlib.Core.Path.{◌≡◌, sym, ap, ap₂, ◌∙◌, subst}
+use mathlib.Core.Path.{◌≡◌, refl, sym, ap, ap₂, ◌∙◌, subst}
 use mathlib.Core.List.{List, ◌++◌}
 use Prim.Native.Nat.{ℕ, ◌+◌, ◌-◌, ◌*◌, ◌≤◌, ◌<◌}
 use native.Mathlib.Nat.{mul_comm}
@@ -17,28 +17,26 @@ use Rattle.algebra.specs.Columns.{pow_n}
 use Rattle.algebra.specs.Numbers.{Polys}
 use Rattle.scheme.specs.Sizes.{Sizes, SizesInOrder, leaves, rows, columns, width}
 use Rattle.scheme.specs.Layers.{Lent, lent_of, extended, extended_rows, combination}
-use Rattle.lent.specs.Partly.{lent_rows}
 use Rattle.tree.specs.Leaf.{salt_length}
 use Rattle.scheme.proofs.Lent.{LentFacts}
 use Rattle.scheme.proofs.HonestAnswers.{ext_polys, answer_parts}
 use Rattle.lists.specs.Parts.{rest-length, two_parts}
-use Rattle.lent.proofs.Rows.{rows_lent}
 use Rattle.lent.specs.Rows.{CanLayOut}
 use Rattle.answers.specs.Answers.{Lined, CanCombine}
 use Rattle.column_sums.specs.Sums.{Powers, column_sums}
 use Rattle.column_sums.proofs.Columns.{columns_values}
 use Rattle.commitment.proofs.Places.{width-high}
 
-module _ (t : Sizes) (coefficients tails blinds : List ℕ) (can : CanCombine t coefficients tails blinds) where
+module _ (t : Sizes) (l : Lent) (can : CanCombine t l.coefficients l.tails l.blinds) where
   abbrev ext : List (List ℕ)
-  ext = extended_rows t (lent_rows coefficients tails blinds)
+  ext = extended_rows t l
 
   g : SizesInOrder t
   g = can.extend.laid.sizes
 
   -- masks, nonces and salt matter to no row: zeros serve
   abbrev lent : Lent
-  lent = lent_of coefficients tails blinds (replicate (t.η * width t) 0) (replicate (32 * leaves t) 0) (replicate salt_length 0)
+  lent = lent_of l.coefficients l.tails l.blinds (replicate (t.η * width t) 0) (replicate (32 * leaves t) 0) (replicate salt_length 0)
 
   r : LentFacts t lent
   r = record {
@@ -56,17 +54,18 @@ module _ (t : Sizes) (coefficients tails blinds : List ℕ) (can : CanCombine t 
   }
 
   same_rows : ext ≡ extended_rows t lent
-  same_rows = rows_lent t coefficients tails blinds lent.masks lent.nonces lent.salt
+  unfolding extended
+  same_rows = refl
 
   pub rows_polys : Polys (width t) ext
   rows_polys = subst (Polys (width t)) (sym same_rows) (ext_polys t lent r)
 
   pub rows_some : 0 < length ext
-  rows_some = omega (arith, length-map (up_from 0 (rows t)) (extended t (lent_rows coefficients tails blinds)) ∙ length-up_from 0 (rows t), g.μ_low)
+  rows_some = omega (arith, length-map (up_from 0 (rows t)) (extended t l) ∙ length-up_from 0 (rows t), g.μ_low)
 
   -- ---- a combination, its columns first
 
-  tails_lined : Lined t.ℓ (rows t) tails
+  tails_lined : Lined t.ℓ (rows t) l.tails
   tails_lined = record { whole = can.extend.tails-length ∙ mul_comm (rows t) t.ℓ; some = omega (arith, g.μ_low); few = g.rows-high; narrow = g.ℓ-high }
 
   -- m is the number of rows, n of columns, out the room for the combination, b that for the weights, which ws fill
@@ -102,46 +101,39 @@ module _ (t : Sizes) (coefficients tails blinds : List ℕ) (can : CanCombine t 
       abbrev powers_are : Powers (rows t) (take m (ws ++ drop m b))
       powers_are = record { point = z; are = weights_powers ∙ ap (λ (k : ℕ). tabulate k (pow_n z)) hm }
 
-      pub columns_ask : CanLayOut t coefficients blinds × Powers (rows t) (take m (ws ++ drop m b)) × (length (take n out) ≡ columns t)
+      pub columns_ask : CanLayOut t l.coefficients l.blinds × Powers (rows t) (take m (ws ++ drop m b)) × (length (take n out) ≡ columns t)
       columns_ask = (can.extend.laid, powers_are, sym columns-length ∙ hn)
 
-      module _ (ys : List ℕ) (hy : ys ≡ column_sums t coefficients blinds (take m (ws ++ drop m b))) where
+      module _ (ys : List ℕ) (hy : ys ≡ column_sums t l.coefficients l.blinds (take m (ws ++ drop m b))) where
         columns_count : length ys ≡ n
         columns_count = ap length hy ∙ length-map (up_from 0 (columns t)) _ ∙ length-up_from 0 (columns t) ∙ sym hn
 
         out_parts : length out ≡ n + t.ℓ
         out_parts = room ∙ ap (λ (k : ℕ). k + t.ℓ) (sym hn)
 
-        pub rest_ask : Lined (length (take (length (ys ++ drop n out) - n) (drop n (ys ++ drop n out)))) (length (take m (ws ++ drop m b))) tails
+        pub rest_ask : Lined (length (take (length (ys ++ drop n out) - n) (drop n (ys ++ drop n out)))) (length (take m (ws ++ drop m b))) l.tails
             × (take m (ws ++ drop m b) ≡ tabulate (length (take m (ws ++ drop m b))) (pow_n z))
         rest_ask = (
-          subst (λ (k : ℕ). Lined (length (take (length (ys ++ drop n out) - n) (drop n (ys ++ drop n out)))) k tails) (sym hm ∙ weights-length)
-              (subst (λ (k : ℕ). Lined k (rows t) tails) (sym (rest-length n t.ℓ out ys columns_count out_parts)) tails_lined),
+          subst (λ (k : ℕ). Lined (length (take (length (ys ++ drop n out) - n) (drop n (ys ++ drop n out)))) k l.tails) (sym hm ∙ weights-length)
+              (subst (λ (k : ℕ). Lined k (rows t) l.tails) (sym (rest-length n t.ℓ out ys columns_count out_parts)) tails_lined),
           weights_powers ∙ ap (λ (k : ℕ). tabulate k (pow_n z)) weights-length,
         )
 
         pub combined : (zs : List ℕ)
-            → (let k : ℕ = length (take (length (ys ++ drop n out) - n) (drop n (ys ++ drop n out))) in zs ≡ combination k z (pieces k (length (take m (ws ++ drop m b))) tails))
+            → (let k : ℕ = length (take (length (ys ++ drop n out) - n) (drop n (ys ++ drop n out))) in zs ≡ combination k z (pieces k (length (take m (ws ++ drop m b))) l.tails))
             → put_mid n (length (ys ++ drop n out) - n) (ys ++ drop n out) zs ≡ combination (width t) z ext
         combined zs hz =
             two_parts n t.ℓ out ys columns_count out_parts zs
             ∙ ap₂ (λ (x y : List ℕ). x ++ y)
-            (hy ∙ columns_values t coefficients blinds can.extend.laid (take m (ws ++ drop m b)) powers_are)
-            (hz ∙ ap₂ (λ (k j : ℕ). combination k z (pieces k j tails)) (rest-length n t.ℓ out ys columns_count out_parts) (sym weights-length ∙ hm))
+            (hy ∙ columns_values t l.coefficients l.blinds can.extend.laid (take m (ws ++ drop m b)) powers_are)
+            (hz ∙ ap₂ (λ (k j : ℕ). combination k z (pieces k j l.tails)) (rest-length n t.ℓ out ys columns_count out_parts) (sym weights-length ∙ hm))
             ∙ sym (answer_parts t lent r z)
             ∙ ap (combination (width t) z) (sym same_rows)
 
-  -- ---- a combination of n words, where n is the width, at the front of a room b
+  -- ---- a combination of n words, where n is the width
 
   pub answer_narrow : (n : ℕ) → n ≡ width t → n ≤ 320
   answer_narrow n e = omega (arith, e, width-high t g)
 
   pub answer_some : (n : ℕ) → n ≡ width t → 0 < n
   answer_some n e = omega (arith, e, g.ℓ-low)
-
-  module _ (n : ℕ) (b : List ℕ) (e : n ≡ width t) (wide : length b ≡ 320) where
-    pub answer_fits : n ≤ length b
-    answer_fits = omega (arith, wide, answer_narrow n e)
-
-    pub answer_room : n ≡ length (take n b)
-    answer_room = sym (length-take-le n b answer_fits)

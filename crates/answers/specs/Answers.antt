@@ -5,6 +5,7 @@ use Rattle.lists.specs.Range.{up_from}
 use Rattle.algebra.specs.Numbers.{Elements, interp_n}
 use Rattle.scheme.specs.Sizes.{Sizes}
 use Rattle.scheme.specs.Layers.{combination}
+use Rattle.lent.specs.declared.Witness.{Witness}
 use Rattle.lent.specs.Rows.{CanExtend}
 
 -- x is μ rows of n elements each
@@ -19,6 +20,10 @@ pub record CanCombine (s : Sizes) (coefficients tails blinds : List ℕ) : Type 
   pub extend : CanExtend s coefficients tails blinds
   pub coefficients_below : Elements coefficients
   pub tails_below : Elements tails
+
+-- so can those of what the code is lent
+abbrev pub Combines : Sizes → Witness → Type 0
+Combines s w = CanCombine s w.coefficients.now w.tails.now w.blinds.now
 
 -- the batching answer, where the polynomials go through the rows at the points from first on
 abbrev pub batching_over : ℕ → ℕ → List (List ℕ) → List ℕ → ℕ → List ℕ

@@ -1,9 +1,8 @@
 -- The batching test: at one pair, and for all pairs.
-use mathlib.Core.Path.{◌≡◌, refl, sym, ap, ap₂, ◌∙◌}
+use mathlib.Core.Path.{◌≡◌, sym, ap, ap₂, ◌∙◌}
 use mathlib.Core.Bool.{true, false}
 use mathlib.Core.List.{List, ◌++◌}
 use Prim.Native.Nat.{ℕ, ◌+◌, ◌-◌, ◌*◌, ◌%◌, ◌<◌}
-use native.Mathlib.Nat.{sub-zero}
 use native.Mathlib.Omega.{arith}
 use lib.Dec.{eqb}
 use lib.ListN.{length, get_or, take, drop}
@@ -25,14 +24,14 @@ use Rattle.lists.specs.Parts.{part_is}
 -- the code's two sides
 pub agrees : (width μ : ℕ) (challenges batching scales : List ℕ) (e : ℕ) (x : List ℕ) (k left rows right : ℕ)
     → left ≡ eval_n (take (width * k + width - width * k) (drop (width * k) batching)) e
-    → rows ≡ dot_n (take (μ * k + μ - μ * k) (drop (μ * k) scales)) (take (μ - 0) (drop 0 x))
+    → rows ≡ dot_n (take (μ * k + μ - μ * k) (drop (μ * k) scales)) (take μ x)
     → right ≡ (get_or x (μ + k) 0 + get_or challenges k 0 * rows) % q
     → eqb left right ≡ agrees_at width μ challenges batching scales e x k
 unfolding agrees_at batch_by
 agrees width μ challenges batching scales e x k left rows right f g h =
     ap₂ eqb (f ∙ ap (λ (t : List ℕ). eval_n t e) (part_is width k batching))
     (h ∙ ap (λ (y : ℕ). (get_or x (μ + k) 0 + get_or challenges k 0 * y) % q)
-    (g ∙ ap₂ dot_n (part_is μ k scales) (ap (λ (n : ℕ). take n x) (sub-zero μ))))
+    (g ∙ ap (λ (t : List ℕ). dot_n t (take μ x)) (part_is μ k scales)))
 
 -- ---- the walks
 
@@ -47,14 +46,6 @@ module _ (width μ : ℕ) (challenges batching scales indices : List ℕ) (value
   unfolding valued_leaf
   valued_fails l a k h m e =
       each_stop l (valued_leaf width μ challenges batching scales indices values) a h (each_stop (length challenges) (valued_at width μ challenges batching scales indices values a) k m e)
-
-  pub leaf_none : (a : ℕ) → each 0 (valued_at width μ challenges batching scales indices values a) ≡ true
-  unfolding each
-  leaf_none a = refl
-
-  pub all_none : each 0 (valued_leaf width μ challenges batching scales indices values) ≡ true
-  unfolding each
-  all_none = refl
 
   pub leaf_done : (a i : ℕ) → i ≡ length challenges → each i (valued_at width μ challenges batching scales indices values a) ≡ true → valued_leaf width μ challenges batching scales indices values a ≡ true
   unfolding valued_leaf

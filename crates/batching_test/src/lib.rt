@@ -13,92 +13,79 @@ ghost use Rattle.tree.specs.Leaf.{index_end};
 ghost use Rattle.scheme.specs.Sizes.{most_rows};
 
 use field::Element;
-use opened::{fill_powers, opened_point, read_record};
+use opened::{LeafRecords, fill_powers, opened_point};
 
-// Does batching answer k agree with the values of an opened leaf? `powers` are the first of the leaf's point e, `scales` has a row of powers for each challenge.
-fn batching_agrees(
-    k: usize,
+const MOST_CHALLENGES: usize = 4; // of a test
+
+const MOST_ROWS: usize = 64; // row values of a leaf
+
+const SPAN: usize = 32; // so many coefficients of an answer are summed at a time, by as many powers of a leaf's point
+
+// The batching answers, `width` coefficients each, one for each challenge; and the first `mu` powers of each challenge, one row each.
+#[derive(Clone, Copy)]
+struct Batched<'a> {
     width: usize,
     mu: usize,
-    challenges: &[u32],
-    batching: &[u32],
-    e: Element,
-    powers: &[u32],
-    scales: &[u32],
-    values: &[u32],
-) -> bool
-    requires { (k < length challenges.now) × (mu ≤ longest) × (powers.now ≡ tabulate (length powers.now) (pow_n e.0)) × (0 < length powers.now) × (length powers.now ≤ longest) × (width * k + width ≤ length batching.now) × (mu * k + mu ≤ length scales.now) × (mu + length challenges.now ≤ length values.now) }
-    ensures { result ≡ agrees_at width mu challenges.now batching.now scales.now e.0 values.now k }
+    challenges: &'a [u32],
+    answers: &'a [u32],
+    scales: &'a [u32],
+}
+
+// Does batching answer k agree with the values of an opened leaf? `powers` are the first of the leaf's point e.
+fn batching_agrees(batched: &Batched, k: usize, e: Element, powers: &[u32], values: &[u32]) -> bool
+    requires { (k < length batched.now.challenges.now) ×
+        (batched.now.mu ≤ longest) ×
+        (powers.now ≡ tabulate (length powers.now) (pow_n e.0)) ×
+        (0 < length powers.now) ×
+        (length powers.now ≤ longest) ×
+        (batched.now.width * k + batched.now.width ≤ length batched.now.answers.now) ×
+        (batched.now.mu * k + batched.now.mu ≤ length batched.now.scales.now) ×
+        (batched.now.mu + length batched.now.challenges.now ≤ length values.now) }
+    ensures { result ≡ agrees_at batched.now.width batched.now.mu batched.now.challenges.now batched.now.answers.now batched.now.scales.now e.0 values.now k }
 {
-    let answer = width * k;
-    let answer_end = answer + width;
-    let left = horner::evaluate_by(e, powers, &batching[answer..answer_end]);
+    let mu = batched.mu;
+    let answer = batched.width * k;
+    let answer_end = answer + batched.width;
+    let left = horner::evaluate_by(e, powers, &batched.answers[answer..answer_end]);
     let scale = mu * k;
     let scale_end = scale + mu;
-    let rows = sums::dot(&scales[scale..scale_end], &values[0..mu]);
-    let challenge = Element(challenges[k]);
+    let rows = sums::dot(&batched.scales[scale..scale_end], &values[..mu]);
+    let challenge = Element(batched.challenges[k]);
     let right = field::multiply_add(Element(values[mu + k]), challenge, rows);
     left.0 == right.0
 }
 
 // Does each batching answer agree with each opened leaf? Both walks are left at the first pair that does not.
-// The leaf records begin at `at`; `powers` is room for some of those of one leaf's point, `values` for one leaf's values.
+// `powers` is room for some of those of one leaf's point, `values` for one leaf's values.
 fn batching_walk(
-    width: usize,
-    mu: usize,
-    challenges: &[u32],
-    batching: &[u32],
-    scales: &[u32],
+    batched: &Batched,
     indices: &[usize],
-    at: usize,
-    size: usize,
-    reply: &[u8],
+    records: &LeafRecords,
     powers: &mut [u32],
     values: &mut [u32],
 ) -> bool
-    requires { (mu ≤ longest) × Below index_end indices.now × (0 < length powers.old) × (length powers.old ≤ longest) × (width * length challenges.now ≤ length batching.now) × (mu * length challenges.now ≤ length scales.now) × (mu + length challenges.now ≤ length values.old) × (4 * length values.old ≤ size) × (at + size * length indices.now ≤ length reply.now) }
-    ensures { result ≡ each (length indices.now) (valued_leaf width mu challenges.now batching.now scales.now indices.now (record_words_at at size (length values.old) reply.now)) }
+    requires { (batched.now.mu ≤ longest) × Below index_end indices.now × (0 < length powers.old) ×
+        (length powers.old ≤ longest) ×
+        (batched.now.width * length batched.now.challenges.now ≤ length batched.now.answers.now) ×
+        (batched.now.mu * length batched.now.challenges.now ≤ length batched.now.scales.now) ×
+        (batched.now.mu + length batched.now.challenges.now ≤ length values.old) ×
+        (4 * length values.old ≤ records.now.size) ×
+        (records.now.at + records.now.size * length indices.now ≤ length records.now.reply.now) }
+    ensures { result ≡ each (length indices.now) (valued_leaf batched.now.width batched.now.mu batched.now.challenges.now batched.now.answers.now batched.now.scales.now indices.now (record_words_at records.now.at records.now.size (length values.old) records.now.reply.now)) }
 {
     let mut ok = true;
     'walk: for a in 0..indices.len() {
         let e = opened_point(indices, a);
         field::powers(e, powers);
-        read_record(at, size, a, reply, values);
-        for k in 0..challenges.len() {
-            if !batching_agrees(
-                k, width, mu, challenges, batching, e, powers, scales, values,
-            ) {
+        records.read_values(a, values);
+        for k in 0..batched.challenges.len() {
+            if !batching_agrees(batched, k, e, powers, values) {
                 ok = false;
                 break 'walk;
             }
         }
     }
     ok
-}
-
-// Room for 64 powers of each of 4 challenges.
-fn blank_scales() -> [u32; 256] {
-    [0u32; 256]
-}
-
-// Room for the first powers of a leaf's point: so many coefficients of an answer are summed at a time.
-const SPAN: usize = 32;
-
-fn blank_powers() -> [u32; SPAN] {
-    [0u32; SPAN]
-}
-
-// How many of them an answer of this width takes.
-fn span_of(width: usize) -> usize
-    requires { 0 < width }
-    ensures { (0 < result) × (result ≤ 32) }
-{
-    if width < SPAN { width } else { SPAN }
-}
-
-// Room for the values of a leaf.
-fn blank_leaf() -> [u32; 68] {
-    [0u32; 68]
 }
 
 // Does each batching answer agree with each opened leaf? The leaf records begin at `at`.
@@ -115,23 +102,23 @@ pub fn batching_ok(
     requires { (0 < width) × Below index_end indices.now × (width * length challenges.now ≤ length batching.now) × (mu ≤ most_rows) × (length challenges.now ≤ 4) × (4 * (mu + length challenges.now) ≤ size) × (at + size * length indices.now ≤ length reply.now) }
     ensures { result ≡ each (length challenges.now) (batched_row width mu challenges.now batching.now indices.now (record_words_at at size (mu + length challenges.now) reply.now)) }
 {
-    let n = mu + challenges.len();
-    let span = span_of(width);
-    let mut scales = blank_scales();
+    let mut scales = [0u32; MOST_ROWS * MOST_CHALLENGES];
     fill_powers(mu, challenges, &mut scales);
-    let mut powers = blank_powers();
-    let mut values = blank_leaf();
-    batching_walk(
+    let batched = Batched {
         width,
         mu,
         challenges,
-        batching,
-        &scales,
+        answers: batching,
+        scales: &scales,
+    };
+    let records = LeafRecords { reply, at, size };
+    let mut powers = [0u32; SPAN];
+    let mut values = [0u32; MOST_ROWS + MOST_CHALLENGES];
+    batching_walk(
+        &batched,
         indices,
-        at,
-        size,
-        reply,
-        &mut powers[0..span],
-        &mut values[0..n],
+        &records,
+        &mut powers[..width.min(SPAN)],
+        &mut values[..mu + challenges.len()],
     )
 }

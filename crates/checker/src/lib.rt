@@ -6,73 +6,61 @@ ghost use Rattle.lists.specs.Tests.{verdict_of};
 ghost use Rattle.scheme.specs.Question.{read_question};
 ghost use Rattle.scheme.specs.Check.{reply_tests};
 ghost use Rattle.scheme.specs.Work.{work_by, checking_counted};
-ghost use Rattle.question.specs.Questioned.{questioned};
-ghost use Rattle.question.specs.declared.Questioned.TheVariants.{WellFormed};
+ghost use Rattle.refusal.specs.Numbers.{number_of};
 ghost use Rattle.checker.specs.Answered.{checking_reply};
 
-use commitment::{Shape, challenges_at, root_at, salt_at};
-use question::{
-    Questioned, ask, blank_challenges, blank_indices, blank_points, question_challenges,
-    question_indices, question_points,
-};
-use reply_tests::{Checked, reply_verdict, say};
+use commitment::{challenges_at, root_at, salt_at};
+use question::{Query, ask};
+use refusal::Refusal;
+use reply_tests::{Checked, Task, refused, reply_verdict};
 use reply_values::fill_values;
 
 // The reply's tests, with the challenges, points, indices, root and salt of the question.
-fn asked_verdict(question: &[u8], s: Shape, m: u32, reply: &[u8]) -> Checked
-    requires { questioned question.now ≡ WellFormed s m }
-    ensures verdict_value { result.verdict ≡ verdict_of (reply_tests (read_question question.now) reply.now) }
-    ensures permutations_value { result.permutations ≡ work_by (read_question question.now) result.verdict }
+fn asked_verdict(query: &Query<'_>, reply: &[u8]) -> Checked
+    ensures verdict_value { number_of result.outcome ≡ verdict_of (reply_tests (read_question query.now.bytes.now) reply.now) }
+    ensures permutations_value { result.permutations ≡ work_by (read_question query.now.bytes.now) (number_of result.outcome) }
 {
-    let eta = s.eta as usize;
-    let count = m as usize;
-    let l = s.l as usize;
-    let mut challenges = blank_challenges();
-    question_challenges(question, s, m, &mut challenges);
-    let mut points = blank_points();
-    question_points(question, s, m, &mut points);
-    let mut indices = blank_indices();
-    question_indices(question, s, m, &mut indices);
+    let eta = query.shape.eta as usize;
+    let count = query.m as usize;
+    let l = query.shape.l as usize;
+    let challenges = query.challenges();
+    let points = query.points();
+    let indices = query.indices();
     let root = root_at();
     let salt = salt_at();
     let end = challenges_at();
-    reply_verdict(
-        s,
-        &challenges[..eta],
-        &points[..count],
-        &indices[..l],
-        &question[root..salt],
-        &question[salt..end],
-        reply,
-    )
+    let task = Task {
+        shape: query.shape,
+        root: &query.bytes[root..salt],
+        salt: &query.bytes[salt..end],
+        challenges: &challenges[..eta],
+        points: &points[..count],
+        indices: &indices[..l],
+    };
+    reply_verdict(&task, reply)
 }
 
-// The number of a value buffer of another length.
-pub const WRONG_BUFFER: u32 = 2;
-
 // The value buffer's test, 2, and the reply's; the values once none of them holds.
-pub fn check_reply(question: &[u8], s: Shape, m: u32, reply: &[u8], values: &mut [u32]) -> Checked
-    requires { questioned question.now ≡ WellFormed s m }
-    ensures values_after { (result.verdict, values.new) ≡ checking_reply (read_question question.now) reply.now values.old }
-    ensures permutations_value { result.permutations ≡ work_by (read_question question.now) result.verdict }
+pub fn check_reply(query: &Query<'_>, reply: &[u8], values: &mut [u32]) -> Checked
+    ensures values_after { (number_of result.outcome, values.new) ≡ checking_reply (read_question query.now.bytes.now) reply.now values.old }
+    ensures permutations_value { result.permutations ≡ work_by (read_question query.now.bytes.now) (number_of result.outcome) }
 {
-    if values.len() != s.w as usize * m as usize {
-        return say(WRONG_BUFFER, 0);
+    if values.len() != query.shape.w as usize * query.m as usize {
+        return refused(Refusal::Length, 0);
     }
-    let answer = asked_verdict(question, s, m, reply);
-    if answer.verdict != 0 {
-        return answer;
+    let answer = asked_verdict(query, reply);
+    if answer.outcome.is_ok() {
+        fill_values(query, reply, values);
     }
-    fill_values(question, s, m, reply, values);
     answer
 }
 
-// The check: its verdict, and how many permutations were run; the values are written only with verdict 0.
+// The check: what its tests say, and how many permutations were run; the values are written only where no test holds.
 pub fn check(question: &[u8], reply: &[u8], values: &mut [u32]) -> Checked
-    ensures { (result.verdict, result.permutations, values.new) ≡ checking_counted question.now reply.now values.old }
+    ensures { (number_of result.outcome, result.permutations, values.new) ≡ checking_counted question.now reply.now values.old }
 {
     match ask(question) {
-        Questioned::WellFormed(s, m) => check_reply(question, s, m, reply, values),
-        Questioned::Refused(v) => say(v, 0),
+        Ok(query) => check_reply(&query, reply, values),
+        Err(refusal) => refused(refusal, 0),
     }
 }

@@ -8,23 +8,22 @@ ghost use Rattle.lists.specs.Spliced.{spliced};
 ghost use Rattle.lists.specs.Tests.{within, same};
 ghost use Rattle.scheme.specs.Sizes.{elements};
 
-// The field's modulus.
-const Q: u32 = 4294967291;
+use field::Q;
 
 // ---- tests of numbers
 
-// a and b: tests in a row without a branch for each.
+// a and b. Unlike `&&` it asks both, and so tests in a row have no branch.
 pub fn both(a: bool, b: bool) -> bool
     ensures { result ≡ (a && b) }
 {
-    if a { b } else { false }
+    a & b
 }
 
 // Is x from low to high?
 pub fn in_range(low: u32, x: u32, high: u32) -> bool
     ensures { result ≡ within low high x }
 {
-    if low <= x { x <= high } else { false }
+    (low..=high).contains(&x)
 }
 
 // Is each word below q? All are looked at: a refusal is rare, and so the loop has no branch.
@@ -32,8 +31,8 @@ pub fn elements_ok(xs: &[u32]) -> bool
     ensures { result ≡ elements xs.now }
 {
     let mut ok = true;
-    for i in 0..xs.len() {
-        ok = both(ok, xs[i] < Q);
+    for x in xs {
+        ok &= *x < Q;
     }
     ok
 }
@@ -45,9 +44,7 @@ pub fn put_bytes(out: &mut [u8], at: usize, bytes: &[u8])
     requires { at + length bytes.now ≤ length out.old }
     ensures { out.new ≡ spliced at (length bytes.now) bytes.now out.old }
 {
-    for i in 0..bytes.len() {
-        out[at + i] = bytes[i];
-    }
+    out[at..at + bytes.len()].copy_from_slice(bytes);
 }
 
 // A word, lowest byte first, from `at` on.
@@ -55,10 +52,7 @@ pub fn put_word(out: &mut [u8], at: usize, x: u32)
     requires { at + 4 ≤ length out.old }
     ensures { out.new ≡ spliced at 4 (little_endian 4 x) out.old }
 {
-    out[at] = (x % 256) as u8;
-    out[at + 1] = (x / 256 % 256) as u8;
-    out[at + 2] = (x / 65536 % 256) as u8;
-    out[at + 3] = (x / 16777216 % 256) as u8;
+    put_bytes(out, at, &x.to_le_bytes());
 }
 
 // The words, four bytes each, from `at` on.
@@ -66,8 +60,8 @@ pub fn put_words(out: &mut [u8], at: usize, words: &[u32])
     requires { at + 4 * length words.now ≤ length out.old }
     ensures { out.new ≡ spliced at (4 * length words.now) (bytes_of words.now) out.old }
 {
-    for i in 0..words.len() {
-        put_word(out, at + 4 * i, words[i]);
+    for (i, x) in words.iter().enumerate() {
+        put_word(out, at + 4 * i, *x);
     }
 }
 
@@ -76,8 +70,7 @@ fn put_half(out: &mut [u8], at: usize, x: usize)
     requires { at + 2 ≤ length out.old }
     ensures { out.new ≡ spliced at 2 (little_endian 2 x) out.old }
 {
-    out[at] = (x % 256) as u8;
-    out[at + 1] = (x / 256 % 256) as u8;
+    put_bytes(out, at, &((x % 65536) as u16).to_le_bytes());
 }
 
 // The numbers, two bytes each, from `at` on.
@@ -85,8 +78,8 @@ pub fn put_halves(out: &mut [u8], at: usize, numbers: &[usize])
     requires { at + 2 * length numbers.now ≤ length out.old }
     ensures { out.new ≡ spliced at (2 * length numbers.now) (flatten (map (little_endian 2) numbers.now)) out.old }
 {
-    for i in 0..numbers.len() {
-        put_half(out, at + 2 * i, numbers[i]);
+    for (i, x) in numbers.iter().enumerate() {
+        put_half(out, at + 2 * i, *x);
     }
 }
 
@@ -94,7 +87,17 @@ pub fn put_halves(out: &mut [u8], at: usize, numbers: &[usize])
 pub fn wide(x: u8) -> u32
     ensures { (result ≡ x) × (result < 256) }
 {
-    x as u32
+    u32::from(x)
+}
+
+// The N bytes from `at` on.
+fn bytes_at<const N: usize>(b: &[u8], at: usize) -> [u8; N]
+    requires { at + N ≤ length b.now }
+    ensures { result ≡ take N (drop at b.now) }
+{
+    let mut bytes = [0u8; N];
+    bytes.copy_from_slice(&b[at..at + N]);
+    bytes
 }
 
 // The number of the four bytes from `at` on.
@@ -102,10 +105,7 @@ pub fn word(b: &[u8], at: usize) -> u32
     requires { at + 4 ≤ length b.now }
     ensures { result ≡ from_bytes (take 4 (drop at b.now)) }
 {
-    let x = wide(b[at]);
-    let y = wide(b[at + 1]);
-    let z = wide(b[at + 2]);
-    x + 256 * (y + 256 * (z + 256 * wide(b[at + 3])))
+    u32::from_le_bytes(bytes_at(b, at))
 }
 
 // The number of the two bytes from `at` on.
@@ -113,8 +113,7 @@ pub fn half(b: &[u8], at: usize) -> usize
     requires { at + 2 ≤ length b.now }
     ensures { (result ≡ from_bytes (take 2 (drop at b.now))) × (result < 65536) }
 {
-    let x = wide(b[at]);
-    (x + 256 * wide(b[at + 1])) as usize
+    usize::from(u16::from_le_bytes(bytes_at(b, at)))
 }
 
 // The n words from `at` on, to the front of `out`.
@@ -122,8 +121,8 @@ pub fn read_words(b: &[u8], at: usize, n: usize, out: &mut [u32])
     requires { (at + 4 * n ≤ length b.now) × (n ≤ length out.old) }
     ensures { out.new ≡ words n (drop at b.now) ++ drop n out.old }
 {
-    for i in 0..n {
-        out[i] = word(b, at + 4 * i);
+    for (i, x) in out[..n].iter_mut().enumerate() {
+        *x = word(b, at + 4 * i);
     }
 }
 
@@ -132,8 +131,8 @@ pub fn read_halves(b: &[u8], at: usize, n: usize, out: &mut [usize])
     requires { (at + 2 * n ≤ length b.now) × (n ≤ length out.old) }
     ensures { out.new ≡ halves n (drop at b.now) ++ drop n out.old }
 {
-    for i in 0..n {
-        out[i] = half(b, at + 2 * i);
+    for (i, x) in out[..n].iter_mut().enumerate() {
+        *x = half(b, at + 2 * i);
     }
 }
 
@@ -144,12 +143,12 @@ pub fn elements_in(b: &[u8], at: usize, n: usize) -> bool
 {
     let mut ok = true;
     for i in 0..n {
-        ok = both(ok, word(b, at + 4 * i) < Q);
+        ok &= word(b, at + 4 * i) < Q;
     }
     ok
 }
 
-// Are the two equal?
+// Are the two equal? All bytes are looked at: no branch depends on them.
 pub fn same_bytes(a: &[u8], b: &[u8]) -> bool
     ensures { result ≡ same a.now b.now }
 {
@@ -157,8 +156,8 @@ pub fn same_bytes(a: &[u8], b: &[u8]) -> bool
         return false;
     }
     let mut ok = true;
-    for i in 0..a.len() {
-        ok = both(ok, a[i] == b[i]);
+    for (x, y) in a.iter().zip(b) {
+        ok &= *x == *y;
     }
     ok
 }

@@ -2,7 +2,7 @@
 use mathlib.Core.Path.{◌≡◌, refl, sym, ap, ap₂, ◌∙◌, subst}
 use mathlib.Core.List.{List, [], ◌++◌, map, map-map, Memᴰ as Mem}
 use Prim.Native.Nat.{ℕ, zero, suc, ◌+◌, ◌-◌, ◌*◌, ◌%◌, ◌≤◌, ◌<◌}
-use native.Mathlib.Nat.{zero-add, mul-le-mul_left, mul_comm, mul-zero}
+use native.Mathlib.Nat.{zero-add, mul_comm, mul-zero}
 use native.Mathlib.Numerals.{add-one}
 use native.Mathlib.Omega.{arith}
 use lib.ListN.{length, get_or, take, drop, length-map, length-drop}
@@ -69,12 +69,6 @@ module _ (s : Sizes) (c d : List ℕ) (h : CanLayOut s c d) where
   -- ---- where the blinding rows stand
 
   module _ (i t : ℕ) (li : i < s.w) (lt : t < s.ν) where
-    pub blinds_place : i * (s.ν - 1) + t < 256
-    blinds_place =
-        let less : s.ν - 1 ≤ s.ν = omega arith in
-        let narrower : i * (s.ν - 1) ≤ i * s.ν = mul-le-mul_left i less in
-        omega (arith, narrower, row_fits s.ν i s.w li, h.sizes.columns-high)
-
     module _ (more : t < s.ν - 1) where
       pub blinds_fit : s.β * (i * (s.ν - 1) + t) + s.β ≤ length d
       blinds_fit =

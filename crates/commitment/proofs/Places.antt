@@ -27,11 +27,8 @@ module _ (s : Sizes) (g : SizesInOrder s) where
   pub values_high : record_values s ≤ 68
   values_high = omega (arith, g.rows-high, g.η-high)
 
-  pub record_high : record_length s ≤ 304
+  record_high : record_length s ≤ 304
   record_high = omega (arith, values_high)
-
-  pub batching_high : width s * s.η ≤ 1280
-  batching_high = mul-le-mul {n₂ = 320} {m₂ = 4} width-high g.η-high
 
   pub answers_high : answers_at s ≤ 5120
   answers_high = mul-le-mul {n₂ = 1280} {m₂ = 4} (omega (arith, width-high)) g.η-high
@@ -40,9 +37,6 @@ module _ (s : Sizes) (g : SizesInOrder s) where
   all_records_high = mul-le-mul {n₂ = 304} {m₂ = 64} record_high g.ℓ-high
 
   module _ (m : ℕ) (h : m ≤ 8) where
-    pub evaluation_high : width s * m ≤ 2560
-    evaluation_high = mul-le-mul {n₂ = 320} {m₂ = 8} width-high h
-
     pub answer_bytes : 4 * width s * m ≤ 10240
     answer_bytes = mul-le-mul {n₂ = 1280} {m₂ = 8} (omega (arith, width-high)) h
 

@@ -6,33 +6,33 @@ ghost use mathlib.Core.List.{◌++◌, flatten};
 ghost use Rattle.lists.specs.Bytes.{bytes_of};
 ghost use Rattle.sponge.specs.Digest.{digest};
 ghost use Rattle.tree.specs.Leaf.{leaf_string, salt_length, index_end};
-ghost use Rattle.scheme.specs.Sizes.{sizes_of, leaves, most_values};
-ghost use Rattle.scheme.specs.Layers.{lent_of};
+ghost use Rattle.scheme.specs.Sizes.{leaves, most_values};
 ghost use Rattle.scheme.specs.Commit.{table_of, leaf_digests, tree_of, commit_verdict, committing};
 ghost use Rattle.commitment.specs.Shape.{sizes_in};
+ghost use Rattle.lent.specs.Witnessed.{witnessed};
+ghost use Rattle.refusal.specs.Numbers.{number_of};
 ghost use Rattle.committer.specs.Clauses.{Hashable, Committable};
 
 use codec::{put_bytes, put_words};
 use commitment::{Shape, leaf_count, record_values, sizes_ok};
 use digests::leaf_digest;
 use evaluations::fill_table;
-use lent::{filled_ok, lent_elements, lent_ok};
+use lent::{Witness, filled_ok, lent_elements, lent_ok};
 use node_sets::LeafIndex;
+use refusal::Refusal;
 use tree_fill::fill_tree;
 
-// ---- the tree
+// The longest leaf record: 68 values, and a nonce.
+const RECORD: usize = 304;
 
-// Room for a leaf record: at most 68 values, and a nonce.
-fn blank_record() -> [u8; 304] {
-    [0u8; 304]
-}
+// ---- the tree
 
 // The digest of a leaf, given the salt, its values and its nonce.
 fn hash_leaf(salt: &[u8], index: LeafIndex, values: &[u32], nonce: &[u8], out: &mut [u8])
     requires { (length salt.now ≡ salt_length) × (index.0 < index_end) × (length values.now ≤ most_values) × (length nonce.now ≡ 32) × (length out.old ≡ 32) }
     ensures { out.new ≡ digest (leaf_string salt.now index.0 (bytes_of values.now ++ nonce.now)) }
 {
-    let mut leaf = blank_record();
+    let mut leaf = [0u8; RECORD];
     let at = 4 * values.len();
     let end = at + 32;
     put_words(&mut leaf, 0, values);
@@ -65,108 +65,45 @@ fn hash_leaves(s: Shape, table: &[u32], nonces: &[u8], salt: &[u8], tree: &mut [
 // ---- committing
 
 // The table, and the tree over it.
-fn fill(
-    s: Shape,
-    coefficients: &[u32],
-    tails: &[u32],
-    blinds: &[u32],
-    masks: &[u32],
-    nonces: &[u8],
-    salt: &[u8],
-    table: &mut [u32],
-    tree: &mut [u8],
-)
-    requires { Committable (sizes_in s) (lent_of coefficients.now tails.now blinds.now masks.now nonces.now salt.now) table.old tree.old }
-    ensures table_after { table.new ≡ table_of (sizes_in s) (lent_of coefficients.now tails.now blinds.now masks.now nonces.now salt.now) }
-    ensures tree_after { tree.new ≡ tree_of (sizes_in s) (lent_of coefficients.now tails.now blinds.now masks.now nonces.now salt.now) }
+fn fill(s: Shape, witness: &Witness<'_>, table: &mut [u32], tree: &mut [u8])
+    requires { Committable (sizes_in s) (witnessed witness.now) table.old tree.old }
+    ensures table_after { table.new ≡ table_of (sizes_in s) (witnessed witness.now) }
+    ensures tree_after { tree.new ≡ tree_of (sizes_in s) (witnessed witness.now) }
 {
-    fill_table(s, coefficients, tails, blinds, masks, table);
-    hash_leaves(s, table, nonces, salt, tree);
-    fill_tree(salt, s.h as usize, leaf_count(s.h), tree);
+    fill_table(s, witness, table);
+    hash_leaves(s, table, witness.nonces, witness.salt, tree);
+    fill_tree(witness.salt, s.h as usize, leaf_count(s.h), tree);
 }
 
-// The number of the first test that holds, or 0.
-fn verdict(
-    s: Shape,
-    coefficients: &[u32],
-    tails: &[u32],
-    blinds: &[u32],
-    masks: &[u32],
-    nonces: &[u8],
-    salt: &[u8],
-    table: &[u32],
-    tree: &[u8],
-) -> u32
-    ensures { result ≡ commit_verdict (sizes_in s) (lent_of coefficients.now tails.now blinds.now masks.now nonces.now salt.now) table.now tree.now }
+// The tests, in their order.
+fn verdict(s: Shape, witness: &Witness<'_>, table: &[u32], tree: &[u8]) -> Result<(), Refusal>
+    ensures { number_of result ≡ commit_verdict (sizes_in s) (witnessed witness.now) table.now tree.now }
 {
     if !sizes_ok(s) {
-        return 1;
+        return Err(Refusal::Sizes);
     }
-    if !lent_ok(s, coefficients, tails, blinds, masks, nonces, salt) {
-        return 2;
+    if !lent_ok(s, witness) {
+        return Err(Refusal::Length);
     }
     if !filled_ok(s, table, tree) {
-        return 2;
+        return Err(Refusal::Length);
     }
-    if !lent_elements(coefficients, tails, blinds, masks) {
-        return 3;
+    if !lent_elements(witness) {
+        return Err(Refusal::Element);
     }
-    0
+    Ok(())
 }
 
-// Commits to the polynomials: fills the table and the tree, or returns the number of a refusal and leaves them as they were.
+// Commits to the polynomials: fills the table and the tree, or refuses and leaves them as they were.
 pub fn commit(
-    h: u32,
-    mu: u32,
-    nu: u32,
-    w: u32,
-    l: u32,
-    eta: u32,
-    beta: u32,
-    coefficients: &[u32],
-    tails: &[u32],
-    blinds: &[u32],
-    masks: &[u32],
-    nonces: &[u8],
-    salt: &[u8],
+    s: Shape,
+    witness: &Witness<'_>,
     table: &mut [u32],
     tree: &mut [u8],
-) -> u32
-    ensures { (result, table.new, tree.new) ≡ committing (sizes_of h mu nu w l eta beta) (lent_of coefficients.now tails.now blinds.now masks.now nonces.now salt.now) table.old tree.old }
+) -> Result<(), Refusal>
+    ensures { (number_of result, table.new, tree.new) ≡ committing (sizes_in s) (witnessed witness.now) table.old tree.old }
 {
-    let s = Shape {
-        h: h,
-        mu: mu,
-        nu: nu,
-        w: w,
-        l: l,
-        eta: eta,
-        beta: beta,
-    };
-    let v = verdict(
-        s,
-        coefficients,
-        tails,
-        blinds,
-        masks,
-        nonces,
-        salt,
-        table,
-        tree,
-    );
-    if v != 0 {
-        return v;
-    }
-    fill(
-        s,
-        coefficients,
-        tails,
-        blinds,
-        masks,
-        nonces,
-        salt,
-        table,
-        tree,
-    );
-    0
+    verdict(s, witness, table, tree)?;
+    fill(s, witness, table, tree);
+    Ok(())
 }

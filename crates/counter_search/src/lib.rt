@@ -10,12 +10,12 @@ ghost use Rattle.fiat_shamir.specs.Prove.{counter_bytes};
 ghost use Rattle.counter_search.specs.Tried.{tried_after, tried};
 
 use codec::{put_bytes, put_word};
-use drawing::qualified;
+use drawing::{COUNTER, qualified};
 use sponge::{absorb_prefix, draw_after};
 
 const RATE: usize = 136; // bytes of a block of SHAKE256
 
-const TAIL: usize = 139; // what a string has of its last block, and the counter
+const TAIL: usize = RATE - 1 + COUNTER; // what a string has after its full blocks, at most, and the counter
 
 // Does the string of which `a` has absorbed the full blocks before `tail` qualify? Two bytes of its draw say so.
 fn tail_qualifies(a: [u64; 25], tail: &[u8], kappa: u32) -> bool
@@ -33,14 +33,12 @@ fn search(a: [u64; 25], tail: &mut [u8], at: usize, kappa: u32, limit: u32) -> u
     ensures value { result ≡ least limit (tried_after kappa a (take at tail.old)) }
     ensures tail_unchanged { take at tail.new ≡ take at tail.old }
 {
-    let end = at + 4;
-    let mut c: u32 = 0;
-    while c < limit {
+    let end = at + COUNTER;
+    for c in 0..limit {
         put_word(tail, at, c);
         if tail_qualifies(a, &tail[..end], kappa) {
             return c;
         }
-        c += 1;
     }
     limit
 }
@@ -58,7 +56,7 @@ pub fn find_counter(string: &[u8], kappa: u32, limit: u32, out: &mut [u8]) -> u3
     let a = absorb_prefix(string);
     let counter = search(a, &mut tail, left, kappa, limit);
     put_word(&mut tail, left, counter);
-    let end = left + 4;
+    let end = left + COUNTER;
     draw_after(a, &tail[..end], out);
     counter
 }

@@ -1,23 +1,23 @@
 // What is drawn for a proof: the challenges, whether a counter qualifies, and the question so drawn.
 #![tactic(auto)]
 
-ghost use Rattle.std.specs.Prelude.{◌≡◌, suc, ◌≤◌, ◌<◌, length, drop};
+ghost use Rattle.std.specs.Prelude.{◌≡◌, suc, ◌+◌, ◌≤◌, ◌<◌, length, drop};
 ghost use mathlib.Core.List.{◌∷◌, ◌++◌, map, flatten};
 ghost use Rattle.sponge.specs.Digest as D;
 ghost use Rattle.lists.specs.Bytes.{little_endian, bytes_of};
+ghost use Rattle.lists.specs.Spliced.{spliced};
 ghost use Rattle.scheme.specs.Question.{challenges_at, header_sizes, question_length};
 ghost use Rattle.fiat_shamir.specs.Offline.{header_root_salt, most_bits};
 ghost use Rattle.fiat_shamir.specs.Draw.{challenge_string, drawn_challenges, qualifies, drawn_bytes};
 ghost use Rattle.commitment.specs.Shape.{sizes_in};
-ghost use Rattle.offline_question.specs.Offline.{Offline};
 
-use codec::{put_bytes, put_halves, put_words, wide};
-use commitment::{Shape, challenges_at, indices_at, points_at};
-use question::blank_challenges;
+use codec::{put_bytes, put_halves, put_words};
+use commitment::{challenges_at, indices_at, points_at};
+use field::Q;
+use offline_question::OfflineQuery;
+use question::MOST_CHALLENGES;
 use sponge::digest;
 use words::word;
-
-const Q: u64 = 4294967291; // the field's modulus
 
 const CHALLENGE_PREFIX: u8 = 2;
 
@@ -25,18 +25,13 @@ const CHALLENGE_STRING: usize = 80; // the prefix, header, root, salt
 
 const LEAF_PREFIX: u8 = 3;
 
-const LONGEST_QUESTION: usize = 255; // of a conversation
+pub const COUNTER: usize = 4; // bytes of a counter
+
+pub const LONGEST_DRAW: usize = 544; // 32 bytes, and 8 for each of 64 leaves
+
+pub const LONGEST_QUESTION: usize = 255; // of a conversation
 
 pub const LONGEST_STRING: usize = 15472; // of a leaf draw but for the counter: prefix, question, 12 answers of 320 words
-
-// Room for a draw, 32 bytes and 8 for each of 64 leaves; and for the longest question of a conversation.
-pub fn blank_draw() -> [u8; 544] {
-    [0u8; 544]
-}
-
-pub fn blank_question() -> [u8; LONGEST_QUESTION] {
-    [0u8; LONGEST_QUESTION]
-}
 
 // A string after a prefix of one byte, to the front of `out`.
 fn put_prefixed(prefix: u8, string: &[u8], out: &mut [u8])
@@ -64,8 +59,8 @@ fn draw_challenges(question: &[u8], out: &mut [u32])
     ensures { out.new ≡ drawn_challenges (header_root_salt question.now) }
 {
     let d = challenge_digest(question);
-    for k in 0..out.len() {
-        out[k] = (word(&d, 8 * k) % Q) as u32;
+    for (k, x) in out.iter_mut().enumerate() {
+        *x = (word(&d, 8 * k) % u64::from(Q)) as u32;
     }
 }
 
@@ -82,37 +77,40 @@ pub fn qualified(draw: &[u8], kappa: u32) -> bool
     requires { (2 ≤ length draw.now) × (kappa ≤ most_bits) }
     ensures { result ≡ qualifies kappa draw.now }
 {
-    let high = wide(draw[0]);
-    let low = wide(draw[1]);
-    256 * high + low < 1u32 << (16 - kappa)
+    let first = u16::from_be_bytes([draw[0], draw[1]]);
+    u32::from(first) < 1u32 << (16 - kappa)
+}
+
+// The bytes, from `at` on. One by one, since for a copy by the library the compiler wants memmove of the C library here.
+fn put_part(out: &mut [u8], at: usize, bytes: &[u8])
+    requires { at + length bytes.now ≤ length out.old }
+    ensures { out.new ≡ spliced at (length bytes.now) bytes.now out.old }
+{
+    for i in 0..bytes.len() {
+        out[at + i] = bytes[i];
+    }
 }
 
 // The bytes of a question with these challenges and indices: header, root, salt, challenges, points, indices.
-fn put_parts(
-    question: &[u8],
-    s: Shape,
-    m: u32,
-    challenges: &[u32],
-    indices: &[usize],
-    out: &mut [u8],
-)
-    requires { Offline question.now (sizes_in s) m × (length challenges.now ≡ s.eta) × (length indices.now ≡ s.l) × (length out.old ≡ question_length (sizes_in s) m) }
-    ensures { out.new ≡ header_root_salt question.now ++ (bytes_of challenges.now ++ (drop challenges_at question.now ++ flatten (map (little_endian 2) indices.now))) }
+fn put_parts(query: &OfflineQuery<'_>, challenges: &[u32], indices: &[usize], out: &mut [u8])
+    requires { (length challenges.now ≡ query.now.shape.eta) × (length indices.now ≡ query.now.shape.l) × (length out.old ≡ question_length (sizes_in query.now.shape) query.now.m) }
+    ensures { out.new ≡ header_root_salt query.now.bytes.now ++ (bytes_of challenges.now ++ (drop challenges_at query.now.bytes.now ++ flatten (map (little_endian 2) indices.now))) }
 {
+    let question = query.bytes;
     let at = challenges_at();
-    put_bytes(out, 0, &question[..at]);
+    put_part(out, 0, &question[..at]);
     put_words(out, at, challenges);
-    put_bytes(out, points_at(s), &question[at..]);
-    put_halves(out, indices_at(s, m as usize), indices);
+    put_part(out, points_at(query.shape), &question[at..]);
+    put_halves(out, indices_at(query.shape, query.m as usize), indices);
 }
 
 // The bytes of the question so drawn.
-pub fn draw_question(question: &[u8], s: Shape, m: u32, indices: &[usize], out: &mut [u8])
-    requires { Offline question.now (sizes_in s) m × (length indices.now ≡ s.l) × (length out.old ≡ question_length (sizes_in s) m) }
-    ensures { out.new ≡ drawn_bytes question.now indices.now }
+pub fn draw_question(query: &OfflineQuery<'_>, indices: &[usize], out: &mut [u8])
+    requires { (length indices.now ≡ query.now.shape.l) × (length out.old ≡ question_length (sizes_in query.now.shape) query.now.m) }
+    ensures { out.new ≡ drawn_bytes query.now.bytes.now indices.now }
 {
-    let eta = s.eta as usize;
-    let mut challenges = blank_challenges();
-    draw_challenges(question, &mut challenges[..eta]);
-    put_parts(question, s, m, &challenges[..eta], indices, out);
+    let mut room = [0u32; MOST_CHALLENGES];
+    let challenges = &mut room[..query.shape.eta as usize];
+    draw_challenges(query.bytes, challenges);
+    put_parts(query, challenges, indices, out);
 }

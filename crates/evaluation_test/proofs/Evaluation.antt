@@ -1,23 +1,24 @@
 -- The evaluation test: at one leaf, and for all leaves.
-use mathlib.Core.Path.{◌≡◌, refl, sym, ap, ap₂, subst, ◌∙◌}
-use mathlib.Core.Bool.{Bool}
-use mathlib.Core.List.{List, ◌++◌}
+use mathlib.Core.Path.{◌≡◌, refl, sym, ap, ap₂, ◌∙◌}
+use mathlib.Core.Bool.{Bool, ◌&&◌}
+use mathlib.Core.List.{List, [], ◌∷◌, ◌++◌}
 use Prim.Native.Nat.{ℕ, ◌+◌, ◌-◌, ◌*◌, ◌%◌, ◌≤◌, ◌<◌}
-use native.Mathlib.Nat.{sub-zero}
 use native.Mathlib.Omega.{arith}
 use lib.Dec.{eqb}
 use lib.ListN.{length, get_or, take, drop}
-use lib.Seq.{drop_at, get_or-take}
+use Rattle.std.specs.List.{list_all, zip}
+use Rattle.std.proofs.lemmas.Slice.Zip.{length-zip, get_or-zip}
+use lib.Seq.{drop_at}
 use Rattle.lists.specs.All.{Below, all_at}
 use Rattle.lists.specs.Fill.{Filled}
 use Rattle.lists.specs.Pieces.{piece}
-use Rattle.lists.specs.Parts.{part_is, front_length}
+use Rattle.lists.specs.Parts.{part_is}
 use Rattle.lists.specs.Range.{up_from}
-use Rattle.lists.specs.Tests.{each, each_ext}
+use Rattle.lists.specs.Tests.{all, all_is_each, each, each_ext}
 use Rattle.algebra.specs.Prime.{q}
 use Rattle.algebra.specs.Table.{table_size}
 use Rattle.algebra.specs.Inverse.{inv_n}
-use Rattle.algebra.specs.Dot.{dot_n, dot_n_comm, dots_of, dots_entry}
+use Rattle.algebra.specs.Dot.{dot_n, dot_n_comm, dots_of, dots_length, dots_entry}
 use Rattle.algebra.specs.Numbers.{eval_n, eval_n_below, interp_n}
 use Rattle.algebra.specs.Barycentric.{weights_n, weighed_n, cofactors_n, inverses_from, has_value}
 use Rattle.algebra.proofs.Barycentric.{length-weights_n, length-weighed_n, run_is, value_test, cofactors_test}
@@ -25,20 +26,38 @@ use Rattle.scheme.specs.Sizes.{leaf_point}
 use Rattle.lists.specs.Rows.{rows_of, row_at, length-rows}
 use Rattle.opened.specs.Powers.{powers_at}
 use Rattle.opened.proofs.Powers.{dot-row}
-use Rattle.evaluation_test.specs.Evaluation.{Fits, weighed_row, weighed_at, weighed_all, weighed_leaf, evaluated_at, evaluated_leaf}
+use Rattle.evaluation_test.specs.Evaluation.{weighed_row, weighed_at, weighed_all, weighed_leaf, evaluated_at, evaluated_leaf}
 
--- the code's two sides at one point
-pub sides : (m : ℕ) (inverses weights weighed scales rows lefts sums : List ℕ) (p total : ℕ) (r : Bool) → p < m → length inverses ≡ length weights
-    → total ≡ dot_n inverses weights → take (m - 0) lefts ≡ dots_of inverses m weighed → take (m - 0) sums ≡ dots_of rows m scales
-    → r ≡ eqb (get_or lefts p 0) (total * get_or sums p 0 % q) → r ≡ weighed_at inverses weights weighed scales rows p
-unfolding weighed_at has_value
-sides m inverses weights weighed scales rows lefts sums p total r l n d e f g =
-    g ∙ ap₂ eqb
-    (front_entry m lefts p l ∙ ap (λ (t : List ℕ). get_or t p 0) e ∙ dots_entry inverses m weighed p l ∙ ap (λ (k : ℕ). dot_n inverses (piece k p weighed)) n)
-    (ap₂ (λ (s t : ℕ). s * t % q) d (front_entry m sums p l ∙ ap (λ (t : List ℕ). get_or t p 0) f ∙ dots_entry rows m scales p l))
+-- a test of all pairs of two lists, by places
+pairs_all : (t : ℕ → ℕ → Bool) (xs ys : List ℕ) → length ys ≡ length xs
+    → list_all (λ (p : ℕ × ℕ). t p.0 p.1) (zip xs ys) ≡ each (length xs) (λ k. t (get_or xs k 0) (get_or ys k 0))
+unfolding all
+pairs_all t xs ys e =
+    each_of (zip xs ys)
+    ∙ all_is_each (λ (p : ℕ × ℕ). t p.0 p.1) (0, 0) (zip xs ys)
+    ∙ ap (λ (n : ℕ). each n (λ k. t (get_or (zip xs ys) k (0, 0)).0 (get_or (zip xs ys) k (0, 0)).1)) (omega (arith, length-zip xs ys, e))
+    ∙ each_ext (length xs) _ _ (λ k l. ap (λ (p : ℕ × ℕ). t p.0 p.1) (get_or-zip xs ys k (0, 0) l (omega (arith, e))))
   where
-    front_entry : (m : ℕ) (s : List ℕ) (p : ℕ) → p < m → get_or s p 0 ≡ get_or (take (m - 0) s) p 0
-    front_entry m s p l = sym (ap (λ (k : ℕ). get_or (take k s) p 0) (sub-zero m) ∙ get_or-take m s p 0 l)
+    each_of : (ps : List (ℕ × ℕ)) → list_all (λ (p : ℕ × ℕ). t p.0 p.1) ps ≡ all (λ (p : ℕ × ℕ). t p.0 p.1) ps
+    each_of [] = refl
+    each_of (p ∷ ps) = ap (λ (b : Bool). t p.0 p.1 && b) (each_of ps)
+
+-- the code's two sides at all points
+pub sides : (m n k : ℕ) (inverses weights weighed scales rows lefts sums : List ℕ) (total : ℕ) (r : Bool) → n ≡ m → k ≡ m → length inverses ≡ length weights
+    → total ≡ dot_n inverses weights → lefts ≡ dots_of inverses n weighed → sums ≡ dots_of rows k scales
+    → r ≡ list_all (λ (p : ℕ × ℕ). eqb p.0 (total * p.1 % q)) (zip lefts sums) → r ≡ each m (weighed_at inverses weights weighed scales rows)
+unfolding weighed_at has_value
+sides m n k inverses weights weighed scales rows lefts sums total r en ek l d e f g =
+    let el : lefts ≡ dots_of inverses m weighed = e ∙ ap (λ (i : ℕ). dots_of inverses i weighed) en in
+    let es : sums ≡ dots_of rows m scales = f ∙ ap (λ (i : ℕ). dots_of rows i scales) ek in
+    let ll : length lefts ≡ m = ap length el ∙ dots_length inverses m weighed in
+    let ls : length sums ≡ m = ap length es ∙ dots_length rows m scales in
+    g
+    ∙ pairs_all (λ x y. eqb x (total * y % q)) lefts sums (ls ∙ sym ll)
+    ∙ ap (λ (i : ℕ). each i (λ p. eqb (get_or lefts p 0) (total * get_or sums p 0 % q))) ll
+    ∙ each_ext m _ _ (λ p h. ap₂ eqb
+    (ap (λ (t : List ℕ). get_or t p 0) el ∙ dots_entry inverses m weighed p h ∙ ap (λ (i : ℕ). dot_n inverses (piece i p weighed)) l)
+    (ap₂ (λ (s t : ℕ). s * t % q) d (ap (λ (t : List ℕ). get_or t p 0) es ∙ dots_entry rows m scales p h)))
 
 -- ---- one leaf
 
@@ -114,32 +133,3 @@ evaluated_is first width μ points answers indices weights weighed scales rest o
         weighed_row_lem : (x p : ℕ) → has_value (inverses_from (first - x) (length weights)) weights (weighed_row weights answers p) (eval_n (rows a) (get_or points p 0))
             ≡ has_value (inverses_from (first - x) (length weights)) weights (weighed_n weights (piece (length weights) p answers)) (eval_n (rows a) (get_or points p 0))
         weighed_row_lem x p = refl
-
--- arrays that are long enough, of which parts are lent, do for the test
-pub rooms_do : (leaves width μ at size : ℕ) (points answers indices reply scales weights rows products room : List ℕ)
-    → (0 < leaves) × (leaves ≤ 4096) × Below leaves indices × (length indices ≤ 64) × (0 < width) × (width ≤ 320) × (μ ≤ 64) × (length points ≤ 8)
-    × (width * length points ≤ length answers) × (4 * μ ≤ size) × (at + size * length indices ≤ length reply)
-    → width ≤ length weights → width ≤ length products → width ≤ length room → μ ≤ length rows → μ * length points ≤ length scales
-    → (length points ≤ 8) × (0 < leaves) × (leaves ≤ 4096) × Below leaves indices × (length indices ≤ 64) × (0 < length (take (width - 0) weights)) × (length (take (width - 0) weights) ≤ table_size)
-    × (length (take (μ - 0) rows) ≤ 64)
-    × Fits (length points) (take (width - 0) weights) answers (take (μ - 0) rows) scales at size indices reply (take (width - 0) products) (take (width - 0) room)
-rooms_do leaves width μ at size points answers indices reply scales weights rows products room h w p r m t =
-    let wide : width ≡ length (take (width - 0) weights) = sym (front_length width weights w) in
-    let leaf : μ ≡ length (take (μ - 0) rows) = sym (front_length μ rows m) in (
-      h.7,
-      h.0,
-      h.1,
-      h.2,
-      h.3,
-      subst (λ (k : ℕ). 0 < k) wide h.4,
-      subst (λ (k : ℕ). k ≤ table_size) wide h.5,
-      subst (λ (k : ℕ). k ≤ 64) leaf h.6,
-      (
-        subst (λ (k : ℕ). k * length points ≤ length answers) wide h.8,
-        subst (λ (k : ℕ). k * length points ≤ length scales) leaf t,
-        subst (λ (k : ℕ). 4 * k ≤ size) leaf h.9,
-        h.10,
-        front_length width products p ∙ wide,
-        front_length width room r ∙ wide,
-      ),
-    )

@@ -4,10 +4,10 @@ use mathlib.Core.Bool.{true, false}
 use mathlib.Core.Logic.{◌⊎◌, inl, inr}
 use mathlib.Core.List.{List, [], ◌++◌, map, flatten}
 use Prim.Native.Nat.{ℕ, ◌+◌, ◌-◌, ◌*◌, ◌/◌, ◌%◌, ◌≤◌, ◌<◌}
-use native.Mathlib.Nat.{le_of_eq, not-suc-le-zero, zero-add, mod-lt, div-add-mod, mul-le-mul_left}
+use native.Mathlib.Nat.{not-suc-le-zero, zero-add, mod-lt, div-add-mod, mul-le-mul_left}
 use native.Mathlib.Omega.{arith}
 use lib.Dec.{ltb}
-use lib.ListN.{length, get_or, take, length-map, length-append, get_or-append}
+use lib.ListN.{length, get_or, take, replicate, length-map, length-append, length-replicate, get_or-append}
 use lib.Seq.{length-take-le, ext_get_or, get_or-append-add}
 use borrow.Author.Tests.{ltb-true, ltb-false}
 use Rattle.lists.specs.Choice.{tested}
@@ -21,17 +21,18 @@ use Rattle.algebra.specs.Field.{K, of, 𝟎}
 use Rattle.algebra.specs.Poly.{eval}
 use Rattle.algebra.specs.Interp.{interp, interp_values}
 use Rattle.algebra.specs.Numbers.{eval_n, of_eval_n, ofs, ofs-vals, interp_n, interp_n-length, values_at_n, distinct_ofs}
-use Rattle.stepping.specs.Lanes.{entry, Small}
+use Rattle.stepping.specs.Lanes.{entry}
 use Rattle.extrapolation.specs.Written.{KeptColumns}
+use Rattle.extrapolation.proofs.Putting.{small_zeros}
 use Rattle.extrapolation.specs.Extrapolated.{Through, Columns, Extrapolated}
 use Rattle.scheme.specs.Sizes.{Sizes, SizesInOrder, leaves, rows, width, record_values, points}
-use Rattle.scheme.specs.Layers.{Lent, lent_of, extended, row_polynomials, mask_polynomial}
-use Rattle.lent.specs.Partly.{lent_rows}
+use Rattle.scheme.specs.Layers.{Lent, extended, row_polynomials, mask_polynomial}
 use Rattle.scheme.specs.Commit.{leaf_values, table_of}
 use Rattle.scheme.proofs.Accepted.{leaves-high}
 use Rattle.algebra.specs.Values.{values_at_lem, values_append, length_values}
 use Rattle.lent.specs.Rows.{CanExtend}
 use Rattle.lent.proofs.Rows.{extended-length}
+use Rattle.evaluations.specs.Clauses.{Room}
 use Rattle.evaluations.specs.Values.{Lane, RowLanes, MaskLanes, row_polynomial}
 
 -- ---- rows
@@ -52,7 +53,7 @@ interp-entry n width row fit len t l =
     inside = omega (arith, length-up_from n width)
 
 -- the lanes of rows are the values of their polynomials
-pub rows_through : (s : Sizes) (l : Lent) → CanExtend s l.coefficients l.tails l.blinds → SizesInOrder s → (lo lanes w n : ℕ) (values : List ℕ) → lo + lanes ≤ rows s → w ≡ width s → n ≡ leaves s
+rows_through : (s : Sizes) (l : Lent) → CanExtend s l.coefficients l.tails l.blinds → SizesInOrder s → (lo lanes w n : ℕ) (values : List ℕ) → lo + lanes ≤ rows s → w ≡ width s → n ≡ leaves s
     → RowLanes s l lo lanes values → Through (λ (j : ℕ). row_polynomial s l (lo + j)) values w n lanes
 unfolding RowLanes Lane Through interp_n
 rows_through s l can g lo lanes w n values u hw hn h j b = (omega (arith, short, hw), λ t k. value t k)
@@ -79,7 +80,7 @@ unfolding Columns
 columns_none p n stride table x j l h = absurd (not-suc-le-zero h)
 
 -- columns below lo are kept, and the next ones are filled
-pub columns_more : (p : ℕ → List ℕ) (src : List ℕ) (w n stride lo lanes : ℕ) (t t' : List ℕ) → lo + lanes ≤ stride
+columns_more : (p : ℕ → List ℕ) (src : List ℕ) (w n stride lo lanes : ℕ) (t t' : List ℕ) → lo + lanes ≤ stride
     → Columns p lo n 0 stride t → KeptColumns stride lo lanes t t' → Extrapolated src w lanes n lo stride t' → Through (λ (j : ℕ). p (lo + j)) src w n lanes
     → Columns p (lo + lanes) n 0 stride t'
 unfolding Columns KeptColumns Extrapolated
@@ -95,9 +96,12 @@ columns_more p src w n stride lo lanes t t' u old kept new through x j b h = go 
         let z : x * stride + (0 + j) ≡ x * stride + (lo + (j - lo)) = omega arith in
         ap (entry t') z ∙ new (λ (i : ℕ). p (lo + i)) through x (j - lo) b (omega arith) ∙ ap (λ (i : ℕ). eval_n (p i) x) r
 
-pub some_lanes : (lanes mu lo : ℕ) → lo < mu → (lanes ≡ 4) ⊎ (lanes ≡ mu - lo) → 0 < lanes
-some_lanes lanes mu lo l (inl e) = omega arith
-some_lanes lanes mu lo l (inr e) = omega arith
+-- the lanes of rows from lo on continue the columns
+pub rows_more : (s : Sizes) (l : Lent) → CanExtend s l.coefficients l.tails l.blinds → SizesInOrder s → (lo lanes w n k : ℕ) (values t t' : List ℕ) → lo + lanes ≤ rows s
+    → w ≡ width s → n ≡ leaves s → k ≡ record_values s → RowLanes s l lo lanes values → Columns (row_polynomial s l) lo n 0 k t → KeptColumns k lo lanes t t'
+    → Extrapolated values w lanes n lo k t' → Columns (row_polynomial s l) (lo + lanes) n 0 k t'
+rows_more s l can g lo lanes w n k values t t' u hw hn hk lane old kept new =
+    columns_more (row_polynomial s l) values w n k lo lanes t t' (omega (arith, u, hk)) old kept new (rows_through s l can g lo lanes w n values u hw hn lane)
 
 -- ---- masks
 
@@ -108,13 +112,13 @@ masks_through masks eta w n values len h j b = (omega (arith, short), λ t k. ap
     short : length (piece w j masks) ≡ w
     short = length-piece w j masks (omega (arith, len, row_fits w j eta b))
 
--- ---- what gathering and extrapolating ask, and the columns that they leave
+-- ---- what gathering asks, and the columns that are left
 
 module _ (s : Sizes) (g : SizesInOrder s) (n w k : ℕ) (hn : n ≡ leaves s) (hw : w ≡ width s) (hk : k ≡ record_values s) where
   width-high : w ≤ 320
   width-high = omega (arith, hw, g.ℓ-high, g.columns-high)
 
-  pub leaves_most : n ≤ 4096
+  leaves_most : n ≤ 4096
   leaves_most = omega (arith, hn, leaves-high s g)
 
   pub front_count : (weights : List ℕ) → width s ≤ length weights → length (take w weights) ≡ w
@@ -128,20 +132,6 @@ module _ (s : Sizes) (g : SizesInOrder s) (n w k : ℕ) (hn : n ≡ leaves s) (h
     subst (λ (m : ℕ). m * s.η ≤ length masks) (sym (e ∙ hw)) (omega (arith, len)),
     g.η-high,
     omega arith,
-  )
-
-  pub extrapolation_asked : (lo lanes : ℕ) (values lines table : List ℕ) → lanes ≤ 4 → lo + lanes ≤ record_values s → 4 * width s ≤ length values → 20 * ((width s + 4) / 5) ≤ length lines → Small lines
-      → length table ≡ leaves s * record_values s
-      → (0 < w) × (lanes ≤ 4) × (w + n ≤ 65536) × (4 * w ≤ length values) × (20 * ((w + 4) / 5) ≤ length lines) × Small lines × (lo + lanes ≤ k) × (n * k ≤ length table)
-  extrapolation_asked lo lanes values lines table few fit room orders small len = (
-    omega (arith, hw, g.ℓ-low),
-    few,
-    omega (arith, leaves_most, width-high),
-    omega arith,
-    subst (λ (m : ℕ). 20 * ((m + 4) / 5) ≤ length lines) (sym hw) orders,
-    small,
-    omega arith,
-    le_of_eq (ap₂ ◌*◌ hn hk ∙ sym len),
   )
 
   pub row-columns : (l : Lent) (m : ℕ) (table : List ℕ) → Columns (row_polynomial s l) m n 0 k table → Columns (row_polynomial s l) m (leaves s) 0 (record_values s) table
@@ -161,11 +151,13 @@ module _ (s : Sizes) (g : SizesInOrder s) (n w k : ℕ) (hn : n ≡ leaves s) (h
   pub kept-columns : (at : ℕ) (t t' : List ℕ) → at ≡ rows s → KeptColumns k at s.η t t' → KeptColumns (record_values s) (rows s) s.η t t'
   kept-columns at t t' f h = subst (λ (b : ℕ). KeptColumns b (rows s) s.η t t') hk (subst (λ (b : ℕ). KeptColumns k b s.η t t') f h)
 
--- rows do not depend on the masks
-pub columns_lent : (s : Sizes) (coefficients tails blinds masks table : List ℕ) → Columns (row_polynomial s (lent_rows coefficients tails blinds)) (rows s) (leaves s) 0 (record_values s) table
-    → Columns (row_polynomial s (lent_of coefficients tails blinds masks [] [])) (rows s) (leaves s) 0 (record_values s) table
-unfolding extended
-columns_lent s coefficients tails blinds masks table h = h
+-- zeros are room enough
+pub room_of_zeros : (w n : ℕ) → 20 * ((w + 4) / 5) ≤ n → Room w (replicate n 0) (replicate n 0)
+room_of_zeros w n l = record {
+  points = omega (arith, l, length-replicate {A = ℕ} n 0);
+  orders = subst (λ (m : ℕ). 20 * ((w + 4) / 5) ≤ m) (sym (length-replicate {A = ℕ} n 0)) l;
+  small = small_zeros n;
+}
 
 -- ---- the whole table, column by column
 

@@ -41,10 +41,10 @@ module _ (s : Sizes) (l : Lent) (can : CanLayOut s l.coefficients l.blinds) (i :
   pub polynomial_room : s.ν * i + s.ν ≤ columns s
   polynomial_room = omega (arith, row_fits s.ν i s.w li)
 
-  pub coefficients_room : n * i + (s.μ * s.ν + s.β) ≤ length c
+  coefficients_room : n * i + (s.μ * s.ν + s.β) ≤ length c
   coefficients_room = omega (arith, from, row_fits (coefficient_count s) i s.w li, can.coefficients_length)
 
-  pub blinds_room : m * i + s.β * (s.ν - 1) ≤ length d
+  blinds_room : m * i + s.β * (s.ν - 1) ≤ length d
   blinds_room = omega (arith, low, row_fits (blind_count s) i s.w li, can.blinds_length)
 
   pub row_there : (row : ℕ) → row < s.μ → n * i + row + s.μ * s.ν < length c + s.μ

@@ -10,22 +10,16 @@ use lib.Seq.{length-take-le}
 use borrow.Rule.Slice.PartMut.{put_mid}
 use Rattle.lists.specs.Parts.{put_before, put_within, put_length}
 use Rattle.lists.specs.Pieces.{pieces, piece, length-pieces, pieces_at}
-use Rattle.lists.specs.Tabulate.{tabulate, length_from}
+use Rattle.lists.specs.Tabulate.{tabulate}
 use Rattle.algebra.specs.Numbers.{eval_n, values_at_n}
 use Rattle.algebra.specs.Columns.{pow_n}
-use Rattle.algebra.specs.Dot.{longest, dots_of, dots_powers_n}
+use Rattle.algebra.specs.Dot.{dots_of, dots_powers_n}
 use Rattle.stepping.specs.Lanes.{entry}
 use Rattle.algebra.specs.Values.{values_at_lem, length_values}
 use Rattle.evaluations.specs.Values.{MaskLanes}
 
 -- ---- as dot products with the powers
 module _ (x k : ℕ) (ws : List ℕ) (e : ws ≡ tabulate k (pow_n x)) where
-  powers_count : length ws ≡ k
-  powers_count = ap length e ∙ length_from 0 k (pow_n x)
-
-  pub dots_room : (n r : ℕ) → k ≤ 320 → k * n ≤ r → (length ws * n ≤ r) × (length ws ≤ longest)
-  dots_room n r l h = (subst (λ (m : ℕ). m * n ≤ r) (sym powers_count) h, omega (arith, powers_count))
-
   pub mask_values : (n : ℕ) (masks out : List ℕ) → k * n ≤ length masks → out ≡ dots_of ws n masks → out ≡ values_at_n (pieces k n masks) x
   mask_values n masks out h f = f ∙ ap (λ (w : List ℕ). dots_of w n masks) e ∙ dots_powers_n k n masks x h
 

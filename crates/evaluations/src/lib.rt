@@ -1,7 +1,7 @@
 // The table of leaf values: the values of rows and masks at N, N + 1, .., and from these the values at the leaves.
 #![tactic(auto)]
 
-ghost use Rattle.std.specs.Prelude.{◌≡◌, [], ℕ, ◌+◌, ◌*◌, ◌<◌, ◌≤◌, length};
+ghost use Rattle.std.specs.Prelude.{◌≡◌, ℕ, ◌+◌, ◌*◌, ◌/◌, ◌<◌, ◌≤◌, length};
 ghost use Rattle.lists.specs.Pieces.{pieces, piece};
 ghost use Rattle.algebra.specs.Prime.{q};
 ghost use Rattle.algebra.specs.Numbers.{Elements, values_at_n};
@@ -9,11 +9,11 @@ ghost use Rattle.stepping.specs.Lanes.{Small, KeptLanes};
 ghost use Rattle.extrapolation.specs.Written.{KeptColumns};
 ghost use Rattle.extrapolation.specs.Extrapolated.{Columns};
 ghost use Rattle.scheme.specs.Sizes.{SizesInOrder, leaves, rows, columns, width, record_values, most_width};
-ghost use Rattle.scheme.specs.Layers.{lent_of, extended};
-ghost use Rattle.lent.specs.Partly.{lent_rows};
+ghost use Rattle.scheme.specs.Layers.{extended};
+ghost use Rattle.lent.specs.Witnessed.{witnessed, LaysOut, Extends};
 ghost use Rattle.scheme.specs.Commit.{table_of};
 ghost use Rattle.commitment.specs.Shape.{sizes_in};
-ghost use Rattle.lent.specs.Rows.{CanLayOut, CanExtend, strided};
+ghost use Rattle.lent.specs.Rows.{strided};
 ghost use Rattle.evaluations.specs.Values.{strided_difference, Gathered, EntriesGathered, Lane, RowLanes, MaskLanes, row_polynomial};
 ghost use Rattle.evaluations.specs.Clauses.{Room, Evaluable};
 
@@ -21,14 +21,20 @@ use commitment::{
     Shape, blind_count, coefficient_count, column_count, leaf_count, record_values, row_count,
     row_width,
 };
-use extrapolation::{extrapolate, least};
+use extrapolation::extrapolate;
 use field::{Element, point, powers, subtract};
+use lent::Witness;
 use sums::dots;
 
 // The widest row, and up to which width rows take small arrays.
 const WIDEST: usize = 320;
 
 const FEW: usize = 40;
+
+// Four lanes of such rows.
+const WIDEST_LANES: usize = 4 * WIDEST;
+
+const FEW_LANES: usize = 4 * FEW;
 
 // ---- values at N, N + 1, .., four lanes side by side: place 4t + j is lane j at the point N + t
 
@@ -45,10 +51,8 @@ fn gather_lane(
     requires { (j < 4) × (first + step * count < length elements.now + step) × (4 * (to + count) ≤ length values.old) }
     ensures { KeptLanes values.old j values.new × Gathered (strided elements.now first step) count to j values.old values.new }
 {
-    let mut i = 0;
-    while i < count {
+    for i in 0..count {
         values[4 * (to + i) + j] = elements[first + step * i];
-        i += 1;
     }
 }
 
@@ -68,12 +72,10 @@ fn gather_lowered(
     requires { (j < 4) × (first + step * count < length elements.now + step) × (start + apart * count < length blinds.now + apart) × Elements blinds.now × (4 * (to + count) ≤ length values.old) }
     ensures { KeptLanes values.old j values.new × Gathered (strided_difference elements.now first step blinds.now start apart) count to j values.old values.new }
 {
-    let mut i = 0;
-    while i < count {
+    for i in 0..count {
         let a = Element(elements[first + step * i]);
         let b = Element(blinds[start + apart * i]);
         values[4 * (to + i) + j] = subtract(a, b).0;
-        i += 1;
     }
 }
 
@@ -82,15 +84,14 @@ fn gather_lowered(
 // A row of coefficients, μ apart: in the first β rows all but column 0 are lowered by the blinds of the column before.
 fn gather_coefficients(
     s: Shape,
-    coefficients: &[u32],
-    blinds: &[u32],
+    witness: &Witness<'_>,
     i: usize,
     row: usize,
     j: usize,
     values: &mut [u32],
 )
-    requires { CanLayOut (sizes_in s) coefficients.now blinds.now × (i < s.w) × (row < s.mu) × (j < 4) × (4 * columns (sizes_in s) ≤ length values.old) }
-    ensures { EntriesGathered (sizes_in s) (lent_rows coefficients.now [] blinds.now) i row j values.old values.new }
+    requires { LaysOut (sizes_in s) witness.now × (i < s.w) × (row < s.mu) × (j < 4) × (4 * columns (sizes_in s) ≤ length values.old) }
+    ensures { EntriesGathered (sizes_in s) (witnessed witness.now) i row j values.old values.new }
 {
     let mu = s.mu as usize;
     let nu = s.nu as usize;
@@ -99,12 +100,12 @@ fn gather_coefficients(
     let to = nu * i;
     if row < beta {
         let start = blind_count(s) * i + row;
-        gather_lane(coefficients, first, mu, 1, to, j, values);
+        gather_lane(witness.coefficients, first, mu, 1, to, j, values);
         gather_lowered(
-            coefficients,
+            witness.coefficients,
             first + mu,
             mu,
-            blinds,
+            witness.blinds,
             start,
             beta,
             nu - 1,
@@ -113,96 +114,75 @@ fn gather_coefficients(
             values,
         );
     } else {
-        gather_lane(coefficients, first, mu, nu, to, j, values);
+        gather_lane(witness.coefficients, first, mu, nu, to, j, values);
     }
 }
 
 // Blinding row b: the blinds, β apart, and in the last column top coefficient b.
-fn gather_blinds(
-    s: Shape,
-    coefficients: &[u32],
-    blinds: &[u32],
-    i: usize,
-    b: usize,
-    j: usize,
-    values: &mut [u32],
-)
-    requires { CanLayOut (sizes_in s) coefficients.now blinds.now × (i < s.w) × (b < s.beta) × (j < 4) × (4 * columns (sizes_in s) ≤ length values.old) }
-    ensures { EntriesGathered (sizes_in s) (lent_rows coefficients.now [] blinds.now) i (s.mu + b) j values.old values.new }
+fn gather_blinds(s: Shape, witness: &Witness<'_>, i: usize, b: usize, j: usize, values: &mut [u32])
+    requires { LaysOut (sizes_in s) witness.now × (i < s.w) × (b < s.beta) × (j < 4) × (4 * columns (sizes_in s) ≤ length values.old) }
+    ensures { EntriesGathered (sizes_in s) (witnessed witness.now) i (s.mu + b) j values.old values.new }
 {
     let nu = s.nu as usize;
     let beta = s.beta as usize;
     let last = nu - 1;
     let to = nu * i;
     let top = coefficient_count(s) * i + s.mu as usize * nu;
-    gather_lane(blinds, blind_count(s) * i + b, beta, last, to, j, values);
-    gather_lane(coefficients, top + b, 1, 1, to + last, j, values);
+    gather_lane(
+        witness.blinds,
+        blind_count(s) * i + b,
+        beta,
+        last,
+        to,
+        j,
+        values,
+    );
+    gather_lane(witness.coefficients, top + b, 1, 1, to + last, j, values);
 }
 
 // Any row: those from μ on are blinding rows.
 fn gather_polynomial(
     s: Shape,
-    coefficients: &[u32],
-    blinds: &[u32],
+    witness: &Witness<'_>,
     i: usize,
     row: usize,
     j: usize,
     values: &mut [u32],
 )
-    requires { CanLayOut (sizes_in s) coefficients.now blinds.now × (i < s.w) × (row < rows (sizes_in s)) × (j < 4) × (4 * columns (sizes_in s) ≤ length values.old) }
-    ensures { EntriesGathered (sizes_in s) (lent_rows coefficients.now [] blinds.now) i row j values.old values.new }
+    requires { LaysOut (sizes_in s) witness.now × (i < s.w) × (row < rows (sizes_in s)) × (j < 4) × (4 * columns (sizes_in s) ≤ length values.old) }
+    ensures { EntriesGathered (sizes_in s) (witnessed witness.now) i row j values.old values.new }
 {
     let mu = s.mu as usize;
     if row < mu {
-        gather_coefficients(s, coefficients, blinds, i, row, j, values);
+        gather_coefficients(s, witness, i, row, j, values);
     } else {
-        gather_blinds(s, coefficients, blinds, i, row - mu, j, values);
+        gather_blinds(s, witness, i, row - mu, j, values);
     }
 }
 
 // ---- whole rows
 
 // A row with its tails, as lane j: polynomial by polynomial, then the tails, which stand one after the other.
-fn gather_row(
-    s: Shape,
-    coefficients: &[u32],
-    tails: &[u32],
-    blinds: &[u32],
-    row: usize,
-    j: usize,
-    values: &mut [u32],
-)
-    requires { CanExtend (sizes_in s) coefficients.now tails.now blinds.now × (row < rows (sizes_in s)) × (j < 4) × (4 * width (sizes_in s) ≤ length values.old) }
-    ensures { KeptLanes values.old j values.new × Lane (extended (sizes_in s) (lent_rows coefficients.now tails.now blinds.now) row) (width (sizes_in s)) j values.new }
+fn gather_row(s: Shape, witness: &Witness<'_>, row: usize, j: usize, values: &mut [u32])
+    requires { Extends (sizes_in s) witness.now × (row < rows (sizes_in s)) × (j < 4) × (4 * width (sizes_in s) ≤ length values.old) }
+    ensures { KeptLanes values.old j values.new × Lane (extended (sizes_in s) (witnessed witness.now) row) (width (sizes_in s)) j values.new }
 {
     let columns = column_count(s);
     let l = s.l as usize;
     let w = s.w as usize;
-    let mut i = 0;
-    while i < w {
-        gather_polynomial(s, coefficients, blinds, i, row, j, values);
-        i += 1;
+    for i in 0..w {
+        gather_polynomial(s, witness, i, row, j, values);
     }
-    gather_lane(tails, row * l, 1, l, columns, j, values);
+    gather_lane(witness.tails, row * l, 1, l, columns, j, values);
 }
 
 // The rows from lo on, a lane each.
-fn gather_rows(
-    s: Shape,
-    coefficients: &[u32],
-    tails: &[u32],
-    blinds: &[u32],
-    lo: usize,
-    lanes: usize,
-    values: &mut [u32],
-)
-    requires { CanExtend (sizes_in s) coefficients.now tails.now blinds.now × (lo + lanes ≤ rows (sizes_in s)) × (lanes ≤ 4) × (4 * width (sizes_in s) ≤ length values.old) }
-    ensures { RowLanes (sizes_in s) (lent_rows coefficients.now tails.now blinds.now) lo lanes values.new }
+fn gather_rows(s: Shape, witness: &Witness<'_>, lo: usize, lanes: usize, values: &mut [u32])
+    requires { Extends (sizes_in s) witness.now × (lo + lanes ≤ rows (sizes_in s)) × (lanes ≤ 4) × (4 * width (sizes_in s) ≤ length values.old) }
+    ensures { RowLanes (sizes_in s) (witnessed witness.now) lo lanes values.new }
 {
-    let mut j = 0;
-    while j < lanes {
-        gather_row(s, coefficients, tails, blinds, lo + j, j, values);
-        j += 1;
+    for j in 0..lanes {
+        gather_row(s, witness, lo + j, j, values);
     }
 }
 
@@ -221,12 +201,10 @@ fn gather_masks(first: Element, masks: &[u32], eta: usize, weights: &mut [u32], 
     ensures { MaskLanes first.0 masks.now (length weights.old) eta (length weights.old) values.new }
 {
     let width = weights.len();
-    let mut t = 0;
-    while t < width {
+    for t in 0..width {
         let start = 4 * t;
         let end = start + eta;
         mask_values(point(first, t), masks, weights, &mut values[start..end]);
-        t += 1;
     }
 }
 
@@ -235,26 +213,22 @@ fn gather_masks(first: Element, masks: &[u32], eta: usize, weights: &mut [u32], 
 // The columns of the rows, four at a time.
 fn fill_rows(
     s: Shape,
-    coefficients: &[u32],
-    tails: &[u32],
-    blinds: &[u32],
+    witness: &Witness<'_>,
     values: &mut [u32],
     lines: &mut [u64],
     table: &mut [u32],
 )
-    requires { CanExtend (sizes_in s) coefficients.now tails.now blinds.now × Room (width (sizes_in s)) values.old lines.old × (length table.old ≡ leaves (sizes_in s) * record_values (sizes_in s)) }
-    ensures { Small lines.new × Columns (row_polynomial (sizes_in s) (lent_rows coefficients.now tails.now blinds.now)) (rows (sizes_in s)) (leaves (sizes_in s)) 0 (record_values (sizes_in s)) table.new }
+    requires { Extends (sizes_in s) witness.now × Room (width (sizes_in s)) values.old lines.old × (length table.old ≡ leaves (sizes_in s) * record_values (sizes_in s)) }
+    ensures { Small lines.new × Columns (row_polynomial (sizes_in s) (witnessed witness.now)) (rows (sizes_in s)) (leaves (sizes_in s)) 0 (record_values (sizes_in s)) table.new }
 {
     let n = leaf_count(s.h);
     let width = row_width(s);
     let stride = record_values(s);
     let rows = row_count(s);
-    let mut lo = 0;
-    while lo < rows {
-        let lanes = least(4, rows - lo);
-        gather_rows(s, coefficients, tails, blinds, lo, lanes, values);
+    for lo in (0..rows).step_by(4) {
+        let lanes = (rows - lo).min(4);
+        gather_rows(s, witness, lo, lanes, values);
         extrapolate(values, width, lanes, n, lines, lo, stride, table);
-        lo += lanes;
     }
 }
 
@@ -279,95 +253,37 @@ fn fill_masks(
     extrapolate(values, width, eta, n, lines, rows, stride, table);
 }
 
-// The columns of the rows, then those of the masks.
-fn fill_columns(
+// The columns of the rows, then those of the masks, in room for rows of so many points: for the powers of a point, and by lanes for values and for their differences.
+fn fill_columns<const POINTS: usize, const LANES: usize>(
     s: Shape,
-    coefficients: &[u32],
-    tails: &[u32],
-    blinds: &[u32],
-    masks: &[u32],
-    weights: &mut [u32],
-    values: &mut [u32],
-    lines: &mut [u64],
+    witness: &Witness<'_>,
     table: &mut [u32],
 )
-    requires { Evaluable (sizes_in s) coefficients.now tails.now blinds.now masks.now table.old × (width (sizes_in s) ≤ length weights.old) × Room (width (sizes_in s)) values.old lines.old }
-    ensures { table.new ≡ table_of (sizes_in s) (lent_of coefficients.now tails.now blinds.now masks.now [] []) }
+    requires { Evaluable (sizes_in s) witness.now.coefficients.now witness.now.tails.now witness.now.blinds.now witness.now.masks.now table.old × (width (sizes_in s) ≤ POINTS) × (20 * ((width (sizes_in s) + 4) / 5) ≤ LANES) × (POINTS ≤ most_width) × (LANES ≤ 4 * most_width) }
+    ensures { table.new ≡ table_of (sizes_in s) (witnessed witness.now) }
 {
-    fill_rows(s, coefficients, tails, blinds, values, lines, table);
-    fill_masks(s, masks, weights, values, lines, table);
-}
-
-// Room for the powers of a point, for the values of four lanes, and for a table of differences: for the widest rows, and for narrow ones.
-fn blank_weights() -> [u32; WIDEST] {
-    [0u32; WIDEST]
-}
-
-fn blank_few_weights() -> [u32; FEW] {
-    [0u32; FEW]
-}
-
-fn blank_values() -> [u32; 4 * WIDEST] {
-    [0u32; 4 * WIDEST]
-}
-
-fn blank_few_values() -> [u32; 4 * FEW] {
-    [0u32; 4 * FEW]
-}
-
-fn blank_lines() -> [u64; 4 * WIDEST]
-    ensures { Small result }
-{
-    [0u64; 4 * WIDEST]
-}
-
-fn blank_few_lines() -> [u64; 4 * FEW]
-    ensures { Small result }
-{
-    [0u64; 4 * FEW]
+    let mut weights = [0u32; POINTS];
+    let mut values = [0u32; LANES];
+    let mut lines = [0u64; LANES];
+    fill_rows(s, witness, &mut values, &mut lines, table);
+    fill_masks(
+        s,
+        witness.masks,
+        &mut weights,
+        &mut values,
+        &mut lines,
+        table,
+    );
 }
 
 // The table: all leaves' values. Narrow rows take small arrays, since arrays are cleared.
-pub fn fill_table(
-    s: Shape,
-    coefficients: &[u32],
-    tails: &[u32],
-    blinds: &[u32],
-    masks: &[u32],
-    table: &mut [u32],
-)
-    requires { Evaluable (sizes_in s) coefficients.now tails.now blinds.now masks.now table.old }
-    ensures { table.new ≡ table_of (sizes_in s) (lent_of coefficients.now tails.now blinds.now masks.now [] []) }
+pub fn fill_table(s: Shape, witness: &Witness<'_>, table: &mut [u32])
+    requires { Evaluable (sizes_in s) witness.now.coefficients.now witness.now.tails.now witness.now.blinds.now witness.now.masks.now table.old }
+    ensures { table.new ≡ table_of (sizes_in s) (witnessed witness.now) }
 {
     if row_width(s) <= FEW {
-        let mut weights = blank_few_weights();
-        let mut values = blank_few_values();
-        let mut lines = blank_few_lines();
-        fill_columns(
-            s,
-            coefficients,
-            tails,
-            blinds,
-            masks,
-            &mut weights,
-            &mut values,
-            &mut lines,
-            table,
-        );
+        fill_columns::<FEW, FEW_LANES>(s, witness, table);
     } else {
-        let mut weights = blank_weights();
-        let mut values = blank_values();
-        let mut lines = blank_lines();
-        fill_columns(
-            s,
-            coefficients,
-            tails,
-            blinds,
-            masks,
-            &mut weights,
-            &mut values,
-            &mut lines,
-            table,
-        );
+        fill_columns::<WIDEST, WIDEST_LANES>(s, witness, table);
     }
 }

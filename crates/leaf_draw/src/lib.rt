@@ -10,34 +10,32 @@ ghost use Rattle.leaf_draw.specs.Place.{place_of};
 
 use words::word;
 
-// Where the words begin that name leaves.
-const RANKS_AT: usize = 32;
+// Where the words of a draw begin that name leaves.
+pub const RANKS_AT: usize = 32;
 
 // How many of the used leaves, which rise, come before the unused one of this rank. Each of them makes its index one greater than its rank.
 fn place_of(used: &[usize], rank: usize) -> usize
     requires { (rank < most_leaves) × (length used.now ≤ most_leaves) }
     ensures { result ≡ place_of rank used.now }
 {
-    for k in 0..used.len() {
-        if rank + k < used[k] {
+    for (k, leaf) in used.iter().enumerate() {
+        if rank + k < *leaf {
             return k;
         }
     }
     used.len()
 }
 
-// x at place k of the first n; those from there on move up by one place.
+// x at place k of the first n; those from there on move up by one place. By hand, since the library's way wants memmove of the C library.
 fn insert(out: &mut [usize], n: usize, k: usize, x: usize)
     requires { (k ≤ n) × (n < length out.old) }
     ensures { out.new ≡ take k out.old ++ ((x ∷ take (n - k) (drop k out.old)) ++ drop (n + 1) out.old) }
 {
     let mut carried = x;
-    let mut i = k;
-    while i < n {
+    for i in k..n {
         let next = out[i];
         out[i] = carried;
         carried = next;
-        i += 1;
     }
     out[n] = carried;
 }

@@ -3,7 +3,7 @@ use mathlib.Core.Path.{◌≡◌, ap, ap₂, ◌∙◌}
 use mathlib.Core.Bool.{Bool, ◌&&◌}
 use mathlib.Core.List.{List, [], ◌∷◌}
 use Prim.Native.Nat.{ℕ, ◌-◌, ◌*◌, ◌≤◌, ◌<◌}
-use native.Mathlib.Nat.{mul-le-mul, mul-le-mul_left}
+use native.Mathlib.Nat.{mul-le-mul}
 use native.Mathlib.Omega.{arith}
 use lib.Dec.{eqb}
 use lib.Pow.{pow_pos}
@@ -14,24 +14,8 @@ use Rattle.scheme.specs.Sizes.{Sizes, SizesInOrder, rows, coefficient_count, bli
 use Rattle.scheme.specs.Layers.{Lent}
 use Rattle.scheme.specs.Commit.{lent_ok, filled_ok}
 use Rattle.scheme.proofs.Accepted.{leaves-high}
-use Rattle.commitment.proofs.Places.{rows_of_coefficients_high, blinds_high}
 
 module _ (s : Sizes) (g : SizesInOrder s) where
-  w_high : s.w ≤ 256
-  w_high = let h : s.w * 1 ≤ s.w * s.ν = mul-le-mul_left s.w g.ν-low in omega (arith, h, g.columns-high)
-
-  pub coefficients_bound : s.w * coefficient_count s ≤ 4198400
-  coefficients_bound = mul-le-mul {n₂ = 256} {m₂ = 16400} w_high (omega (arith, rows_of_coefficients_high s g, g.β-high))
-
-  pub tails_bound : rows s * s.ℓ ≤ 4096
-  tails_bound = mul-le-mul {n₂ = 64} {m₂ = 64} g.rows-high g.ℓ-high
-
-  pub blinds_bound : s.w * blind_count s ≤ 1044480
-  blinds_bound = mul-le-mul {n₂ = 256} {m₂ = 4080} w_high (blinds_high s g)
-
-  pub masks_bound : s.η * width s ≤ 1280
-  masks_bound = mul-le-mul {n₂ = 4} {m₂ = 320} g.η-high (omega (arith, g.columns-high, g.ℓ-high))
-
   pub table_bound : leaves s * record_values s ≤ 278528
   table_bound = mul-le-mul {n₂ = 4096} {m₂ = 68} (leaves-high s g) (omega (arith, g.rows-high, g.η-high))
 

@@ -1,5 +1,5 @@
 -- A row with its tails: where its elements stand.
-use mathlib.Core.Path.{◌≡◌, refl, sym, ap, ap₂, ◌∙◌}
+use mathlib.Core.Path.{◌≡◌, sym, ap, ap₂, ◌∙◌}
 use mathlib.Core.List.{List, map}
 use Prim.Native.Nat.{ℕ, ◌+◌, ◌*◌, ◌≤◌, ◌<◌}
 use native.Mathlib.Nat.{zero-add}
@@ -10,20 +10,13 @@ use Rattle.lists.specs.Range.{up_from, length-up_from, at_run}
 use Rattle.lists.specs.Pieces.{piece}
 use Rattle.lists.specs.Parts.{row_fits}
 use Rattle.scheme.specs.Sizes.{Sizes, rows, columns, width}
-use Rattle.scheme.specs.Layers.{Lent, lent_of, entry, extended, extended_rows}
-use Rattle.lent.specs.Partly.{lent_rows}
+use Rattle.scheme.specs.Layers.{Lent, entry, extended}
 use Rattle.scheme.proofs.Lent.{Counted}
 use Rattle.lent.specs.Rows.{CanLayOut, CanExtend, strided}
 
 -- the lengths, as the laws of the matrix ask for them
 pub counted : {s : Sizes} {coefficients blinds : List ℕ} → CanLayOut s coefficients blinds → Counted s coefficients blinds
 counted can = record { sizes = can.sizes; c_length = can.coefficients_length; b_length = can.blinds_length }
-
--- the rows depend on coefficients, tails and blinds alone
-pub rows_lent : (s : Sizes) (coefficients tails blinds masks nonces salt : List ℕ)
-    → extended_rows s (lent_rows coefficients tails blinds) ≡ extended_rows s (lent_of coefficients tails blinds masks nonces salt)
-unfolding extended
-rows_lent s coefficients tails blinds masks nonces salt = refl
 
 module _ (s : Sizes) (l : Lent) (can : CanExtend s l.coefficients l.tails l.blinds) where
   abbrev t : List ℕ

@@ -1,12 +1,12 @@
-// What a committer or an opener is lent: the tests of its lengths and elements.
+// What a committer or an opener is lent, and the tests of its lengths and elements.
 #![tactic(auto)]
 
-ghost use Rattle.std.specs.Prelude.{◌≡◌, []};
+ghost use Rattle.std.specs.Prelude.{◌≡◌};
 ghost use Rattle.lists.specs.Tests.{every};
 ghost use Rattle.scheme.specs.Sizes.{SizesInOrder};
-ghost use Rattle.scheme.specs.Layers.{lent_of};
 ghost use Rattle.scheme.specs.Commit.{lent_ok, filled_ok, lent_elements};
 ghost use Rattle.commitment.specs.Shape.{sizes_in};
+ghost use Rattle.lent.specs.Witnessed.{witnessed};
 
 use codec::{both, elements_ok};
 use commitment::{
@@ -14,26 +14,29 @@ use commitment::{
     row_width,
 };
 
+// What a committer or an opener is lent to read, `Lent` of the definitions: the polynomials' coefficients, and all that hides them.
+#[derive(Clone, Copy)]
+pub struct Witness<'a> {
+    pub coefficients: &'a [u32],
+    pub tails: &'a [u32],
+    pub blinds: &'a [u32],
+    pub masks: &'a [u32],
+    pub nonces: &'a [u8],
+    pub salt: &'a [u8],
+}
+
 // Is each slice that is lent to be read of its length?
-pub fn lent_ok(
-    s: Shape,
-    coefficients: &[u32],
-    tails: &[u32],
-    blinds: &[u32],
-    masks: &[u32],
-    nonces: &[u8],
-    salt: &[u8],
-) -> bool
+pub fn lent_ok(s: Shape, witness: &Witness<'_>) -> bool
     requires { SizesInOrder (sizes_in s) }
-    ensures { result ≡ lent_ok (sizes_in s) (lent_of coefficients.now tails.now blinds.now masks.now nonces.now salt.now) }
+    ensures { result ≡ lent_ok (sizes_in s) (witnessed witness.now) }
 {
     let w = s.w as usize;
-    let c = coefficients.len() == w * coefficient_count(s);
-    let t = tails.len() == row_count(s) * s.l as usize;
-    let b = blinds.len() == w * blind_count(s);
-    let m = masks.len() == s.eta as usize * row_width(s);
-    let o = nonces.len() == 32 * leaf_count(s.h);
-    let z = salt.len() == SALT_LENGTH;
+    let c = witness.coefficients.len() == w * coefficient_count(s);
+    let t = witness.tails.len() == row_count(s) * s.l as usize;
+    let b = witness.blinds.len() == w * blind_count(s);
+    let m = witness.masks.len() == s.eta as usize * row_width(s);
+    let o = witness.nonces.len() == 32 * leaf_count(s.h);
+    let z = witness.salt.len() == SALT_LENGTH;
     both(c, both(t, both(b, both(m, both(o, z)))))
 }
 
@@ -50,12 +53,12 @@ pub fn filled_ok(s: Shape, table: &[u32], tree: &[u8]) -> bool
 }
 
 // Is each word that is lent to be read below q?
-pub fn lent_elements(coefficients: &[u32], tails: &[u32], blinds: &[u32], masks: &[u32]) -> bool
-    ensures { result ≡ every (lent_elements (lent_of coefficients.now tails.now blinds.now masks.now [] [])) }
+pub fn lent_elements(witness: &Witness<'_>) -> bool
+    ensures { result ≡ every (lent_elements (witnessed witness.now)) }
 {
-    let c = elements_ok(coefficients);
-    let t = elements_ok(tails);
-    let b = elements_ok(blinds);
-    let m = elements_ok(masks);
+    let c = elements_ok(witness.coefficients);
+    let t = elements_ok(witness.tails);
+    let b = elements_ok(witness.blinds);
+    let m = elements_ok(witness.masks);
     both(c, both(t, both(b, m)))
 }

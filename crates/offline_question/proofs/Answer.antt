@@ -2,7 +2,7 @@
 use borrow.Author.Tests.{le-ltb}
 use mathlib.Core.Path.{◌≡◌, sym, ap, ◌∙◌, subst}
 use mathlib.Core.Bool.{true}
-use Prim.Native.Nat.{ℕ, ◌≤◌, ◌<◌}
+use Prim.Native.Nat.{ℕ, ◌≤◌}
 use native.Mathlib.Omega.{arith}
 use lib.ListN.{length}
 use Rattle.lists.specs.Bytes.{Bytes}
@@ -13,9 +13,7 @@ use Rattle.fiat_shamir.specs.Offline.{offline_length, offline_tests, offline_ver
 use Rattle.fiat_shamir.proofs.Drawn.{AskedOffline, asked_offline_lem, offline_numbers}
 use Rattle.commitment.specs.Shape.{sizes_in}
 use Rattle.commitment.specs.declared.Shape.{Shape}
-use Rattle.question.specs.declared.Questioned.TheVariants.{WellFormed, Refused}
-use Rattle.question.proofs.Answer.{answered_well, answered-refused}
-use Rattle.offline_question.specs.Asked.{asked_offline}
+use Rattle.offline_question.specs.Asked.{AsksOffline}
 use Rattle.offline_question.specs.Offline.{Offline}
 
 -- without κ the question is well formed, too
@@ -26,13 +24,9 @@ no_bits b κ e =
     pass (offline_tests b 0) (t.0, (t.1.0, (t.1.1.0, (le-ltb most_bits 0 (omega arith), (t.1.1.1.1.0, (t.1.1.1.1.1.0, tt))))))
 
 -- a question that is taken
-pub offline_taken : (b : Bytes) (κ : ℕ) (s : Shape) (m : ℕ) → asked_offline b κ ≡ WellFormed s m → (offline_verdict b κ ≡ 0) × (κ ≤ most_bits) × Offline b (sizes_in s) m
-offline_taken b κ s m e =
-    let a = answered_well (offline_verdict b κ) b s m e in
-    (a.0, (asked_offline_lem b κ a.0).κ-high, record { well_formed = no_bits b κ a.0; sizes = sym (ap sizes_in a.1); points = sym a.2 })
-
-pub offline_refused : (b : Bytes) (κ v : ℕ) → asked_offline b κ ≡ Refused v → (offline_verdict b κ ≡ v) × (0 < v)
-offline_refused b κ v e = answered-refused (offline_verdict b κ) b v e
+pub offline_taken : (b : Bytes) (κ : ℕ) (s : Shape) (m : ℕ) → AsksOffline b κ s m → (κ ≤ most_bits) × Offline b (sizes_in s) m
+offline_taken b κ s m a =
+    ((asked_offline_lem b κ a.verdict).κ-high, record { well_formed = no_bits b κ a.verdict; sizes = sym (ap sizes_in a.shape); points = sym a.points })
 
 -- what is known of one
 pub record Facts (b : Bytes) (s : Sizes) (m : ℕ) : Type 0 where
@@ -53,3 +47,6 @@ offline_facts b s m o =
       few_points = within_high 1 8 m right;
       long = a.long ∙ ap offline_length o.points;
     }
+
+pub query_facts : (b : Bytes) (κ : ℕ) (s : Shape) (m : ℕ) → AsksOffline b κ s m → Facts b (sizes_in s) m
+query_facts b κ s m a = offline_facts b (sizes_in s) m (offline_taken b κ s m a).1

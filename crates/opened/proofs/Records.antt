@@ -1,21 +1,17 @@
 -- Leaf records: what the code reads of one.
-use mathlib.Core.Path.{◌≡◌, refl, ap₂, ◌∙◌}
+use mathlib.Core.Path.{◌≡◌, refl, ap, ◌∙◌}
 use mathlib.Core.List.{List, ◌++◌}
-use Prim.Native.Nat.{ℕ, ◌+◌, ◌-◌, ◌*◌}
-use native.Mathlib.Omega.{arith}
-use lib.ListN.{length, take, drop}
+use Prim.Native.Nat.{ℕ}
+use lib.ListN.{length, drop}
 use Rattle.lists.specs.Bytes.{words, length-words}
-use Rattle.opened.specs.Records.{record_words_at}
+use Rattle.opened.specs.Records.{record_of, record_words_at}
 use Rattle.lists.specs.Rows.{front_all}
 
-pub record_read : (at size n : ℕ) (reply d : List ℕ) (a : ℕ) (t : List ℕ) → length d ≡ n
-    → t ≡ words (length d) (drop 0 (take (at + size * a + size - (at + size * a)) (drop (at + size * a) reply))) ++ drop (length d) d → t ≡ record_words_at at size n reply a
+-- the first values of record r
+pub values_read : (at size : ℕ) (reply d : List ℕ) (a : ℕ) (r t : List ℕ) → r ≡ record_of at size reply a → t ≡ words (length d) (drop 0 r) ++ drop (length d) d
+    → t ≡ record_words_at at size (length d) reply a
 unfolding record_words_at
-record_read at size n reply d a t e f =
-    let k : at + size * a + size - (at + size * a) ≡ size = omega arith in
-    f
-    ∙ front_all (words (length d) (take (at + size * a + size - (at + size * a)) (drop (at + size * a) reply))) d (length d) refl
-    ∙ ap₂ (λ (i m : ℕ). words m (take i (drop (at + size * a) reply))) k e
+values_read at size reply d a r t e f = f ∙ front_all (words (length d) r) d (length d) refl ∙ ap (words (length d)) e
 
 pub length-record_words_at : (at size n : ℕ) (reply : List ℕ) (a : ℕ) → length (record_words_at at size n reply a) ≡ n
 unfolding record_words_at

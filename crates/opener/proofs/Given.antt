@@ -23,16 +23,15 @@ use Rattle.scheme.specs.Open.{lengths_ok, open_verdict}
 use Rattle.scheme.proofs.Accepted.{sizes_in_order, well_formed}
 use Rattle.scheme.proofs.Opening.{lent_passed}
 use Rattle.commitment.specs.Shape.{sizes_in}
-use Rattle.question.specs.Questioned.{questioned}
+use Rattle.question.specs.Asked.{Asks}
 use Rattle.commitment.specs.declared.Shape.{Shape}
-use Rattle.question.specs.declared.Questioned.TheVariants.{WellFormed}
 use Rattle.question.proofs.Answer.{well_asked, taken, asked_indices}
 use Rattle.commitment.proofs.Places.{nodes_high, missing-high}
 use Rattle.opener.specs.Ready.{Ready}
 
 -- ---- the question
 
-module _ (b : Bytes) (s : Shape) (m : ℕ) (e : questioned b ≡ WellFormed s m) where
+module _ (b : Bytes) (s : Shape) (m : ℕ) (e : Asks b s m) where
   pub asked : question_verdict b ≡ 0
   asked = (well_asked b s m e).0
 
@@ -70,12 +69,12 @@ root_room s table nodes e =
 
 -- ---- all tests have passed
 
-reply_small : (b : Bytes) (s : Shape) (m : ℕ) → questioned b ≡ WellFormed s m → reply_length (question_at (sizes_in s) m b) ≤ 65536
+reply_small : (b : Bytes) (s : Shape) (m : ℕ) → Asks b s m → reply_length (question_at (sizes_in s) m b) ≤ 65536
 reply_small b s m e =
     let i : IndexSet s.h (question_at (sizes_in s) m b).indices = subst (λ (u : Question). IndexSet s.h u.indices) (sym (question_is b s m e)) (asked_indices b s m e).1 in
     omega (arith, nodes_high (sizes_in s) (sizes_in_order (sizes_in s) (sizes_ok_lem b s m e)) m (points_few b s m e), missing-high s.h (question_at (sizes_in s) m b).indices i)
 
-module _ (b : Bytes) (l : Lent) (table : List ℕ) (nodes reply : Bytes) (s : Shape) (m : ℕ) (e : questioned b ≡ WellFormed s m) (z : open_verdict b l table nodes reply ≡ 0) where
+module _ (b : Bytes) (l : Lent) (table : List ℕ) (nodes reply : Bytes) (s : Shape) (m : ℕ) (e : Asks b s m) (z : open_verdict b l table nodes reply ≡ 0) where
   -- the lengths, for the sizes that the code holds
   lengths : All (λ (t : Bool). t ≡ true) (lent_ok (sizes_in s) l ∷ filled_ok (sizes_in s) table nodes ∷ eqb (length reply) (reply_length (question_at (sizes_in s) m b)) ∷ [])
   lengths = every_true _ (ap (λ (u : Question). lengths_ok u l table nodes reply) (question_is b s m e) ∙ (lent_passed b l table nodes reply z).0)

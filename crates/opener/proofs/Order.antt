@@ -16,14 +16,13 @@ use Rattle.scheme.specs.Commit.{lent_ok, filled_ok}
 use Rattle.scheme.specs.Open.{lengths_ok, words_ok, names_ok, open_verdict}
 use Rattle.scheme.proofs.Opening.{verdict_0, verdict_2, verdict_3, verdict_8}
 use Rattle.commitment.specs.Shape.{sizes_in}
-use Rattle.question.specs.Questioned.{questioned}
+use Rattle.question.specs.Asked.{Asks}
 use Rattle.commitment.specs.declared.Shape.{Shape}
-use Rattle.question.specs.declared.Questioned.TheVariants.{WellFormed}
 use Rattle.question.proofs.Answer.{taken}
 use Rattle.opener.proofs.Given.{asked, question_is}
 
 module _ (b : Bytes) (l : Lent) (table : List ℕ) (nodes reply : Bytes) (s : Shape) (m : ℕ) (indices : List ℕ)
-    (given : (questioned b ≡ WellFormed s m) × (indices ≡ (read_question b).indices)) where
+    (given : (Asks b s m) × (indices ≡ (read_question b).indices)) where
   abbrev measured : Bool
   measured = every (lent_ok (sizes_in s) l ∷ filled_ok (sizes_in s) table nodes ∷ eqb (length reply) (nodes_at (sizes_in s) m + 32 * length (missing 2 s.h indices)) ∷ [])
 

@@ -11,14 +11,12 @@ use Rattle.tree.specs.Sets.{missing}
 use Rattle.tree.specs.Tree.{all_parts, opened}
 use Rattle.scheme.specs.Sizes.{Sizes, SizesInOrder}
 use Rattle.scheme.specs.Layers.{Lent, extended_rows}
-use Rattle.lent.specs.Partly.{lent_rows}
 use Rattle.scheme.specs.Question.{Question, indices_at, question_at}
 use Rattle.scheme.specs.Reply.{records_at, nodes_at, reply_length}
 use Rattle.scheme.specs.Commit.{leaf_record}
 use Rattle.scheme.specs.Open.{opened_batching, opened_answers, reply_of}
 use Rattle.scheme.proofs.Lent.{LentFacts, lent_facts}
 use Rattle.scheme.proofs.Parts.{filled_lengths, tree_length}
-use Rattle.lent.proofs.Rows.{rows_lent}
 use Rattle.opener.specs.Parts.{CanList, CanSum, sums}
 use Rattle.opener.specs.Ready.{Ready}
 use Rattle.opener.proofs.Sums.{sums-length, sums-opened}
@@ -36,7 +34,7 @@ module _ (question : Bytes) (t : Sizes) (m : ℕ) (l : Lent) (table : List ℕ) 
   -- ---- the answers
 
   abbrev ext : List (List ℕ)
-  ext = extended_rows t (lent_rows l.coefficients l.tails l.blinds)
+  ext = extended_rows t l
 
   pub can_sum : CanSum question t m l.coefficients l.tails l.blinds l.masks reply
   can_sum = record {
@@ -52,7 +50,7 @@ module _ (question : Bytes) (t : Sizes) (m : ℕ) (l : Lent) (table : List ℕ) 
   }
 
   answers_are : sums u ext l.masks ≡ bytes_of (flatten (opened_batching u l)) ++ bytes_of (flatten (opened_answers u l))
-  answers_are = ap (λ (es : List (List ℕ)). sums u es l.masks) (rows_lent t l.coefficients l.tails l.blinds l.masks l.nonces l.salt) ∙ sums-opened u l
+  answers_are = sums-opened u l
 
   -- ---- the indices
 

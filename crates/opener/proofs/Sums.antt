@@ -12,7 +12,6 @@ use Rattle.lists.specs.Range.{up_from, length-up_from}
 use Rattle.algebra.specs.Pairs.{points_end}
 use Rattle.scheme.specs.Sizes.{Sizes, SizesInOrder, leaves, width}
 use Rattle.scheme.specs.Layers.{Lent, extended_rows}
-use Rattle.lent.specs.Partly.{lent_rows}
 use Rattle.scheme.specs.Question.{Question, challenges_at, points_at, question_at}
 use Rattle.scheme.specs.Reply.{records_at, answers_at}
 use Rattle.scheme.specs.Open.{opened_batching, opened_answers}
@@ -37,15 +36,18 @@ two_parts a b x y o o₁ o₂ e l h₁ h₂ =
     ∙ spliced_more 0 a x o e (omega arith) b y
     ∙ ap (λ (k : ℕ). (x ++ y) ++ drop k o) (zero-add (a + b))
 
-module _ (t : Sizes) (m : ℕ) (question : Bytes) (coefficients tails blinds masks : List ℕ) (o : Bytes) (can : CanSum question t m coefficients tails blinds masks o) where
+module _ (t : Sizes) (m : ℕ) (question : Bytes) (l : Lent) (o : Bytes) (can : CanSum question t m l.coefficients l.tails l.blinds l.masks o) where
   abbrev es : List (List ℕ)
-  es = extended_rows t (lent_rows coefficients tails blinds)
+  es = extended_rows t l
+
+  abbrev masks : List ℕ
+  masks = l.masks
 
   g : SizesInOrder t
   g = can.combine.extend.laid.sizes
 
   pub batchings_ask : (n first from : ℕ) → n ≡ width t → first ≡ leaves t → from ≡ challenges_at
-      → CanCombine t coefficients tails blinds × (n ≡ width t) × (first + n ≤ points_end) × (length masks ≡ t.η * n) × (from + 4 * t.η ≤ length question) × (0 + 4 * n * t.η ≤ length o)
+      → CanCombine t l.coefficients l.tails l.blinds × (n ≡ width t) × (first + n ≤ points_end) × (length masks ≡ t.η * n) × (from + 4 * t.η ≤ length question) × (0 + 4 * n * t.η ≤ length o)
   batchings_ask n first from e f h = (
     can.combine,
     e,
@@ -56,7 +58,7 @@ module _ (t : Sizes) (m : ℕ) (question : Bytes) (coefficients tails blinds mas
   )
 
   pub answers_ask : (n from at : ℕ) (o₁ : Bytes) → n ≡ width t → from ≡ points_at t → at ≡ answers_at t → length o₁ ≡ length o
-      → CanCombine t coefficients tails blinds × (n ≡ width t) × (from + 4 * m ≤ length question) × (at + 4 * n * m ≤ length o₁)
+      → CanCombine t l.coefficients l.tails l.blinds × (n ≡ width t) × (from + 4 * m ≤ length question) × (at + 4 * n * m ≤ length o₁)
   answers_ask n from at o₁ e f h k = (
     can.combine,
     e,

@@ -4,23 +4,20 @@
 ghost use Rattle.std.specs.Prelude.{◌≡◌, ◌&&◌, ◌+◌, ◌*◌, ◌≤◌, eqb, length, take, drop};
 ghost use mathlib.Core.List.{[], ◌∷◌, ◌++◌, map, flatten};
 ghost use Rattle.lists.specs.Tests.{every, same};
-ghost use Rattle.scheme.specs.Layers.{lent_of, extended_rows};
-ghost use Rattle.lent.specs.Partly.{lent_rows, unsalted};
+ghost use Rattle.scheme.specs.Layers.{extended_rows};
+ghost use Rattle.lent.specs.Witnessed.{witnessed};
 ghost use Rattle.scheme.specs.Commit.{lent_ok, filled_ok, lent_elements, last_digest, leaf_record};
-ghost use Rattle.scheme.specs.Sizes.{SizesInOrder, elements, most_points};
+ghost use Rattle.scheme.specs.Sizes.{elements};
 ghost use Rattle.scheme.specs.Question.{header_length, salt_at, challenges_at, read_question, question_at};
 ghost use Rattle.scheme.specs.Reply.{record_length, records_at, nodes_at, reply_length};
 ghost use Rattle.scheme.specs.Open.{reply_of, open_verdict, opening};
 ghost use Rattle.tree.specs.Leaf.{salt_length};
 ghost use Rattle.tree.specs.Sets.{missing};
 ghost use Rattle.tree.specs.Tree.{all_parts, opened};
-ghost use Rattle.tree.specs.Clauses.{IndexSet};
 ghost use Rattle.commitment.specs.Shape.{sizes_in};
-ghost use Rattle.question.specs.Questioned.{questioned};
-ghost use Rattle.question.specs.declared.Questioned.TheVariants.{WellFormed};
+ghost use Rattle.refusal.specs.Numbers.{number_of, given};
 ghost use Rattle.lists.specs.Spliced.{spliced};
 ghost use Rattle.opener.specs.Parts.{CanCopy, CanRecord, CanList, CanSum, sums};
-ghost use Rattle.opener.specs.Opened.{number_of, length_of};
 ghost use Rattle.opener.specs.Ready.{Ready};
 
 use answers::{put_answers, put_batchings};
@@ -30,11 +27,12 @@ use commitment::{
     record_values, records_at, root_at, row_width, salt_at,
 };
 use field::Element;
-use lent::{filled_ok, lent_elements, lent_ok};
+use lent::{Witness, filled_ok, lent_elements, lent_ok};
 use missing_nodes::list_missing;
 use node_sets::{LeafIndex, opened_index};
 use planner::length_for;
-use question::{Questioned, ask, blank_indices, question_indices};
+use question::{Query, ask};
+use refusal::Refusal;
 
 // ---- the records one after the other
 
@@ -69,42 +67,27 @@ fn put_records(s: Shape, table: &[u32], nonces: &[u8], indices: &[usize], out: &
 
 // Is each lent slice of its length, the reply that of the leaves that are opened?
 fn lengths_ok(
-    s: Shape,
-    m: u32,
+    query: &Query<'_>,
     indices: &[usize],
-    coefficients: &[u32],
-    tails: &[u32],
-    blinds: &[u32],
-    masks: &[u32],
+    witness: &Witness<'_>,
     table: &[u32],
-    nonces: &[u8],
-    salt: &[u8],
     tree: &[u8],
     reply: &[u8],
 ) -> bool
-    requires { SizesInOrder (sizes_in s) × (m ≤ most_points) × IndexSet s.h indices.now }
-    ensures { result ≡ every (lent_ok (sizes_in s) (lent_of coefficients.now tails.now blinds.now masks.now nonces.now salt.now) ∷ filled_ok (sizes_in s) table.now tree.now ∷ eqb (length reply.now) (nodes_at (sizes_in s) m + 32 * length (missing 2 s.h indices.now)) ∷ []) }
+    requires { indices.now ≡ (read_question query.now.bytes.now).indices }
+    ensures { result ≡ every (lent_ok (sizes_in query.now.shape) (witnessed witness.now) ∷ filled_ok (sizes_in query.now.shape) table.now tree.now ∷ eqb (length reply.now) (nodes_at (sizes_in query.now.shape) query.now.m + 32 * length (missing 2 query.now.shape.h indices.now)) ∷ []) }
 {
-    let lent = lent_ok(s, coefficients, tails, blinds, masks, nonces, salt);
-    let filled = filled_ok(s, table, tree);
-    let room = reply.len() == length_for(s, m as usize, indices);
+    let lent = lent_ok(query.shape, witness);
+    let filled = filled_ok(query.shape, table, tree);
+    let room = reply.len() == length_for(query.shape, query.m as usize, indices);
     both(lent, both(filled, room))
 }
 
 // Is each lent word below q?
-pub fn words_ok(
-    coefficients: &[u32],
-    tails: &[u32],
-    blinds: &[u32],
-    masks: &[u32],
-    table: &[u32],
-) -> bool
-    ensures { result ≡ every (elements table.now ∷ lent_elements (lent_of coefficients.now tails.now blinds.now masks.now [] [])) }
+pub fn words_ok(witness: &Witness<'_>, table: &[u32]) -> bool
+    ensures { result ≡ every (elements table.now ∷ lent_elements (witnessed witness.now)) }
 {
-    both(
-        elements_ok(table),
-        lent_elements(coefficients, tails, blinds, masks),
-    )
+    both(elements_ok(table), lent_elements(witness))
 }
 
 // Does the question name the root that the lent tree ends with, and the lent salt?
@@ -123,87 +106,44 @@ pub fn names_ok(question: &[u8], salt: &[u8], tree: &[u8]) -> bool
 
 // The tests after those of the question.
 fn lent_verdict(
-    s: Shape,
-    m: u32,
-    question: &[u8],
+    query: &Query<'_>,
     indices: &[usize],
-    coefficients: &[u32],
-    tails: &[u32],
-    blinds: &[u32],
-    masks: &[u32],
+    witness: &Witness<'_>,
     table: &[u32],
-    nonces: &[u8],
-    salt: &[u8],
     tree: &[u8],
     reply: &[u8],
-) -> u32
-    requires { (questioned question.now ≡ WellFormed s m) × (indices.now ≡ (read_question question.now).indices) }
-    ensures { result ≡ open_verdict question.now (lent_of coefficients.now tails.now blinds.now masks.now nonces.now salt.now) table.now tree.now reply.now }
+) -> Result<(), Refusal>
+    requires { indices.now ≡ (read_question query.now.bytes.now).indices }
+    ensures { number_of result ≡ open_verdict query.now.bytes.now (witnessed witness.now) table.now tree.now reply.now }
 {
-    if !lengths_ok(
-        s,
-        m,
-        indices,
-        coefficients,
-        tails,
-        blinds,
-        masks,
-        table,
-        nonces,
-        salt,
-        tree,
-        reply,
-    ) {
-        return 2;
+    if !lengths_ok(query, indices, witness, table, tree, reply) {
+        return Err(Refusal::Length);
     }
-    if !words_ok(coefficients, tails, blinds, masks, table) {
-        return 3;
+    if !words_ok(witness, table) {
+        return Err(Refusal::Element);
     }
-    if !names_ok(question, salt, tree) {
-        return 8;
+    if !names_ok(query.bytes, witness.salt, tree) {
+        return Err(Refusal::Root);
     }
-    0
+    Ok(())
 }
 
 // ---- the parts of the reply
 
 // The batching answers and the evaluation answers.
-pub fn put_sums(
-    s: Shape,
-    m: u32,
-    question: &[u8],
-    coefficients: &[u32],
-    tails: &[u32],
-    blinds: &[u32],
-    masks: &[u32],
-    reply: &mut [u8],
-)
-    requires { CanSum question.now (sizes_in s) m coefficients.now tails.now blinds.now masks.now reply.old }
-    ensures { reply.new ≡ sums (question_at (sizes_in s) m question.now) (extended_rows (sizes_in s) (lent_rows coefficients.now tails.now blinds.now)) masks.now ++ drop (records_at (sizes_in s) m) reply.old }
+pub fn put_sums(s: Shape, m: u32, question: &[u8], witness: &Witness<'_>, reply: &mut [u8])
+    requires { CanSum question.now (sizes_in s) m witness.now.coefficients.now witness.now.tails.now witness.now.blinds.now witness.now.masks.now reply.old }
+    ensures { reply.new ≡ sums (question_at (sizes_in s) m question.now) (extended_rows (sizes_in s) (witnessed witness.now)) witness.now.masks.now ++ drop (records_at (sizes_in s) m) reply.old }
 {
     let n = row_width(s);
     let first = Element(leaf_count(s.h) as u32);
-    put_batchings(
-        s,
-        question,
-        challenges_at(),
-        first,
-        coefficients,
-        tails,
-        blinds,
-        n,
-        masks,
-        reply,
-        0,
-    );
+    put_batchings(s, question, challenges_at(), first, witness, n, reply, 0);
     put_answers(
         s,
         question,
         points_at(s),
         m as usize,
-        coefficients,
-        tails,
-        blinds,
+        witness,
         n,
         reply,
         answers_at(s),
@@ -239,88 +179,35 @@ pub fn put_leaves(
 
 // The whole reply; returns its length.
 fn write_reply(
-    s: Shape,
-    m: u32,
-    question: &[u8],
+    query: &Query<'_>,
     indices: &[usize],
-    coefficients: &[u32],
-    tails: &[u32],
-    blinds: &[u32],
-    masks: &[u32],
+    witness: &Witness<'_>,
     table: &[u32],
-    nonces: &[u8],
     tree: &[u8],
     reply: &mut [u8],
 ) -> usize
-    requires { Ready question.now (sizes_in s) m (unsalted coefficients.now tails.now blinds.now masks.now nonces.now) table.now tree.now reply.old × (indices.now ≡ (question_at (sizes_in s) m question.now).indices) }
-    ensures value { result ≡ reply_length (question_at (sizes_in s) m question.now) }
-    ensures reply_after { reply.new ≡ reply_of (question_at (sizes_in s) m question.now) (unsalted coefficients.now tails.now blinds.now masks.now nonces.now) table.now tree.now ++ drop result reply.old }
+    requires { Ready query.now.bytes.now (sizes_in query.now.shape) query.now.m (witnessed witness.now) table.now tree.now reply.old × (indices.now ≡ (question_at (sizes_in query.now.shape) query.now.m query.now.bytes.now).indices) }
+    ensures value { result ≡ reply_length (question_at (sizes_in query.now.shape) query.now.m query.now.bytes.now) }
+    ensures reply_after { reply.new ≡ reply_of (question_at (sizes_in query.now.shape) query.now.m query.now.bytes.now) (witnessed witness.now) table.now tree.now ++ drop result reply.old }
 {
-    put_sums(s, m, question, coefficients, tails, blinds, masks, reply);
-    put_leaves(s, m, indices, table, nonces, tree, reply)
+    put_sums(query.shape, query.m, query.bytes, witness, reply);
+    let nonces = witness.nonces;
+    put_leaves(query.shape, query.m, indices, table, nonces, tree, reply)
 }
 
-// The answer of an opener: the reply's length, or the number of a refusal.
-#[derive(Clone, Copy)]
-pub enum Opened {
-    Reply(usize),
-    Refused(u32),
-}
-
-// Fills `reply` with the reply to a question. A refusal leaves it as it was.
+// Fills `reply` with the reply to a question, and returns its length. A refusal leaves it as it was.
 pub fn open(
     question: &[u8],
-    coefficients: &[u32],
-    tails: &[u32],
-    blinds: &[u32],
-    masks: &[u32],
+    witness: &Witness<'_>,
     table: &[u32],
-    nonces: &[u8],
-    salt: &[u8],
     tree: &[u8],
     reply: &mut [u8],
-) -> Opened
-    ensures { (number_of result, length_of result, reply.new) ≡ opening question.now (lent_of coefficients.now tails.now blinds.now masks.now nonces.now salt.now) table.now tree.now reply.old }
+) -> Result<usize, Refusal>
+    ensures { (number_of result, given result, reply.new) ≡ opening question.now (witnessed witness.now) table.now tree.now reply.old }
 {
-    match ask(question) {
-        Questioned::WellFormed(s, m) => {
-            let l = s.l as usize;
-            let mut indices = blank_indices();
-            question_indices(question, s, m, &mut indices);
-            let verdict = lent_verdict(
-                s,
-                m,
-                question,
-                &indices[..l],
-                coefficients,
-                tails,
-                blinds,
-                masks,
-                table,
-                nonces,
-                salt,
-                tree,
-                &reply[..],
-            );
-            if verdict == 0 {
-                let n = write_reply(
-                    s,
-                    m,
-                    question,
-                    &indices[..l],
-                    coefficients,
-                    tails,
-                    blinds,
-                    masks,
-                    table,
-                    nonces,
-                    tree,
-                    reply,
-                );
-                return Opened::Reply(n);
-            }
-            Opened::Refused(verdict)
-        }
-        Questioned::Refused(verdict) => Opened::Refused(verdict),
-    }
+    let query = ask(question)?;
+    let all = query.indices();
+    let indices = &all[..query.shape.l as usize];
+    lent_verdict(&query, indices, witness, table, tree, &reply[..])?;
+    Ok(write_reply(&query, indices, witness, table, tree, reply))
 }

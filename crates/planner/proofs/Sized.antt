@@ -10,7 +10,7 @@ use Rattle.tree.specs.Work.{permutations_for}
 use Rattle.tree.proofs.Above.{above_missing}
 use Rattle.lists.specs.Bytes.{Bytes}
 use Rattle.scheme.specs.Sizes.{Sizes, SizesInOrder}
-use Rattle.scheme.specs.Question.{Question, read_question}
+use Rattle.scheme.specs.Question.{Question, read_question, question_verdict}
 use Rattle.scheme.specs.Reply.{nodes_at, reply_length}
 use Rattle.scheme.specs.Sizing.{planning, sizing}
 use Rattle.scheme.specs.Work.{leaf_length, node_length, question_work, counting}
@@ -18,13 +18,14 @@ use Rattle.scheme.proofs.Accepted.{sizes_in_order}
 use Rattle.scheme.proofs.Opening.{planning_is, planning-refused}
 use Rattle.commitment.proofs.Places.{missing-high}
 use Rattle.commitment.specs.Shape.{sizes_in}
-use Rattle.question.specs.Questioned.{questioned}
+use Rattle.question.specs.Asked.{Asks}
 use Rattle.commitment.specs.declared.Shape.{Shape}
-use Rattle.question.specs.declared.Questioned.TheVariants.{WellFormed, Refused}
+use Rattle.refusal.specs.declared.Refusal.{Refusal}
+use Rattle.refusal.specs.Numbers.{number, number_positive}
 use Rattle.planner.specs.Planned.{most_missing}
-use Rattle.question.proofs.Answer.{well_asked, taken, refused, asked_indices}
+use Rattle.question.proofs.Answer.{well_asked, taken, asked_indices}
 
-module _ (b : Bytes) (s : Shape) (m : ℕ) (asked : questioned b ≡ WellFormed s m) where
+module _ (b : Bytes) (s : Shape) (m : ℕ) (asked : Asks b s m) where
   in_order : SizesInOrder (sizes_in s)
   in_order = sizes_in_order (sizes_in s) (taken b s m asked).sizes_ok_lem
 
@@ -62,5 +63,5 @@ module _ (b : Bytes) (s : Shape) (m : ℕ) (asked : questioned b ≡ WellFormed 
       ∙ ap work a.1)
       ∙ sym (planning_is question_work b a.0)
 
-pub not_planned : (plan : Question → ℕ) (b : Bytes) (v : ℕ) → questioned b ≡ Refused v → (v, 0) ≡ planning plan b
-not_planned plan b v e = let r = refused b v e in sym (planning-refused plan b v r.1 r.0)
+pub not_planned : (plan : Question → ℕ) (b : Bytes) (r : Refusal) → number r ≡ question_verdict b → (number r, 0) ≡ planning plan b
+not_planned plan b r e = sym (planning-refused plan b (number r) (number_positive r) (sym e))

@@ -11,14 +11,14 @@ ghost use Rattle.scheme.specs.Reply.{nodes_at};
 ghost use Rattle.scheme.specs.Sizing.{sizing};
 ghost use Rattle.scheme.specs.Work.{leaf_length, node_length, counting};
 ghost use Rattle.commitment.specs.Shape.{sizes_in};
-ghost use Rattle.question.specs.Questioned.{questioned};
-ghost use Rattle.question.specs.declared.Questioned.TheVariants.{WellFormed};
-ghost use Rattle.planner.specs.Planned.{verdict_in, number_in, most_missing};
+ghost use Rattle.refusal.specs.Numbers.{number_of, given};
+ghost use Rattle.planner.specs.Planned.{most_missing};
 
 use commitment::{Shape, nodes_at, record_length};
 use digests::{NODE, RECORD_START};
 use missing_nodes::count_missing;
-use question::{Questioned, ask, blank_indices, question_indices};
+use question::{Query, ask};
+use refusal::Refusal;
 use sponge::permutations_for;
 
 // The length of a reply with so many missing nodes.
@@ -50,43 +50,26 @@ fn work_with(s: Shape, missing: usize) -> usize
 }
 
 // How many nodes are missing from the leaves of a well-formed question.
-fn asked_missing(question: &[u8], s: Shape, m: u32) -> usize
-    requires { questioned question.now ≡ WellFormed s m }
-    ensures { result ≡ length (missing 2 s.h (read_question question.now).indices) }
+fn asked_missing(query: &Query<'_>) -> usize
+    ensures { result ≡ length (missing 2 query.now.shape.h (read_question query.now.bytes.now).indices) }
 {
-    let l = s.l as usize;
-    let mut indices = blank_indices();
-    question_indices(question, s, m, &mut indices);
-    count_missing(s.h as usize, &indices[..l])
-}
-
-// The answer to a planner: a number, or that of a refusal.
-#[derive(Clone, Copy)]
-pub enum Planned {
-    Number(usize),
-    Refused(u32),
+    let l = query.shape.l as usize;
+    let indices = query.indices();
+    count_missing(query.shape.h as usize, &indices[..l])
 }
 
 // The exact length of the reply to a question: what an opener must be lent, and what a check takes.
-pub fn reply_length(question: &[u8]) -> Planned
-    ensures { (verdict_in result, number_in result) ≡ sizing question.now }
+pub fn reply_length(question: &[u8]) -> Result<usize, Refusal>
+    ensures { (number_of result, given result) ≡ sizing question.now }
 {
-    match ask(question) {
-        Questioned::WellFormed(s, m) => {
-            Planned::Number(length_with(s, m as usize, asked_missing(question, s, m)))
-        }
-        Questioned::Refused(verdict) => Planned::Refused(verdict),
-    }
+    let query = ask(question)?;
+    Ok(length_with(query.shape, query.m as usize, asked_missing(&query)))
 }
 
 // How many permutations the check of a reply to a question runs where it comes to hashing, whatever the reply.
-pub fn permutations(question: &[u8]) -> Planned
-    ensures { (verdict_in result, number_in result) ≡ counting question.now }
+pub fn permutations(question: &[u8]) -> Result<usize, Refusal>
+    ensures { (number_of result, given result) ≡ counting question.now }
 {
-    match ask(question) {
-        Questioned::WellFormed(s, m) => {
-            Planned::Number(work_with(s, asked_missing(question, s, m)))
-        }
-        Questioned::Refused(v) => Planned::Refused(v),
-    }
+    let asked = ask(question)?;
+    Ok(work_with(asked.shape, asked_missing(&asked)))
 }

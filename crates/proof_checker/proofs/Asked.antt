@@ -1,5 +1,5 @@
 -- The question so drawn is well formed, by the sizes and the number of points that the code holds.
-use mathlib.Core.Path.{◌≡◌, sym, ap, ap₂, ◌∙◌, subst}
+use mathlib.Core.Path.{◌≡◌, sym, ap, ◌∙◌, subst}
 use mathlib.Core.List.{List}
 use Prim.Native.Nat.{ℕ, ◌≤◌}
 use native.Mathlib.Omega.{arith}
@@ -13,8 +13,7 @@ use Rattle.fiat_shamir.specs.CheckProof.{proof_draw, proof_indices}
 use Rattle.fiat_shamir.proofs.Drawn.{Leaves, drawn-leaves, drawn-back, drawn_right}
 use Rattle.commitment.specs.Shape.{sizes_in, shape_of}
 use Rattle.commitment.specs.declared.Shape.{Shape}
-use Rattle.question.specs.Questioned.{answered, questioned}
-use Rattle.question.specs.declared.Questioned.TheVariants.{WellFormed}
+use Rattle.question.specs.Asked.{Asks}
 use Rattle.offline_question.specs.Offline.{Offline}
 use Rattle.offline_question.proofs.Answer.{Facts, offline_facts}
 
@@ -45,9 +44,12 @@ module _ (b : Bytes) (s : Shape) (m : ℕ) (o : Offline b (sizes_in s) m) where
     leaves_in : Leaves (header_sizes b) is
     leaves_in = subst (λ (t : Sizes). Leaves t is) (sym o.sizes) (record { count = count; rise = set.rising; inside = set.leaves })
 
-    pub asked-drawn : (D : Bytes) → D ≡ drawn_bytes b is → questioned D ≡ WellFormed s m
-    unfolding answered read_question
+    pub asked-drawn : (D : Bytes) → D ≡ drawn_bytes b is → Asks D s m
+    unfolding read_question
     asked-drawn D e =
         let back : read_question D ≡ _ = ap read_question e ∙ drawn-back b 0 facts.asked is leaves_in in
-        ap (λ (v : ℕ). answered v D) (ap question_verdict e ∙ drawn_right b 0 facts.asked is leaves_in)
-        ∙ ap₂ (λ (t : Sizes) (n : ℕ). WellFormed (shape_of t) n) (ap (λ (u : Question). u.sizes) back ∙ o.sizes) (ap (λ (u : Question). u.m) back ∙ o.points)
+        record {
+          verdict = ap question_verdict e ∙ drawn_right b 0 facts.asked is leaves_in;
+          shape = ap shape_of (sym (ap (λ (u : Question). u.sizes) back ∙ o.sizes));
+          points = sym (ap (λ (u : Question). u.m) back ∙ o.points);
+        }

@@ -19,15 +19,14 @@ use Rattle.fiat_shamir.specs.CheckProof.{proof_reply, proof_draw, proof_indices,
 use Rattle.fiat_shamir.proofs.Accepted.{as_conversation}
 use Rattle.commitment.specs.Shape.{sizes_in}
 use Rattle.commitment.specs.declared.Shape.{Shape}
-use Rattle.question.specs.declared.Questioned.TheVariants.{WellFormed}
-use Rattle.offline_question.specs.Asked.{asked_offline}
+use Rattle.offline_question.specs.Asked.{AsksOffline}
 use Rattle.offline_question.specs.Offline.{Offline}
 use Rattle.offline_question.proofs.Answer.{Facts, offline_taken, offline_facts}
 use Rattle.proof_checker.proofs.Draws.{draw-length, leaves_are}
 
-module _ (question : Bytes) (κ : ℕ) (s : Shape) (m : ℕ) (e : asked_offline question κ ≡ WellFormed s m) where
+module _ (question : Bytes) (κ : ℕ) (s : Shape) (m : ℕ) (e : AsksOffline question κ s m) where
   pub offline : Offline question (sizes_in s) m
-  offline = (offline_taken question κ s m e).2
+  offline = (offline_taken question κ s m e).1
 
   pub known : Facts question (sizes_in s) m
   known = offline_facts question (sizes_in s) m offline
@@ -40,7 +39,7 @@ module _ (question : Bytes) (κ : ℕ) (s : Shape) (m : ℕ) (e : asked_offline 
     long = draw-length question proof (sizes_in s) m offline x ex
 
     pub bits_ask : (2 ≤ length x) × (κ ≤ most_bits)
-    bits_ask = (omega (arith, long), (offline_taken question κ s m e).1)
+    bits_ask = (omega (arith, long), (offline_taken question κ s m e).0)
 
     -- the leaves in the front of a room
     module _ (room : List ℕ) (enough : s.l ≤ length room) where
@@ -60,7 +59,7 @@ module _ (question : Bytes) (κ : ℕ) (s : Shape) (m : ℕ) (e : asked_offline 
         → checking (drawn_bytes question is) reply buffer ≡ checking_proof question κ proof buffer
     accepts t et f is reply buffer ei er =
         ap₂ (λ (k : List ℕ) (r : Bytes). checking (drawn_bytes question k) r buffer) ei er
-        ∙ sym ((as_conversation for_rust question κ proof buffer).accepts (offline_taken question κ s m e).0 (ap (qualifies κ) (sym ex) ∙ sym et ∙ f))
+        ∙ sym ((as_conversation for_rust question κ proof buffer).accepts e.verdict (ap (qualifies κ) (sym ex) ∙ sym et ∙ f))
 
     -- and one that does not
     pub fails : (t : Bool) → t ≡ qualifies κ x → t ≡ false → qualifies κ (proof_draw question proof) ≡ false

@@ -18,17 +18,16 @@ use Rattle.scheme.specs.Question.{Question, header_sizes, header_points}
 use Rattle.scheme.specs.Reply.{records_at, reply_length, nodes_at}
 use Rattle.scheme.specs.Commit.{after}
 use Rattle.scheme.specs.Check.{reply_tests, buffer_test}
-use Rattle.fiat_shamir.specs.Offline.{offline_tests}
+use Rattle.fiat_shamir.specs.Offline.{offline_tests, offline_verdict}
 use Rattle.fiat_shamir.specs.Draw.{qualifies, drawn}
 use Rattle.fiat_shamir.specs.Prove.{counter_length}
 use Rattle.fiat_shamir.specs.CheckProof.{proof_reply, proof_draw, proof_indices, proof_asks, answers_length, proof_tests, proof_values, check_proof_verdict, checking_proof}
 use Rattle.fiat_shamir.proofs.Drawn.{offline_numbers}
 use Rattle.commitment.specs.Shape.{sizes_in}
 use Rattle.commitment.specs.declared.Shape.{Shape}
-use Rattle.question.specs.declared.Questioned.TheVariants.{WellFormed, Refused}
-use Rattle.offline_question.specs.Asked.{asked_offline}
+use Rattle.offline_question.specs.Asked.{AsksOffline}
 use Rattle.offline_question.specs.Offline.{Offline}
-use Rattle.offline_question.proofs.Answer.{offline_taken, offline_refused}
+use Rattle.offline_question.proofs.Answer.{offline_taken}
 use Rattle.proof_checker.specs.Parts.{elements_in, unqualified}
 
 -- ---- a counter that does not qualify
@@ -74,19 +73,17 @@ module _ (question : Bytes) (κ : ℕ) (proof : Bytes) (buffer : List ℕ) where
   later = buffer_test 1 (drawn question []) (length buffer) ∷ proof_tests question κ proof
 
   -- a question that is refused
-  pub refused_question : (v : ℕ) → asked_offline question κ ≡ Refused v → (v, buffer) ≡ checking_proof question κ proof buffer
+  pub refused_question : (v : ℕ) → 0 < v → v ≡ offline_verdict question κ → (v, buffer) ≡ checking_proof question κ proof buffer
   unfolding check_proof_verdict
-  refused_question v e =
-      let a = offline_refused question κ v e in
-      refused_as v (verdict_stop (offline_tests question κ) later v a.1 a.0) (λ z. ne_of_gt a.1 z)
+  refused_question v p e = refused_as v (verdict_stop (offline_tests question κ) later v p (sym e)) (λ z. ne_of_gt p z)
 
-  module _ (s : Shape) (m : ℕ) (e : asked_offline question κ ≡ WellFormed s m) where
+  module _ (s : Shape) (m : ℕ) (e : AsksOffline question κ s m) where
     offline : Offline question (sizes_in s) m
-    offline = (offline_taken question κ s m e).2
+    offline = (offline_taken question κ s m e).1
 
     asked : verdict ≡ verdict_of later
     unfolding check_proof_verdict
-    asked = verdict_go (offline_tests question κ) later (offline_numbers question κ) (offline_taken question κ s m e).0
+    asked = verdict_go (offline_tests question κ) later (offline_numbers question κ) e.verdict
 
     room : 1 * ((header_sizes question).w * header_points question) ≡ s.w * m
     room = one-mul ((header_sizes question).w * header_points question) ∙ ap₂ (λ (z : Sizes) (n : ℕ). z.w * n) offline.sizes offline.points

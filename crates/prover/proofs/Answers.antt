@@ -10,7 +10,6 @@ use Rattle.lists.specs.Bytes.{Bytes}
 use Rattle.lists.specs.Parts.{put_tail, mid_tail}
 use Rattle.scheme.specs.Sizes.{Sizes, SizesInOrder}
 use Rattle.scheme.specs.Layers.{Lent, extended_rows}
-use Rattle.lent.specs.Partly.{lent_rows}
 use Rattle.scheme.specs.Question.{question_at, question_length, header_sizes, header_points, most_question}
 use Rattle.scheme.specs.Reply.{records_at}
 use Rattle.scheme.proofs.Lent.{LentFacts, lent_facts}
@@ -18,7 +17,6 @@ use Rattle.fiat_shamir.specs.Draw.{drawn, drawn_bytes, most_string}
 use Rattle.fiat_shamir.specs.Prove.{proved_answers}
 use Rattle.fiat_shamir.proofs.Drawn.{challenges_back, points-back}
 use Rattle.commitment.proofs.Places.{records_high}
-use Rattle.lent.proofs.Rows.{rows_lent}
 use Rattle.opener.specs.Parts.{CanSum, sums}
 use Rattle.opener.proofs.Sums.{sums-opened}
 use Rattle.offline_question.proofs.Answer.{Facts, offline_facts}
@@ -59,7 +57,7 @@ module _ (b : Bytes) (s : Sizes) (m : ℕ) (l : Lent) (can : CanPut b s m l) whe
   }
 
   abbrev ext : List (List ℕ)
-  ext = extended_rows s (lent_rows l.coefficients l.tails l.blinds)
+  ext = extended_rows s l
 
   -- the sums take nothing but sizes, challenges and points from the question
   sums-drawn : (is : List ℕ) → sums (question_at (header_sizes b) (header_points b) (drawn_bytes b is)) ext l.masks ≡ sums (drawn b []) ext l.masks
@@ -76,7 +74,7 @@ module _ (b : Bytes) (s : Sizes) (m : ℕ) (l : Lent) (can : CanPut b s m l) whe
       ∙ ap (λ (x : Bytes). sums (question_at (header_sizes b) (header_points b) x) ext l.masks) e in
       h ∙ ap (λ (t : Bytes). t ++ drop (records_at s m) o)
       (same ∙ sums-drawn is
-      ∙ ap (λ (es : List (List ℕ)). sums (drawn b []) es l.masks) (rows_lent s l.coefficients l.tails l.blinds l.masks l.nonces l.salt ∙ ap (λ (t : Sizes). extended_rows t l) (sym can.offline.sizes))
+      ∙ ap (λ (es : List (List ℕ)). sums (drawn b []) es l.masks) (ap (λ (t : Sizes). extended_rows t l) (sym can.offline.sizes))
       ∙ sums-opened (drawn b []) l)
 
   -- ---- the string: prefix and question, and the answers through the part that begins after them

@@ -8,7 +8,6 @@ use mathlib.Core.Path.{◌≡◌, refl, sym, ap, ap₂, ◌∙◌, subst}
 use mathlib.Core.Bool.{Bool, true, false, not}
 use mathlib.Core.List.{List, [], ◌∷◌, ◌++◌, append_assoc, flatten, map}
 use Prim.Native.Nat.{ℕ, suc, ◌+◌, ◌-◌, ◌*◌, ◌≤◌, ◌<◌}
-use native.Mathlib.Nat.{pos_of_ne-zero}
 use native.Mathlib.Omega.{arith}
 use lib.Dec.{eqb}
 use lib.ListN.{length, take, drop, length-append}
@@ -20,7 +19,7 @@ use Rattle.lists.specs.Choice.{pick}
 use Rattle.lists.specs.Least.{least}
 use Rattle.lists.specs.Tests.{Test, verdict_of, passed, every_true, true_every, Numbered, each, verdict_go, verdict_stop}
 use Rattle.scheme.specs.Sizes.{Sizes, sizes_ok}
-use Rattle.scheme.specs.Layers.{Lent, extended}
+use Rattle.scheme.specs.Layers.{Lent}
 use Rattle.scheme.specs.Question.{header_sizes, header_points}
 use Rattle.scheme.specs.Reply.{records_at}
 use Rattle.scheme.specs.Open.{reply_of, opened_answers, opened_batching}
@@ -29,7 +28,6 @@ use Rattle.fiat_shamir.specs.Offline.{most_bits, offline_tests, offline_verdict}
 use Rattle.fiat_shamir.specs.Draw.{drawn as drawn_q, draw_string, leaf_draw, ranks_at, drawn_indices, qualifies, most_string}
 use Rattle.fiat_shamir.specs.Prove.{proved_answers, counter_bytes, counter_draw, counter_ok, proof_length, proof_of, prove_verdict, proving, prove_tests}
 use Rattle.fiat_shamir.proofs.Proving.{prove_asked, proving-refused, proving_done, answers_sized, unqualified}
-use Rattle.lent.proofs.Unsalted.{others, well_unsalted}
 use Rattle.counter_search.specs.Tried.{tried}
 use Rattle.counter_search.proofs.Tried.{tried_is}
 use Rattle.offline_question.specs.Offline.{Offline}
@@ -143,14 +141,14 @@ module _ (b : Bytes) (κ limit : ℕ) (l : Lent) (table : List ℕ) (nodes buffe
         verdict_go (offline_tests b κ) (lent_tests b (header_sizes b) (header_points b) l table nodes buffer ++ last) (offline_numbers b κ) asked
         ∙ ap₂ (λ (t : Sizes) (n : ℕ). verdict_of (lent_tests b t n l table nodes buffer ++ last)) offline.sizes offline.points
 
-    pub lent_refused : (v : ℕ) → v ≡ verdict_of lent → (v ≡ 0 → ⊥) → (v, 0, buffer) ≡ proving b κ limit l table nodes buffer
-    lent_refused v e n = sym (proving-refused b κ limit l table nodes buffer v (pos_of_ne-zero n) (tests_are ∙ verdict_stop lent last v (pos_of_ne-zero n) (sym e)))
+    pub lent_refused : (v : ℕ) → 0 < v → v ≡ verdict_of lent → (v, 0, buffer) ≡ proving b κ limit l table nodes buffer
+    lent_refused v p e = sym (proving-refused b κ limit l table nodes buffer v p (tests_are ∙ verdict_stop lent last v p (sym e)))
 
     module _ (z : verdict_of lent ≡ 0) where
       lent_numbers : Numbered lent
       lent_numbers = omega arith
 
-      pub lent_ready : κ ≤ most_bits → Ready b s m κ (others l) table nodes buffer
+      pub lent_ready : κ ≤ most_bits → Ready b s m κ l table nodes buffer
       lent_ready few =
           let ok : sizes_ok s ≡ true = subst (λ (t : Sizes). sizes_ok t ≡ true) offline.sizes (offline_facts b s m offline).asked.sizes_right in
           let t = passed lent lent_numbers z in
@@ -158,7 +156,7 @@ module _ (b : Bytes) (κ limit : ℕ) (l : Lent) (table : List ℕ) (nodes buffe
           record {
             offline = offline;
             few_bits = few;
-            lent = well_unsalted l s (record { sizes = ok; lengths = lengths.0; elements = true_every (lent_elements l) (every_true _ (not-false _ t.1.0)).1 });
+            lent = record { sizes = ok; lengths = lengths.0; elements = true_every (lent_elements l) (every_true _ (not-false _ t.1.0)).1 };
             filled = lengths.1.0;
             room = eqb-true _ _ lengths.1.1.0;
           }
@@ -170,14 +168,9 @@ module _ (b : Bytes) (κ limit : ℕ) (l : Lent) (table : List ℕ) (nodes buffe
       unfolding verdict_of
       verdict_is = tests_are ∙ verdict_go lent last lent_numbers z ∙ ap (λ (t : Bool). pick t 11 0) (unqualified limit (counter_ok b κ l))
 
-      -- no proof depends on the salt that is lent
-      search_unsalted : searched b κ limit (others l) table nodes buffer ≡ searched b κ limit l table nodes buffer
-      unfolding searched proved_answers proof_of reply_of extended
-      search_unsalted = refl
-
-      pub all_done : searched b κ limit (others l) table nodes buffer ≡ proving b κ limit l table nodes buffer
+      pub all_done : searched b κ limit l table nodes buffer ≡ proving b κ limit l table nodes buffer
       unfolding searched
-      all_done = search_unsalted ∙ go (eqb k limit) refl
+      all_done = go (eqb k limit) refl
         where
           go : (t : Bool) → eqb k limit ≡ t
               → pick t (11, 0, buffer) (0, proof_length b l k, proof_of b l table nodes k ++ drop (proof_length b l k) buffer) ≡ proving b κ limit l table nodes buffer

@@ -1,18 +1,16 @@
 -- What an answer says of a question.
 use mathlib.Core.Path.{◌≡◌, refl, sym, ap, ◌∙◌, subst}
-use mathlib.Core.Bool.{Bool, true, false, false≢true}
+use mathlib.Core.Bool.{true}
 use mathlib.Core.List.{List, ◌++◌}
 use Prim.Native.Nat.{ℕ, ◌^◌, ◌≤◌, ◌<◌}
-use native.Mathlib.Nat.{pos_of_ne-zero}
 use native.Mathlib.Omega.{arith}
-use lib.Dec.{eqb}
 use lib.ListN.{length, take, drop}
 use lib.Seq.{take_at}
-use borrow.Author.Tests.{eqb-true, eqb-false, ltb-false, not-false}
+use borrow.Author.Tests.{eqb-true, ltb-false, not-false}
 use Rattle.lists.specs.All.{Below}
 use Rattle.lists.specs.Bytes.{Bytes, words, halves, length-words}
-use Rattle.lists.specs.Choice.{pick, and_true}
-use Rattle.lists.specs.Tests.{verdict_of, passed, Numbered}
+use Rattle.lists.specs.Choice.{and_true}
+use Rattle.lists.specs.Tests.{passed, Numbered}
 use Rattle.tree.specs.Clauses.{IndexSet}
 use Rattle.tree.specs.Leaf.{salt_length}
 use Rattle.scheme.specs.Sizes.{Sizes, SizesInOrder, sizes_ok, points_ok}
@@ -20,40 +18,8 @@ use Rattle.scheme.specs.Question.{read_question, header_tests, header_points, qu
 use Rattle.scheme.proofs.Accepted.{sizes_in_order, Asked, well_formed, question_numbers}
 use Rattle.scheme.proofs.Bound.{indices_length}
 use Rattle.commitment.specs.Shape.{sizes_in}
-use Rattle.question.specs.Questioned.{number_of, header_shape, answered, headed, questioned}
+use Rattle.question.specs.Asked.{header_shape, Heads, Asks}
 use Rattle.commitment.specs.declared.Shape.{Shape}
-use Rattle.question.specs.declared.Questioned.{Questioned}
-use Rattle.question.specs.declared.Questioned.TheVariants.{WellFormed, Refused}
-
-abbrev is_well : Questioned → Bool
-is_well (WellFormed s m) = true
-is_well (Refused v) = false
-
-abbrev shape_in : Shape → Questioned → Shape
-shape_in d (WellFormed s m) = s
-shape_in d (Refused v) = d
-
-abbrev points_in : Questioned → ℕ
-points_in (WellFormed s m) = m
-points_in (Refused v) = 0
-
--- ---- a verdict's answer
-
-pub answered_well : (v : ℕ) (b : Bytes) (s : Shape) (m : ℕ) → answered v b ≡ WellFormed s m → (v ≡ 0) × (s ≡ header_shape b) × (m ≡ header_points b)
-unfolding answered
-answered_well v b s m = go (eqb v 0) refl
-  where
-    go : (t : Bool) → eqb v 0 ≡ t → pick t (WellFormed (header_shape b) (header_points b)) (Refused v) ≡ WellFormed s m → (v ≡ 0) × (s ≡ header_shape b) × (m ≡ header_points b)
-    go true e h = (eqb-true v 0 e, sym (ap (shape_in s) h), sym (ap points_in h))
-    go false e h = absurd (false≢true (ap is_well h))
-
-pub answered-refused : (v : ℕ) (b : Bytes) (u : ℕ) → answered v b ≡ Refused u → (v ≡ u) × (0 < u)
-unfolding answered
-answered-refused v b u = go (eqb v 0) refl
-  where
-    go : (t : Bool) → eqb v 0 ≡ t → pick t (WellFormed (header_shape b) (header_points b)) (Refused v) ≡ Refused u → (v ≡ u) × (0 < u)
-    go true e h = absurd (false≢true (ap is_well (sym h)))
-    go false e h = let p : v ≡ u = ap number_of h in (p, pos_of_ne-zero (λ z. eqb-false v 0 e (p ∙ z)))
 
 -- ---- a header
 
@@ -62,39 +28,25 @@ header_numbers b = omega arith
 
 -- a header that is taken
 pub record Headed (b : Bytes) (s : Shape) (m : ℕ) : Type 0 where
-  pub verdict : verdict_of (header_tests b) ≡ 0
-  pub shape : s ≡ header_shape b
-  pub count : m ≡ header_points b
   pub long : header_length ≤ length b
   pub sizes_ok_lem : sizes_ok (sizes_in s) ≡ true
   pub points_ok_lem : points_ok m ≡ true
 
-pub well_headed : (b : Bytes) (s : Shape) (m : ℕ) → headed b ≡ WellFormed s m → Headed b s m
-well_headed b s m e =
-    let a = answered_well (verdict_of (header_tests b)) b s m e in
-    let t = passed (header_tests b) (header_numbers b) a.0 in
+pub well_headed : (b : Bytes) (s : Shape) (m : ℕ) → Heads b s m → Headed b s m
+well_headed b s m a =
+    let t = passed (header_tests b) (header_numbers b) a.verdict in
     let ok = and_true _ _ (not-false _ t.1.1.0) in
     record {
-      verdict = a.0;
-      shape = a.1;
-      count = a.2;
       long = ltb-false _ _ t.0;
-      sizes_ok_lem = ap (λ (x : Shape). sizes_ok (sizes_in x)) a.1 ∙ ok.0;
-      points_ok_lem = ap points_ok a.2 ∙ ok.1;
+      sizes_ok_lem = ap (λ (x : Shape). sizes_ok (sizes_in x)) a.shape ∙ ok.0;
+      points_ok_lem = ap points_ok a.points ∙ ok.1;
     }
-
-pub header_refused : (b : Bytes) (v : ℕ) → headed b ≡ Refused v → (verdict_of (header_tests b) ≡ v) × (0 < v)
-header_refused b v e = answered-refused (verdict_of (header_tests b)) b v e
 
 -- ---- a question
 
-pub well_asked : (b : Bytes) (s : Shape) (m : ℕ) → questioned b ≡ WellFormed s m
-    → (question_verdict b ≡ 0) × (sizes_in s ≡ (read_question b).sizes) × (m ≡ (read_question b).m)
+pub well_asked : (b : Bytes) (s : Shape) (m : ℕ) → Asks b s m → (question_verdict b ≡ 0) × (sizes_in s ≡ (read_question b).sizes) × (m ≡ (read_question b).m)
 unfolding read_question
-well_asked b s m e = let a = answered_well (question_verdict b) b s m e in (a.0, ap sizes_in a.1, a.2)
-
-pub refused : (b : Bytes) (v : ℕ) → questioned b ≡ Refused v → (question_verdict b ≡ v) × (0 < v)
-refused b v e = answered-refused (question_verdict b) b v e
+well_asked b s m a = (a.verdict, ap sizes_in a.shape, a.points)
 
 -- a question that is taken, in the sizes s and the number of points m that the code holds
 pub record Taken (b : Bytes) (s : Shape) (m : ℕ) : Type 0 where
@@ -127,13 +79,12 @@ taken_from b e =
       indices = refl;
     }
 
-pub taken : (b : Bytes) (s : Shape) (m : ℕ) → questioned b ≡ WellFormed s m → Taken b s m
-taken b s m e =
-    let a = answered_well (question_verdict b) b s m e in
-    subst (λ (n : ℕ). Taken b s n) (sym a.2) (subst (λ (x : Shape). Taken b x (header_points b)) (sym a.1) (taken_from b a.0))
+pub taken : (b : Bytes) (s : Shape) (m : ℕ) → Asks b s m → Taken b s m
+taken b s m a =
+    subst (λ (n : ℕ). Taken b s n) (sym a.points) (subst (λ (x : Shape). Taken b x (header_points b)) (sym a.shape) (taken_from b a.verdict))
 
 -- its indices: a set of ℓ leaves
-pub asked_indices : (b : Bytes) (s : Shape) (m : ℕ) → questioned b ≡ WellFormed s m → (length (read_question b).indices ≡ s.l) × IndexSet s.h (read_question b).indices
+pub asked_indices : (b : Bytes) (s : Shape) (m : ℕ) → Asks b s m → (length (read_question b).indices ≡ s.l) × IndexSet s.h (read_question b).indices
 asked_indices b s m e =
     let a = well_asked b s m e in
     let k : Asked (read_question b) = (taken b s m e).asks in
@@ -150,14 +101,14 @@ asked_indices b s m e =
     )
 
 -- its challenges and points: η and m of them
-pub challenges_count : (b : Bytes) (s : Shape) (m : ℕ) → questioned b ≡ WellFormed s m → length (read_question b).challenges ≡ s.eta
+pub challenges_count : (b : Bytes) (s : Shape) (m : ℕ) → Asks b s m → length (read_question b).challenges ≡ s.eta
 challenges_count b s m e = ap length (taken b s m e).challenges ∙ length-words s.eta (drop challenges_at b)
 
-pub points_count : (b : Bytes) (s : Shape) (m : ℕ) → questioned b ≡ WellFormed s m → length (read_question b).evaluation_points ≡ m
+pub points_count : (b : Bytes) (s : Shape) (m : ℕ) → Asks b s m → length (read_question b).evaluation_points ≡ m
 points_count b s m e = ap length (taken b s m e).points ∙ length-words m (drop (points_at (sizes_in s)) b)
 
 -- read from their place into a room
-pub indices_read : (b : Bytes) (s : Shape) (m : ℕ) (room x : List ℕ) (at : ℕ) → questioned b ≡ WellFormed s m → at ≡ indices_at (sizes_in s) m
+pub indices_read : (b : Bytes) (s : Shape) (m : ℕ) (room x : List ℕ) (at : ℕ) → Asks b s m → at ≡ indices_at (sizes_in s) m
     → x ≡ halves s.l (drop at b) ++ drop s.l room → take s.l x ≡ (read_question b).indices
 indices_read b s m room x at e k f =
     let front : x ≡ (read_question b).indices ++ drop s.l room =

@@ -2,7 +2,7 @@
 use mathlib.Core.Path.{◌≡◌, sym, ap, ap₂, ◌∙◌}
 use mathlib.Core.Bool.{not}
 use mathlib.Core.List.{List, [], ◌∷◌, ◌++◌}
-use Prim.Native.Nat.{ℕ, ◌+◌, ◌^◌}
+use Prim.Native.Nat.{ℕ, ◌+◌, ◌^◌, ◌<◌}
 use lib.Dec.{eqb}
 use lib.ListN.{length}
 use Rattle.lists.specs.Bytes.{Bytes}
@@ -10,12 +10,11 @@ use Rattle.lists.specs.Tests.{Test, verdict_of, verdict_go, verdict_stop}
 use Rattle.scheme.specs.Sizes.{elements}
 use Rattle.scheme.specs.Question.{read_question, header_tests, header_points, question_tests, question_verdict, challenges_at, indices_at, question_length}
 use Rattle.commitment.specs.Shape.{sizes_in}
-use Rattle.question.specs.Questioned.{header_shape, headed, questioned, answered}
+use Rattle.question.specs.Asked.{header_shape, Heads}
 use Rattle.commitment.specs.declared.Shape.{Shape}
-use Rattle.question.specs.declared.Questioned.TheVariants.{WellFormed, Refused}
 use Rattle.lists.specs.Numbers.{numbers, numbers_more}
 use Rattle.lists.specs.Scan.{placed}
-use Rattle.question.proofs.Answer.{header_numbers, well_headed, header_refused}
+use Rattle.question.proofs.Answer.{header_numbers}
 
 -- the tests after the header's: all words of the question are tested in one walk
 abbrev pub body_tests : Shape → ℕ → Bytes → List Test
@@ -34,20 +33,13 @@ body_tests_lem b =
     (sym (numbers_more 4 s.eta m challenges_at b))
 
 -- after a header that is taken, the body's tests decide
-pub body_decides : (b : Bytes) (s : Shape) (m : ℕ) → headed b ≡ WellFormed s m → question_verdict b ≡ verdict_of (body_tests s m b)
-body_decides b s m e =
-    let h = well_headed b s m e in
+pub body_decides : (b : Bytes) (s : Shape) (m : ℕ) → Heads b s m → question_verdict b ≡ verdict_of (body_tests s m b)
+body_decides b s m h =
     ap verdict_of (body_tests_lem b)
     ∙ verdict_go (header_tests b) (body_tests (header_shape b) (header_points b) b) (header_numbers b) h.verdict
-    ∙ ap₂ (λ (x : Shape) (n : ℕ). verdict_of (body_tests x n b)) (sym h.shape) (sym h.count)
-
-pub body_passes : (b : Bytes) (s : Shape) (m : ℕ) → headed b ≡ WellFormed s m → verdict_of (body_tests s m b) ≡ 0 → WellFormed s m ≡ questioned b
-body_passes b s m e z =
-    sym e ∙ ap (λ (v : ℕ). answered v b) ((well_headed b s m e).verdict ∙ sym (body_decides b s m e ∙ z))
+    ∙ ap₂ (λ (x : Shape) (n : ℕ). verdict_of (body_tests x n b)) (sym h.shape) (sym h.points)
 
 -- a header that is refused decides
-pub header_decides : (b : Bytes) (v : ℕ) → headed b ≡ Refused v → questioned b ≡ Refused v
+pub header_decides : (b : Bytes) (v : ℕ) → v ≡ verdict_of (header_tests b) → 0 < v → v ≡ question_verdict b
 unfolding question_tests
-header_decides b v e =
-    let h = header_refused b v e in
-    ap (λ (u : ℕ). answered u b) (verdict_stop (header_tests b) _ v h.1 h.0 ∙ sym h.0) ∙ e
+header_decides b v e z = sym (verdict_stop (header_tests b) _ v z (sym e))

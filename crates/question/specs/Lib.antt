@@ -1,1 +1,1 @@
-pub mod Questioned
+pub mod Asked

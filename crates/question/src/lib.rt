@@ -1,27 +1,37 @@
 // A question: its tests, which every entry makes first, and what it holds.
 #![tactic(auto)]
 
-ghost use Rattle.std.specs.Prelude.{◌≡◌, ◌&&◌, ◌+◌, ◌*◌, ◌≤◌, ltb, length, take, drop};
+ghost use Rattle.std.specs.Prelude.{◌≡◌, ◌&&◌, ◌+◌, ◌*◌, ◌≤◌, IfOk, ltb, length, take, drop};
 ghost use Rattle.lists.specs.Bytes.{halves};
 ghost use Rattle.lists.specs.Rising.{rising};
-ghost use Rattle.lists.specs.Tests.{all, same};
-ghost use Rattle.scheme.specs.Question.{mark, header_length, read_question};
-ghost use Rattle.question.specs.Questioned.{header_shape, headed, questioned};
-ghost use Rattle.question.specs.declared.Questioned.TheVariants.{WellFormed};
+ghost use Rattle.lists.specs.Tests.{all, same, verdict_of};
+ghost use Rattle.scheme.specs.Question.{mark, header_length, header_tests, question_verdict, read_question};
+ghost use Rattle.refusal.specs.Numbers.{number_of};
+ghost use Rattle.question.specs.Asked.{header_shape, Heads, Asks};
 
 use codec::{both, elements_in, half, in_range, read_halves, read_words, same_bytes, wide};
 use commitment::{
     Shape, challenges_at, indices_at, leaf_count, points_at, question_length, root_at, sizes_ok,
 };
+use refusal::Refusal;
 
 // "SWQ" and the version, 3, in two bytes.
 const MARK: [u8; 5] = [0x53, 0x57, 0x51, 3, 0];
 
-// The sizes of a well-formed question and m, its number of points; or the number of a refusal.
+// What a header asks for: sizes, and m, the number of evaluation points.
 #[derive(Clone, Copy)]
-pub enum Questioned {
-    WellFormed(Shape, u32),
-    Refused(u32),
+pub struct Heading {
+    pub shape: Shape,
+    pub m: u32,
+}
+
+// A well-formed question: its bytes, and what its header asks for.
+#[derive(Clone, Copy)]
+pub struct Query<'a> {
+    pub bytes: &'a [u8],
+    pub shape: Shape,
+    pub m: u32,
+    ghost asks: { Asks bytes.now shape m },
 }
 
 // Does a header begin with the mark?
@@ -57,22 +67,23 @@ fn header_shape(b: &[u8]) -> Shape
 }
 
 // The header's tests.
-pub fn header(b: &[u8]) -> Questioned
-    ensures { result ≡ headed b.now }
+pub fn header(b: &[u8]) -> Result<Heading, Refusal>
+    ensures verdict { number_of result ≡ verdict_of (header_tests b.now) }
+    ensures header { IfOk result (λ h. Heads b.now h.shape h.m) }
 {
     if b.len() < root_at() {
-        return Questioned::Refused(6);
+        return Err(Refusal::QuestionLength);
     }
     if !marked(b) {
-        return Questioned::Refused(5);
+        return Err(Refusal::Mark);
     }
-    let s = header_shape(b);
+    let shape = header_shape(b);
     let m = wide(b[13]);
-    let sizes = sizes_ok(s);
+    let sizes = sizes_ok(shape);
     if !both(sizes, in_range(1, m, 8)) {
-        return Questioned::Refused(1);
+        return Err(Refusal::Sizes);
     }
-    Questioned::WellFormed(s, m)
+    Ok(Heading { shape, m })
 }
 
 // Do the n numbers of two bytes from `at` on rise strictly, and is each below the number of leaves? `low` is the least that may come next.
@@ -91,71 +102,74 @@ fn indices_ok(b: &[u8], at: usize, n: usize, leaves: usize) -> bool
 }
 
 // The tests after the header's. Challenges and points stand one after the other, and are tested as one.
-fn body(question: &[u8], s: Shape, m: u32) -> Questioned
-    requires { headed question.now ≡ WellFormed s m }
-    ensures { result ≡ questioned question.now }
+fn body(question: &[u8], s: Shape, m: u32) -> Result<(), Refusal>
+    requires { Heads question.now s m }
+    ensures { number_of result ≡ question_verdict question.now }
 {
     let points = m as usize;
     if question.len() != question_length(s, points) {
-        return Questioned::Refused(6);
+        return Err(Refusal::QuestionLength);
     }
     let elements = s.eta as usize + points;
     if !elements_in(question, challenges_at(), elements) {
-        return Questioned::Refused(3);
+        return Err(Refusal::Element);
     }
     let leaves = leaf_count(s.h);
     if !indices_ok(question, indices_at(s, points), s.l as usize, leaves) {
-        return Questioned::Refused(4);
+        return Err(Refusal::Indices);
     }
-    Questioned::WellFormed(s, m)
+    Ok(())
 }
 
 // The question's tests, that every entry makes first.
-pub fn ask(question: &[u8]) -> Questioned
-    ensures { result ≡ questioned question.now }
+pub fn ask(question: &[u8]) -> Result<Query<'_>, Refusal>
+    ensures verdict { number_of result ≡ question_verdict question.now }
+    ensures query { IfOk result (λ q. q.bytes.now ≡ question.now) }
 {
-    let head = header(question);
-    match head {
-        Questioned::WellFormed(s, m) => body(question, s, m),
-        Questioned::Refused(v) => Questioned::Refused(v),
+    let Heading { shape, m } = header(question)?;
+    body(question, shape, m)?;
+    Ok(Query {
+        bytes: question,
+        shape,
+        m,
+    })
+}
+
+// ---- what a well-formed question holds
+
+// As many challenges, points and indices as a question can have.
+pub const MOST_CHALLENGES: usize = 4;
+
+pub const MOST_POINTS: usize = 8;
+
+pub const MOST_INDICES: usize = 64;
+
+// Each stands in front of the array.
+impl Query<'_> {
+    pub fn challenges(&self) -> [u32; MOST_CHALLENGES]
+        ensures { take self.now.shape.eta result ≡ (read_question self.now.bytes.now).challenges }
+    {
+        let mut challenges = [0u32; MOST_CHALLENGES];
+        let count = self.shape.eta as usize;
+        read_words(self.bytes, challenges_at(), count, &mut challenges);
+        challenges
     }
-}
 
-// ---- what a well-formed question holds, to the front of `out`
+    pub fn points(&self) -> [u32; MOST_POINTS]
+        ensures { take self.now.m result ≡ (read_question self.now.bytes.now).evaluation_points }
+    {
+        let mut points = [0u32; MOST_POINTS];
+        let at = points_at(self.shape);
+        read_words(self.bytes, at, self.m as usize, &mut points);
+        points
+    }
 
-// Room for as many challenges, points and indices as a question can have.
-pub fn blank_challenges() -> [u32; 4] {
-    [0u32; 4]
-}
-
-pub fn blank_points() -> [u32; 8] {
-    [0u32; 8]
-}
-
-pub fn blank_indices() -> [usize; 64] {
-    [0usize; 64]
-}
-
-// The challenges.
-pub fn question_challenges(question: &[u8], s: Shape, m: u32, out: &mut [u32])
-    requires { (questioned question.now ≡ WellFormed s m) × (4 ≤ length out.old) }
-    ensures { take s.eta out.new ≡ (read_question question.now).challenges }
-{
-    read_words(question, challenges_at(), s.eta as usize, out);
-}
-
-// The evaluation points.
-pub fn question_points(question: &[u8], s: Shape, m: u32, out: &mut [u32])
-    requires { (questioned question.now ≡ WellFormed s m) × (8 ≤ length out.old) }
-    ensures { take m out.new ≡ (read_question question.now).evaluation_points }
-{
-    read_words(question, points_at(s), m as usize, out);
-}
-
-// The indices.
-pub fn question_indices(question: &[u8], s: Shape, m: u32, out: &mut [usize])
-    requires { (questioned question.now ≡ WellFormed s m) × (64 ≤ length out.old) }
-    ensures { take s.l out.new ≡ (read_question question.now).indices }
-{
-    read_halves(question, indices_at(s, m as usize), s.l as usize, out);
+    pub fn indices(&self) -> [usize; MOST_INDICES]
+        ensures { take self.now.shape.l result ≡ (read_question self.now.bytes.now).indices }
+    {
+        let mut indices = [0usize; MOST_INDICES];
+        let at = indices_at(self.shape, self.m as usize);
+        read_halves(self.bytes, at, self.shape.l as usize, &mut indices);
+        indices
+    }
 }

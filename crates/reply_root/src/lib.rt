@@ -13,41 +13,29 @@ ghost use Rattle.tree.specs.Work.{permutations_for};
 
 use digests::{first_digest, leaf_digest};
 use node_sets::opened_index;
+use opened::LeafRecords;
 use sponge::Hashed;
 use tree_root::root_of;
 
-// The digest of each opened leaf: its record is handed on as the part of the reply that holds it. Returns how many permutations were run.
-fn leaf_digests(
-    salt: &[u8],
-    at: usize,
-    size: usize,
-    indices: &[usize],
-    reply: &[u8],
-    out: &mut [u8],
-) -> usize
-    requires { (length salt.now ≡ salt_length) × Below index_end indices.now × (size ≤ longest_record) × (at + size * length indices.now ≤ length reply.now) × (32 * length indices.now ≤ length out.old) }
-    ensures out_after { out.new ≡ rows_of (leaf_digest_at salt.now at size indices.now reply.now) (length indices.now) ++ drop (32 * length indices.now) out.old }
-    ensures value { result ≡ length indices.now * permutations_for (record_start + size) }
+const DIGEST: usize = 32; // bytes of a digest
+
+const MOST_LEAVES: usize = 64; // opened leaves of a reply
+
+// The digest of each opened leaf. Returns how many permutations were run.
+fn leaf_digests(salt: &[u8], indices: &[usize], records: &LeafRecords, out: &mut [u8]) -> usize
+    requires { (length salt.now ≡ salt_length) × Below index_end indices.now × (records.now.size ≤ longest_record) × (records.now.at + records.now.size * length indices.now ≤ length records.now.reply.now) × (32 * length indices.now ≤ length out.old) }
+    ensures out_after { out.new ≡ rows_of (leaf_digest_at salt.now records.now.at records.now.size indices.now records.now.reply.now) (length indices.now) ++ drop (32 * length indices.now) out.old }
+    ensures value { result ≡ length indices.now * permutations_for (record_start + records.now.size) }
 {
     let mut ran = 0;
     for a in 0..indices.len() {
-        let from = at + size * a;
-        let to = from + size;
-        let first = 32 * a;
-        let last = first + 32;
-        ran += leaf_digest(
-            salt,
-            opened_index(indices, a),
-            &reply[from..to],
-            &mut out[first..last],
-        );
+        let index = opened_index(indices, a);
+        let record = records.record(a);
+        let first = DIGEST * a;
+        let last = first + DIGEST;
+        ran += leaf_digest(salt, index, record, &mut out[first..last]);
     }
     ran
-}
-
-// Room for the digests of 64 leaves.
-fn blank_digests() -> [u8; 2048] {
-    [0u8; 2048]
 }
 
 // The root that the opened leaves, whose records begin at `at`, and the missing nodes after them give, and how many permutations were run for it.
@@ -63,8 +51,9 @@ pub fn reply_root(
     ensures digest_value { result.digest ≡ root_at salt.now h at size indices.now reply.now }
     ensures permutations_value { result.permutations ≡ length indices.now * permutations_for (record_start + size) + length (nodes_above 2 h indices.now) * permutations_for (prefix_length + 32 * 2) }
 {
-    let mut digests = blank_digests();
-    let leaves = leaf_digests(salt, at, size, indices, reply, &mut digests);
+    let mut digests = [0u8; DIGEST * MOST_LEAVES];
+    let records = LeafRecords { reply, at, size };
+    let leaves = leaf_digests(salt, indices, &records, &mut digests);
     let from = at + size * indices.len();
     let nodes = root_of(salt, h, indices, &mut digests, &reply[from..]);
     let digest = first_digest(&digests);

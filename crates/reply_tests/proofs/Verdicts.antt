@@ -1,18 +1,18 @@
 -- What the code tests, what its steps ask, and the order of the verdicts, for a question as the code holds it.
 use mathlib.Core.Path.{◌≡◌, refl, sym, ap, ap₂, subst, ◌∙◌}
 use mathlib.Core.Bool.{Bool, true, false, not}
-use mathlib.Core.List.{List, [], ◌∷◌, ◌++◌}
-use Prim.Native.Nat.{ℕ, ◌+◌, ◌-◌, ◌*◌, ◌≤◌, ◌<◌}
+use mathlib.Core.List.{List, [], ◌∷◌}
+use Prim.Native.Nat.{ℕ, ◌+◌, ◌*◌, ◌≤◌, ◌<◌}
 use native.Mathlib.Nat.{le_of_eq}
 use native.Mathlib.Omega.{arith}
 use lib.Dec.{eqb}
-use lib.ListN.{length, take, drop}
+use lib.ListN.{length, drop}
 use lib.Pow.{pow_pos}
 use borrow.Author.Tests.{eq-eqb, ne_eqb}
 use Rattle.tree.specs.Sets.{missing}
 use Rattle.tree.specs.Clauses.{IndexSet}
 use Rattle.lists.specs.All.{Below}
-use Rattle.lists.specs.Bytes.{Bytes, words, length-words}
+use Rattle.lists.specs.Bytes.{Bytes, length-words}
 use Rattle.lists.specs.Choice.{pick}
 use Rattle.lists.specs.Tests.{Test, verdict_of, every, each, same, verdict_hit, verdict_miss}
 use Rattle.tree.specs.Ancestors.{nodes_above}
@@ -31,10 +31,12 @@ use Rattle.reply_elements.specs.Elements.{record_elements_at}
 use Rattle.reply_root.specs.Root.{root_at}
 use Rattle.reply_root.proofs.Defined.{root_is}
 use Rattle.reply_tests.specs.Words.{batching_words, answer_words}
-use Rattle.reply_tests.specs.Posed.{posed, Posed, Read, later_tests}
-use Rattle.lists.specs.Parts.{read_front}
+use Rattle.commitment.specs.Shape.{sizes_in}
+use Rattle.reply_tests.specs.Posed.{Posed, Read, later_tests}
+use Rattle.reply_tests.specs.Asked.{asked}
+use Rattle.reply_tests.specs.declared.task.Task.{Task}
 use Rattle.node_sets.proofs.Sets.{indices_small}
-use Rattle.commitment.proofs.Places.{width-high, answers_fit}
+use Rattle.commitment.proofs.Places.{width-high}
 use Rattle.reply_tests.proofs.ReplyTests.{elements_are, batching_is, evaluation_is}
 
 -- ---- four tests in order
@@ -70,9 +72,30 @@ said_work u e f g = f ∙ g ∙ ap (work_by u) (sym e)
 pub no_work : (u : Question) (v : ℕ) → after_hashing v ≡ false → 0 ≡ work_by u v
 no_work u v h = sym (ap (λ (b : Bool). pick b (question_work u) 0) h)
 
-module _ (s : Sizes) (root salt challenges points indices reply : List ℕ) (p : Posed s salt challenges points indices) where
+module _ (task : Task) (reply : List ℕ) where
+  abbrev s : Sizes
+  s = sizes_in task.shape
+
+  abbrev root : Bytes
+  root = task.root.now
+
+  abbrev salt : Bytes
+  salt = task.salt.now
+
+  abbrev challenges : List ℕ
+  challenges = task.challenges.now
+
+  abbrev points : List ℕ
+  points = task.points.now
+
+  abbrev indices : List ℕ
+  indices = task.indices.now
+
+  abbrev p : Posed s salt challenges points indices
+  p = task.well_posed
+
   abbrev u : Question
-  u = posed s root salt challenges points indices
+  u = asked task
 
   abbrev r : Reply
   r = read_reply u reply
@@ -126,7 +149,7 @@ module _ (s : Sizes) (root salt challenges points indices reply : List ℕ) (p :
 
   -- ---- what the steps ask
 
-  pub index_set : IndexSet s.h indices
+  index_set : IndexSet s.h indices
   index_set = record {
     depth = p.in_order.h_high;
     some = omega (arith, p.opened, p.in_order.ℓ-low);
@@ -140,23 +163,12 @@ module _ (s : Sizes) (root salt challenges points indices reply : List ℕ) (p :
   records_end e f = ap₂ (λ (i j : ℕ). i + j * length indices) e f ∙ ap (λ (n : ℕ). records_at s (length points) + record_length s * n) p.opened
 
   module _ (whole : length reply ≡ reply_length u) where
-    pub root_fits : {at size : ℕ} → at ≡ records_at s (length points) → size ≡ record_length s
+    root_fits : {at size : ℕ} → at ≡ records_at s (length points) → size ≡ record_length s
         → at + size * length indices + 32 * length (missing 2 s.h indices) ≤ length reply
     root_fits e f = le_of_eq (ap (λ (n : ℕ). n + 32 * length (missing 2 s.h indices)) (records_end e f) ∙ sym whole)
 
     records_fit : {at size : ℕ} → at ≡ records_at s (length points) → size ≡ record_length s → at + size * length indices ≤ length reply
     records_fit e f = omega (arith, root_fits e f)
-
-    answers_end : records_at s (length points) ≤ length reply
-    answers_end = omega (arith, whole)
-
-    pub batching_fits : (wide : ℕ) → wide ≡ width s → 0 + 4 * (wide * length challenges) ≤ length reply
-    batching_fits wide e =
-        let g : wide * length challenges ≡ width s * s.η = ap₂ ◌*◌ e p.repetitions in
-        omega (arith, g, answers_end)
-
-    pub evaluation_fits : (wide from : ℕ) → wide ≡ width s → from ≡ answers_at s → from + 4 * (wide * length points) ≤ length reply
-    evaluation_fits wide from e f = answers_fit s (length points) wide from (length reply) e f answers_end
 
   -- ---- the tests
 
@@ -200,9 +212,6 @@ module _ (s : Sizes) (root salt challenges points indices reply : List ℕ) (p :
           ∙ ap₂ (λ (j k : ℕ). each (length indices) (evaluated_leaf (leaves s) (width s) points (answer_words u reply) indices (record_words_at j k (rows s) reply))) e f
           ∙ evaluation_is u reply refl p.opened
 
-      pub elements_asks : {n : ℕ} → n ≡ record_values s → (at + size * length indices ≤ length reply) × (4 * n ≤ size)
-      elements_asks g = (records_fit d.whole e f, omega (arith, f, g))
-
       pub batching_asks : {wide k : ℕ} → wide ≡ width s → k ≡ rows s
           → (0 < wide) × Below 65536 indices × (wide * length challenges ≤ length batching) × (k ≤ 64) × (length challenges ≤ 4)
           × (4 * (k + length challenges) ≤ size) × (at + size * length indices ≤ length reply)
@@ -232,19 +241,3 @@ module _ (s : Sizes) (root salt challenges points indices reply : List ℕ) (p :
         omega (arith, f, r),
         records_fit d.whole e f,
       )
-
-  -- ---- what was read
-
-  pub was_read : (wide from : ℕ) (b₀ a₀ b a : List ℕ) → length reply ≡ reply_length u → wide ≡ width s → from ≡ answers_at s
-      → b ≡ words (wide * length challenges) (drop 0 reply) ++ drop (wide * length challenges) b₀
-      → a ≡ words (wide * length points) (drop from reply) ++ drop (wide * length points) a₀
-      → Read u reply (take (wide * length challenges - 0) (drop 0 b)) (take (wide * length points - 0) (drop 0 a))
-  was_read wide from b₀ a₀ b a l ew ef eb ey = record {
-    whole = l;
-    batching_read =
-        read_front (wide * length challenges) (words (wide * length challenges) (drop 0 reply)) b₀ b (length-words _ _) eb
-        ∙ ap (λ (k : ℕ). words k reply) (ap₂ ◌*◌ ew p.repetitions);
-    answers_read =
-        read_front (wide * length points) (words (wide * length points) (drop from reply)) a₀ a (length-words _ _) ey
-        ∙ ap₂ (λ (k i : ℕ). words (k * length points) (drop i reply)) ew ef;
-  }

@@ -2,3 +2,4 @@
 
 pub mod Words
 pub mod Posed
+pub mod Asked

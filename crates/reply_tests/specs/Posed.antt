@@ -1,5 +1,7 @@
 -- A question as the code holds it: its sizes, its root and salt, and its challenges, points and indices in lists.
 use Rattle.std.specs.Prelude.{◌≡◌, not, List, [], ◌∷◌, ℕ, ◌≤◌, length}
+use Rattle.std.specs.Coded.{×_prop, Π_prop, Unit-prop, le_prop}
+use Rattle.std.proofs.Props.{props}
 use Rattle.lists.specs.All.{Below}
 use Rattle.lists.specs.Rising.{Rising}
 use Rattle.lists.specs.Bytes.{Bytes}
@@ -23,6 +25,18 @@ pub record Posed (s : Sizes) (salt : Bytes) (challenges points indices : List �
   pub opened : length indices ≡ s.ℓ
   pub rising : Rising indices
   pub below : Below (leaves s) indices
+
+-- each of these facts has one proof at most
+rising-prop : (xs : List ℕ) → IsProp (Rising xs)
+rising-prop [] = Unit-prop
+rising-prop (x ∷ xs) = ×_prop (Π_prop (λ y. Π_prop (λ m. le_prop))) (rising-prop xs)
+
+below-prop : (n : ℕ) (xs : List ℕ) → IsProp (Below n xs)
+below-prop n [] = Unit-prop
+below-prop n (x ∷ xs) = ×_prop le_prop (below-prop n xs)
+
+pub Posed-prop : (s : Sizes) (salt : Bytes) (challenges points indices : List ℕ) → IsProp (Posed s salt challenges points indices)
+Posed-prop s salt challenges points indices = hlevel (props, rising-prop, below-prop)
 
 -- the lists hold the answers of a reply of the right length
 pub record Read (u : Question) (reply : Bytes) (batching answers : List ℕ) : Type 0 where

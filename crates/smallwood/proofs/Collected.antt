@@ -10,6 +10,7 @@ use Rattle.scheme.specs.Collect.{for_rust, for_c, Call, Answered, NoCollision, C
 use Rattle.scheme.proofs.Work.{uncounted}
 use Rattle.fiat_shamir.specs.CollectProofs.{ProofCall, ProofAnswered, AnyCall, conversation, alone, AnyAnswered, joined}
 use Rattle.fiat_shamir.proofs.Joined.{collected_proofs}
+use Rattle.refusal.specs.Numbers.{number_of}
 use Rattle.checker.proofs.check.Kinds as check-kinds
 use Rattle.checker.proofs.check.Reads as check
 use Rattle.proof_checker.proofs.check_proof.Kinds as check-proof-kinds
@@ -23,11 +24,11 @@ use Rattle.smallwood.proofs.smallwood_check.Reads as smallwood-check
 
 module _ (κs : Lfts 3) (a : Dens κs check-kinds.ps) (r : (res_t check-kinds.r κs).Denot) (e : AtExit (ended_of 3 check-kinds.ps check-kinds.r) κs) where
   abbrev pub call_rust : Call
-  call_rust = record { entry = for_rust; question = a.0.now; reply = a.1.0.now; before = a.1.1.0.now; verdict = r.verdict; after = e.1.1.0.now }
+  call_rust = record { entry = for_rust; question = a.0.now; reply = a.1.0.now; before = a.1.1.0.now; verdict = number_of r.outcome; after = e.1.1.0.now }
 
   -- the contract of `check`, but for the count, is what the theorem asks of a call
   answered_rust : check.Learnt κs a r e → Answered call_rust
-  answered_rust h = record { outcome = uncounted a.0.now a.1.0.now a.1.1.0.now r.verdict r.permutations e.1.1.0.now h }
+  answered_rust h = record { outcome = uncounted a.0.now a.1.0.now a.1.1.0.now (number_of r.outcome) r.permutations e.1.1.0.now h }
 
 module _ (κs : Lfts 3) (a : Dens κs smallwood-check-kinds.ps) (r : (res_t smallwood-check-kinds.r κs).Denot) (e : AtExit (ended_of 3 smallwood-check-kinds.ps smallwood-check-kinds.r) κs) where
   abbrev pub call_c : Call
@@ -39,7 +40,7 @@ module _ (κs : Lfts 3) (a : Dens κs smallwood-check-kinds.ps) (r : (res_t smal
 
 module _ (κs : Lfts 3) (a : Dens κs check-proof-kinds.ps) (r : (res_t check-proof-kinds.r κs).Denot) (e : AtExit (ended_of 3 check-proof-kinds.ps check-proof-kinds.r) κs) where
   abbrev pub proof_rust : ProofCall
-  proof_rust = record { entry = for_rust; question = a.0.now; κ = a.1.0; proof = a.1.1.0.now; before = a.1.1.1.0.now; verdict = r; after = e.1.1.1.0.now }
+  proof_rust = record { entry = for_rust; question = a.0.now; κ = a.1.0; proof = a.1.1.0.now; before = a.1.1.1.0.now; verdict = number_of r; after = e.1.1.1.0.now }
 
   -- the contract of `check_proof`
   answered_proof : check-proof.Learnt κs a r e → ProofAnswered proof_rust

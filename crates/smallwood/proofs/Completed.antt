@@ -23,8 +23,9 @@ use Rattle.scheme.specs.Work.{checking_counted, question_work}
 use Rattle.scheme.specs.Honest.{WellLent, Names, Replied, true_values}
 use Rattle.scheme.proofs.Opening.{planning_is}
 use Rattle.scheme.proofs.Complete.{completeness}
-use Rattle.planner.specs.Planned.{verdict_in, number_in}
-use Rattle.opener.specs.Opened.{number_of as open_number, length_of as open_length}
+use Rattle.refusal.specs.Numbers.{number_of, given}
+use Rattle.commitment.specs.Shape.{sizes_in}
+use Rattle.lent.specs.Witnessed.{witnessed}
 use Rattle.committer.proofs.commit.Kinds as commit-kinds
 use Rattle.committer.proofs.commit.Reads as commit
 use Rattle.planner.proofs.reply_length.Kinds as size-kinds
@@ -106,56 +107,56 @@ module _ (s : Sizes) (l : Lent) (right : WellLent s l) where
 
 -- a call of each: committing, sizing, opening, checking
 module _
-    (κ₁ : Lfts 8) (a₁ : Dens κ₁ commit-kinds.ps) (r₁ : (res_t commit-kinds.r κ₁).Denot) (e₁ : AtExit (ended_of 8 commit-kinds.ps commit-kinds.r) κ₁) (h₁ : commit.Learnt κ₁ a₁ r₁ e₁)
+    (κ₁ : Lfts 4) (a₁ : Dens κ₁ commit-kinds.ps) (r₁ : (res_t commit-kinds.r κ₁).Denot) (e₁ : AtExit (ended_of 4 commit-kinds.ps commit-kinds.r) κ₁) (h₁ : commit.Learnt κ₁ a₁ r₁ e₁)
     (κ₂ : Lfts 1) (a₂ : Dens κ₂ size-kinds.ps) (r₂ : (res_t size-kinds.r κ₂).Denot) (e₂ : AtExit (ended_of 1 size-kinds.ps size-kinds.r) κ₂) (h₂ : size.Learnt κ₂ a₂ r₂ e₂)
-    (κ₃ : Lfts 10) (a₃ : Dens κ₃ open-kinds.ps) (r₃ : (res_t open-kinds.r κ₃).Denot) (e₃ : AtExit (ended_of 10 open-kinds.ps open-kinds.r) κ₃) (h₃ : open-reads.Learnt κ₃ a₃ r₃ e₃)
+    (κ₃ : Lfts 6) (a₃ : Dens κ₃ open-kinds.ps) (r₃ : (res_t open-kinds.r κ₃).Denot) (e₃ : AtExit (ended_of 6 open-kinds.ps open-kinds.r) κ₃) (h₃ : open-reads.Learnt κ₃ a₃ r₃ e₃)
     (κ₄ : Lfts 3) (a₄ : Dens κ₄ check-kinds.ps) (r₄ : (res_t check-kinds.r κ₄).Denot) (e₄ : AtExit (ended_of 3 check-kinds.ps check-kinds.r) κ₄) (h₄ : check.Learnt κ₄ a₄ r₄ e₄) where
   -- what committing was lent
   abbrev sizes_given : Sizes
-  sizes_given = sizes_of a₁.0 a₁.1.0 a₁.1.1.0 a₁.1.1.1.0 a₁.1.1.1.1.0 a₁.1.1.1.1.1.0 a₁.1.1.1.1.1.1.0
+  sizes_given = sizes_in a₁.0
 
   abbrev lent_given : Lent
-  lent_given = lent_of a₁.1.1.1.1.1.1.1.0.now a₁.1.1.1.1.1.1.1.1.0.now a₁.1.1.1.1.1.1.1.1.1.0.now a₁.1.1.1.1.1.1.1.1.1.1.0.now a₁.1.1.1.1.1.1.1.1.1.1.1.0.now a₁.1.1.1.1.1.1.1.1.1.1.1.1.0.now
+  lent_given = witnessed a₁.1.0.now
 
   -- the question that sizing was lent, and the length that it gave
   abbrev asked : Bytes
   asked = a₂.0.now
 
   abbrev planned : ℕ
-  planned = number_in r₂
+  planned = given r₂
 
   -- the calls belong together: each is lent what those before it left
   pub record Chained : Type 0 where
     pub right : WellLent sizes_given lent_given
-    pub room : filled_ok sizes_given a₁.1.1.1.1.1.1.1.1.1.1.1.1.1.0.now a₁.1.1.1.1.1.1.1.1.1.1.1.1.1.1.0.now ≡ true
+    pub room : filled_ok sizes_given a₁.1.1.0.now a₁.1.1.1.0.now ≡ true
     pub names : Names sizes_given lent_given asked
     -- opening: the same question, the same secrets and salt, the table and the tree as committing left them, a buffer of the length that sizing gave
     pub opened_question : a₃.0.now ≡ asked
-    pub opened_lent : lent_of a₃.1.0.now a₃.1.1.0.now a₃.1.1.1.0.now a₃.1.1.1.1.0.now a₃.1.1.1.1.1.1.0.now a₃.1.1.1.1.1.1.1.0.now ≡ lent_given
-    pub opened-table : a₃.1.1.1.1.1.0.now ≡ e₁.1.1.1.1.1.1.1.1.1.1.1.1.1.0.now
-    pub opened_tree : a₃.1.1.1.1.1.1.1.1.0.now ≡ e₁.1.1.1.1.1.1.1.1.1.1.1.1.1.1.0.now
-    pub buffer : length a₃.1.1.1.1.1.1.1.1.1.0.now ≡ planned
+    pub opened_lent : witnessed a₃.1.0.now ≡ lent_given
+    pub opened-table : a₃.1.1.0.now ≡ e₁.1.1.0.now
+    pub opened_tree : a₃.1.1.1.0.now ≡ e₁.1.1.1.0.now
+    pub buffer : length a₃.1.1.1.1.0.now ≡ planned
     -- checking: the same question, the reply as opening left it, a value buffer of its length
     pub checked_question : a₄.0.now ≡ asked
-    pub checked_reply : a₄.1.0.now ≡ e₃.1.1.1.1.1.1.1.1.1.0.now
+    pub checked_reply : a₄.1.0.now ≡ e₃.1.1.1.1.0.now
     pub values : length a₄.1.1.0.now ≡ sizes_given.w * (read_question asked).m
 
   -- then none of them refuses, the work is the question's, and the values are the true ones
-  pub completed : Chained → (r₁ ≡ 0) × (verdict_in r₂ ≡ 0) × (open_number r₃ ≡ 0) × (r₄.verdict ≡ 0) × (r₄.permutations ≡ question_work (read_question asked))
+  pub completed : Chained → (number_of r₁ ≡ 0) × (number_of r₂ ≡ 0) × (number_of r₃ ≡ 0) × (number_of r₄.outcome ≡ 0) × (r₄.permutations ≡ question_work (read_question asked))
       × (e₄.1.1.0.now ≡ true_values sizes_given lent_given (read_question asked).evaluation_points)
   completed c =
-      let one = committed sizes_given lent_given c.right a₁.1.1.1.1.1.1.1.1.1.1.1.1.1.0.now a₁.1.1.1.1.1.1.1.1.1.1.1.1.1.1.0.now c.room r₁ e₁.1.1.1.1.1.1.1.1.1.1.1.1.1.0.now
-      e₁.1.1.1.1.1.1.1.1.1.1.1.1.1.1.0.now h₁ in
-      let two = sized sizes_given lent_given c.right asked c.names (verdict_in r₂) planned h₂ in
-      let table : List ℕ = a₃.1.1.1.1.1.0.now in
-      let tree : Bytes = a₃.1.1.1.1.1.1.1.1.0.now in
-      let buffer : Bytes = a₃.1.1.1.1.1.1.1.1.1.0.now in
+      let one = committed sizes_given lent_given c.right a₁.1.1.0.now a₁.1.1.1.0.now c.room (number_of r₁) e₁.1.1.0.now
+      e₁.1.1.1.0.now h₁ in
+      let two = sized sizes_given lent_given c.right asked c.names (number_of r₂) planned h₂ in
+      let table : List ℕ = a₃.1.1.0.now in
+      let tree : Bytes = a₃.1.1.1.0.now in
+      let buffer : Bytes = a₃.1.1.1.1.0.now in
       let et : table ≡ table_of sizes_given lent_given = c.opened-table ∙ one.1 in
       let en : tree ≡ tree_of sizes_given lent_given = c.opened_tree ∙ one.2 in
       let fits : length buffer ≡ reply_length (read_question asked) = c.buffer ∙ two.1 in
-      let three = opened sizes_given lent_given c.right asked c.names table tree et en buffer fits (open_number r₃) (open_length r₃) e₃.1.1.1.1.1.1.1.1.1.0.now
+      let three = opened sizes_given lent_given c.right asked c.names table tree et en buffer fits (number_of r₃) (given r₃) e₃.1.1.1.1.0.now
       (h₃ ∙ ap₂ (λ (q : Bytes) (x : Lent). opening q x table tree buffer) c.opened_question c.opened_lent) in
-      let four = checked sizes_given lent_given c.right asked c.names table tree et en buffer fits a₄.1.0.now (c.checked_reply ∙ three.2) a₄.1.1.0.now c.values r₄.verdict r₄.permutations e₄.1.1.0.now
+      let four = checked sizes_given lent_given c.right asked c.names table tree et en buffer fits a₄.1.0.now (c.checked_reply ∙ three.2) a₄.1.1.0.now c.values (number_of r₄.outcome) r₄.permutations e₄.1.1.0.now
       (h₄ ∙ ap (λ (q : Bytes). checking_counted q a₄.1.0.now a₄.1.1.0.now) c.checked_question) in
       (one.0, two.0, three.0, four.0, four.1, four.2)
 

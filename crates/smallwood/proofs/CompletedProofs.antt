@@ -23,7 +23,9 @@ use Rattle.fiat_shamir.specs.Prove.{counter_ok, proof_bound, proving, proving_c}
 use Rattle.fiat_shamir.specs.CheckProof.{checking_proof, checking_proof_c}
 use Rattle.fiat_shamir.specs.HonestProofs.{NamesOffline, Proved, Unproved}
 use Rattle.fiat_shamir.proofs.Proved.{proof_completeness}
-use Rattle.prover.specs.Proved.{number_of, length_of}
+use Rattle.refusal.specs.Numbers.{number_of, given}
+use Rattle.commitment.specs.Shape.{sizes_in}
+use Rattle.lent.specs.Witnessed.{witnessed}
 use Rattle.committer.proofs.commit.Kinds as commit-kinds
 use Rattle.committer.proofs.commit.Reads as commit
 use Rattle.prover.proofs.prove.Kinds as prove-kinds
@@ -91,15 +93,15 @@ module _
 
 -- a call of each: committing, proving, checking
 module _
-    (κ₁ : Lfts 8) (a₁ : Dens κ₁ commit-kinds.ps) (r₁ : (res_t commit-kinds.r κ₁).Denot) (e₁ : AtExit (ended_of 8 commit-kinds.ps commit-kinds.r) κ₁) (h₁ : commit.Learnt κ₁ a₁ r₁ e₁)
-    (κ₂ : Lfts 10) (a₂ : Dens κ₂ prove-kinds.ps) (r₂ : (res_t prove-kinds.r κ₂).Denot) (e₂ : AtExit (ended_of 10 prove-kinds.ps prove-kinds.r) κ₂) (h₂ : prove.Learnt κ₂ a₂ r₂ e₂)
+    (κ₁ : Lfts 4) (a₁ : Dens κ₁ commit-kinds.ps) (r₁ : (res_t commit-kinds.r κ₁).Denot) (e₁ : AtExit (ended_of 4 commit-kinds.ps commit-kinds.r) κ₁) (h₁ : commit.Learnt κ₁ a₁ r₁ e₁)
+    (κ₂ : Lfts 6) (a₂ : Dens κ₂ prove-kinds.ps) (r₂ : (res_t prove-kinds.r κ₂).Denot) (e₂ : AtExit (ended_of 6 prove-kinds.ps prove-kinds.r) κ₂) (h₂ : prove.Learnt κ₂ a₂ r₂ e₂)
     (κ₃ : Lfts 3) (a₃ : Dens κ₃ check-kinds.ps) (r₃ : (res_t check-kinds.r κ₃).Denot) (e₃ : AtExit (ended_of 3 check-kinds.ps check-kinds.r) κ₃) (h₃ : check.Learnt κ₃ a₃ r₃ e₃) where
   -- what committing was lent
   abbrev sizes_given : Sizes
-  sizes_given = sizes_of a₁.0 a₁.1.0 a₁.1.1.0 a₁.1.1.1.0 a₁.1.1.1.1.0 a₁.1.1.1.1.1.0 a₁.1.1.1.1.1.1.0
+  sizes_given = sizes_in a₁.0
 
   abbrev lent_given : Lent
-  lent_given = lent_of a₁.1.1.1.1.1.1.1.0.now a₁.1.1.1.1.1.1.1.1.0.now a₁.1.1.1.1.1.1.1.1.1.0.now a₁.1.1.1.1.1.1.1.1.1.1.0.now a₁.1.1.1.1.1.1.1.1.1.1.1.0.now a₁.1.1.1.1.1.1.1.1.1.1.1.1.0.now
+  lent_given = witnessed a₁.1.0.now
 
   -- the question, κ and limit that proving was given, and the length that it gave
   abbrev asked : Bytes
@@ -112,39 +114,39 @@ module _
   tried = a₂.1.1.0
 
   abbrev proved_length : ℕ
-  proved_length = length_of r₂
+  proved_length = given r₂
 
   -- the calls belong together: each is lent what those before it left
   pub record ProofChained : Type 0 where
     pub right : WellLent sizes_given lent_given
-    pub room : filled_ok sizes_given a₁.1.1.1.1.1.1.1.1.1.1.1.1.1.0.now a₁.1.1.1.1.1.1.1.1.1.1.1.1.1.1.0.now ≡ true
+    pub room : filled_ok sizes_given a₁.1.1.0.now a₁.1.1.1.0.now ≡ true
     pub names : NamesOffline sizes_given lent_given asked bits
     -- proving: the same secrets and salt, the table and the tree as committing left them, a buffer for the longest proof
-    pub proved_lent : lent_of a₂.1.1.1.0.now a₂.1.1.1.1.0.now a₂.1.1.1.1.1.0.now a₂.1.1.1.1.1.1.0.now a₂.1.1.1.1.1.1.1.1.0.now a₂.1.1.1.1.1.1.1.1.1.0.now ≡ lent_given
-    pub proved_table : a₂.1.1.1.1.1.1.1.0.now ≡ e₁.1.1.1.1.1.1.1.1.1.1.1.1.1.0.now
-    pub proved_tree : a₂.1.1.1.1.1.1.1.1.1.1.0.now ≡ e₁.1.1.1.1.1.1.1.1.1.1.1.1.1.1.0.now
-    pub buffer : length a₂.1.1.1.1.1.1.1.1.1.1.1.0.now ≡ proof_bound asked
+    pub proved_lent : witnessed a₂.1.1.1.0.now ≡ lent_given
+    pub proved_table : a₂.1.1.1.1.0.now ≡ e₁.1.1.0.now
+    pub proved_tree : a₂.1.1.1.1.1.0.now ≡ e₁.1.1.1.0.now
+    pub buffer : length a₂.1.1.1.1.1.1.0.now ≡ proof_bound asked
     -- checking: the same question and κ, of what proving left as many bytes as it said, a value buffer of the right length
     pub checked_question : a₃.0.now ≡ asked
     pub checked-bits : a₃.1.0 ≡ bits
-    pub checked_proof : a₃.1.1.0.now ≡ take proved_length e₂.1.1.1.1.1.1.1.1.1.1.1.0.now
+    pub checked_proof : a₃.1.1.0.now ≡ take proved_length e₂.1.1.1.1.1.1.0.now
     pub values : length a₃.1.1.1.0.now ≡ sizes_given.w * header_points asked
 
   -- then proving refuses with 11 only where no counter below the limit qualifies; else neither refuses, and the values are the true ones
-  pub completed_proof : ProofChained → (r₁ ≡ 0)
-      × (((number_of r₂ ≡ 11) × NoCounter lent_given asked bits tried) ⊎ ((number_of r₂ ≡ 0) × (r₃ ≡ 0) × (e₃.1.1.1.0.now ≡ true_values sizes_given lent_given (offline_points asked))))
+  pub completed_proof : ProofChained → (number_of r₁ ≡ 0)
+      × (((number_of r₂ ≡ 11) × NoCounter lent_given asked bits tried) ⊎ ((number_of r₂ ≡ 0) × (number_of r₃ ≡ 0) × (e₃.1.1.1.0.now ≡ true_values sizes_given lent_given (offline_points asked))))
   completed_proof c =
-      let one = committed sizes_given lent_given c.right a₁.1.1.1.1.1.1.1.1.1.1.1.1.1.0.now a₁.1.1.1.1.1.1.1.1.1.1.1.1.1.1.0.now c.room r₁
-      e₁.1.1.1.1.1.1.1.1.1.1.1.1.1.0.now e₁.1.1.1.1.1.1.1.1.1.1.1.1.1.1.0.now h₁ in
-      let table : List ℕ = a₂.1.1.1.1.1.1.1.0.now in
-      let tree : Bytes = a₂.1.1.1.1.1.1.1.1.1.1.0.now in
-      let buffer : Bytes = a₂.1.1.1.1.1.1.1.1.1.1.1.0.now in
+      let one = committed sizes_given lent_given c.right a₁.1.1.0.now a₁.1.1.1.0.now c.room (number_of r₁)
+      e₁.1.1.0.now e₁.1.1.1.0.now h₁ in
+      let table : List ℕ = a₂.1.1.1.1.0.now in
+      let tree : Bytes = a₂.1.1.1.1.1.0.now in
+      let buffer : Bytes = a₂.1.1.1.1.1.1.0.now in
       let proof : Bytes = a₃.1.1.0.now in
       let values : List ℕ = a₃.1.1.1.0.now in
       let two = proved sizes_given lent_given c.right asked bits tried c.names table tree (c.proved_table ∙ one.1) (c.proved_tree ∙ one.2) buffer c.buffer
-      (number_of r₂) proved_length e₂.1.1.1.1.1.1.1.1.1.1.1.0.now
+      (number_of r₂) proved_length e₂.1.1.1.1.1.1.0.now
       (h₂ ∙ ap (λ (x : Lent). proving asked bits tried x table tree buffer) c.proved_lent) proof c.checked_proof in
-      let three : (r₃, e₃.1.1.1.0.now) ≡ checking_proof asked bits proof values =
+      let three : (number_of r₃, e₃.1.1.1.0.now) ≡ checking_proof asked bits proof values =
       h₃ ∙ ap₂ (λ (x : Bytes) (k : ℕ). checking_proof x k proof values) c.checked_question c.checked-bits in
       (one.0, ⊎_map (λ u. u) (λ y. let e = three ∙ y.1.0 values c.values in (y.0, first e, rest e)) two)
 

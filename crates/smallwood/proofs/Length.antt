@@ -15,9 +15,11 @@ use Rattle.scheme.specs.Open.{open_verdict, opening, opening_c}
 use Rattle.scheme.proofs.Accepted.{well_formed}
 use Rattle.scheme.proofs.Opening.{question_passed}
 use Rattle.scheme.proofs.Lengths.{some_bytes}
-use Rattle.opener.specs.Opened.{number_of, length_of}
-use Rattle.opener.specs.declared.Opened.{Opened}
-use Rattle.opener.specs.declared.Opened.TheVariants.{Reply, Refused}
+use Rattle.std.specs.Prelude.{Result}
+use Rattle.std.specs.Prelude.Result.{Ok, Err}
+use Rattle.refusal.specs.declared.Refusal.{Refusal}
+use Rattle.refusal.specs.Numbers.{number, number_of, given}
+use Rattle.smallwood.specs.Told.{told}
 
 module _ (question : Bytes) (l : Lent) (table : List ℕ) (nodes buffer : Bytes) (before : ℕ) where
   -- a length of 0 comes with a refusal
@@ -29,15 +31,10 @@ module _ (question : Bytes) (l : Lent) (table : List ℕ) (nodes buffer : Bytes)
       let n : 0 ≡ reply_length u = ap (λ (x : ℕ × ℕ × Bytes). x.1) e ∙ ap (λ (k : ℕ). pick (eqb k 0) (reply_length u) 0) o in
       not-suc-le-zero (subst (λ (k : ℕ). 0 < k) (sym n) (some_bytes u (well_formed question (question_passed question l table nodes buffer o))))
 
-  module _ (answer : Opened) (reply : Bytes) (e : (number_of answer, length_of answer, reply) ≡ opening question l table nodes buffer) where
-    pub length-written : (n : ℕ) → answer ≡ Reply n → (0, n, reply) ≡ opening_c question l table nodes buffer before
-    unfolding opening_c
-    length-written n k =
-        ap (λ (x : ℕ × ℕ × Bytes). (x.0, pick (eqb x.0 0) x.1 before, x.2)) (ap (λ (a : Opened). (number_of a, length_of a, reply)) (sym k) ∙ e)
-
-    pub length_left : (v : ℕ) → answer ≡ Refused v → (v, before, reply) ≡ opening_c question l table nodes buffer before
-    unfolding opening_c
-    length_left v k =
-        let f : (v, 0, reply) ≡ opening question l table nodes buffer = ap (λ (a : Opened). (number_of a, length_of a, reply)) (sym k) ∙ e in
-        ap (λ (b : Bool). (v, pick b 0 before, reply)) (sym (ne_eqb v 0 (refusal v reply f)))
-        ∙ ap (λ (x : ℕ × ℕ × Bytes). (x.0, pick (eqb x.0 0) x.1 before, x.2)) f
+  pub length_told : (answer : Result ℕ Refusal) (reply : Bytes) → (number_of answer, given answer, reply) ≡ opening question l table nodes buffer
+      → ((told answer before).0, (told answer before).1, reply) ≡ opening_c question l table nodes buffer before
+  unfolding opening_c
+  length_told (Ok n) reply e = ap (λ (x : ℕ × ℕ × Bytes). (x.0, pick (eqb x.0 0) x.1 before, x.2)) e
+  length_told (Err r) reply e =
+      ap (λ (b : Bool). (number r, pick b 0 before, reply)) (sym (ne_eqb (number r) 0 (refusal (number r) reply e)))
+      ∙ ap (λ (x : ℕ × ℕ × Bytes). (x.0, pick (eqb x.0 0) x.1 before, x.2)) e

@@ -1,42 +1,30 @@
 -- The check on words and the check on bytes.
 use mathlib.Core.Path.{◌≡◌, refl, sym, ap, ap₂, ◌∙◌, subst}
 use mathlib.Core.Bool.{Bool, true, false, not}
-use mathlib.Core.List.{List, [], ◌∷◌, ◌++◌, append-nil}
-use Prim.Native.Nat.{ℕ, ◌+◌, ◌*◌, ◌≤◌, ◌<◌}
-use native.Mathlib.Nat.{one-mul, zero-add, le_of_eq, not-suc-le-zero}
+use mathlib.Core.List.{List, ◌∷◌, ◌++◌}
+use Prim.Native.Nat.{ℕ, ◌*◌, ◌≤◌, ◌<◌}
+use native.Mathlib.Nat.{one-mul, not-suc-le-zero}
 use native.Mathlib.Omega.{arith}
 use lib.Dec.{eqb}
-use lib.ListN.{length, take, drop, drop_of_length-le}
+use lib.ListN.{length}
 use borrow.Author.Tests.{eq-eqb, ne_eqb}
 use Rattle.lists.specs.Choice.{pick}
 use Rattle.lists.specs.Bytes.{Bytes, bytes_of}
 use Rattle.lists.specs.Tests.{Test, Numbered, verdict_of, verdict_go, verdict_stop, verdict_hit}
 use Rattle.scheme.specs.Sizes.{Sizes, SizesInOrder}
-use Rattle.scheme.specs.Question.{Question, read_question, question_tests}
+use Rattle.scheme.specs.Question.{Question, read_question, question_tests, question_verdict}
 use Rattle.scheme.specs.Reply.{read_reply}
 use Rattle.scheme.specs.Commit.{after}
 use Rattle.scheme.specs.Check.{check_verdict, check_values, reply_tests, checking, checking_c}
 use Rattle.scheme.proofs.Accepted.{well_formed, question_numbers}
 use Rattle.commitment.specs.Shape.{sizes_in}
 use Rattle.commitment.proofs.Places.{buffer_high}
-use Rattle.question.specs.Questioned.{questioned}
+use Rattle.question.specs.Asked.{Asks}
 use Rattle.commitment.specs.declared.Shape.{Shape}
-use Rattle.question.specs.declared.Questioned.TheVariants.{WellFormed, Refused}
-use Rattle.question.proofs.Answer.{well_asked, refused}
+use Rattle.question.proofs.Answer.{well_asked}
 use Rattle.smallwood.specs.InBytes.{in_bytes}
 
 -- ---- words written as bytes
-
-module _ (z : ℕ × List ℕ) (before : Bytes) (v : ℕ) (vs : List ℕ) (e : (v, vs) ≡ z) where
-  pub bytes-refused : (v ≡ 0 → ⊥) → (v, before) ≡ in_bytes z before
-  bytes-refused k = ap (λ (b : Bool). (v, pick b (bytes_of vs) before)) (sym (ne_eqb v 0 k)) ∙ ap (λ (x : ℕ × List ℕ). in_bytes x before) e
-
-  pub bytes-taken : v ≡ 0 → length before ≡ 4 * length vs → (out : Bytes) → out ≡ take 0 before ++ (bytes_of vs ++ drop (0 + 4 * length vs) before) → (0, out) ≡ in_bytes z before
-  bytes-taken k n out f =
-      let none : drop (0 + 4 * length vs) before ≡ [] = drop_of_length-le before (le_of_eq (n ∙ sym (zero-add (4 * length vs)))) in
-      ap (λ (t : Bytes). (0, t)) (f ∙ ap (λ (t : Bytes). bytes_of vs ++ t) none ∙ append-nil (bytes_of vs))
-      ∙ ap (λ (n : ℕ). in_bytes (n, vs) before) (sym k)
-      ∙ ap (λ (x : ℕ × List ℕ). in_bytes x before) e
 
 once : (b : Bool) (vs words : List ℕ) (before : Bytes) → pick b (bytes_of (pick b vs words)) before ≡ pick b (bytes_of vs) before
 once true vs words before = refl
@@ -79,7 +67,7 @@ module _ (tests rest : List Test) (numbered : Numbered tests) (k : ℕ) (vs : Li
 -- ---- the check of a reply
 
 -- the values fit into 2,048 words
-pub few_values : (b : Bytes) (s : Shape) (m : ℕ) → questioned b ≡ WellFormed s m → s.w * m ≤ 2048
+pub few_values : (b : Bytes) (s : Shape) (m : ℕ) → Asks b s m → s.w * m ≤ 2048
 few_values b s m e =
     let a = well_asked b s m e in
     let h = well_formed b a.0 in
@@ -95,11 +83,11 @@ module _ (question reply before : Bytes) where
   abbrev vs : List ℕ
   vs = check_values u (read_reply u reply)
 
-  pub question_refused : (v : ℕ) → questioned question ≡ Refused v → (v, before) ≡ checking_c question reply before
+  pub question_refused : (v : ℕ) → 0 < v → v ≡ question_verdict question → (v, before) ≡ checking_c question reply before
   unfolding checking_c check_verdict
-  question_refused v e = let a = refused question v e in bytes_stop (question_tests question) (reply_tests u reply) (question_numbers question) k vs before v a.1 a.0
+  question_refused v p e = bytes_stop (question_tests question) (reply_tests u reply) (question_numbers question) k vs before v p (sym e)
 
-  module _ (s : Shape) (m : ℕ) (e : questioned question ≡ WellFormed s m) where
+  module _ (s : Shape) (m : ℕ) (e : Asks question s m) where
     count : s.w * m ≡ k
     count = let a = well_asked question s m e in ap₂ (λ (t : Sizes) (j : ℕ). t.w * j) a.1 a.2
 

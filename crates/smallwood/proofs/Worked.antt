@@ -13,7 +13,7 @@ use Rattle.scheme.specs.Question.{read_question}
 use Rattle.scheme.specs.Sizing.{planning_c}
 use Rattle.scheme.specs.Work.{after_hashing, counting, counting_c, work_bound, Counted}
 use Rattle.scheme.proofs.Work.{all_counted}
-use Rattle.planner.specs.Planned.{verdict_in, number_in}
+use Rattle.refusal.specs.Numbers.{number_of, given}
 use Rattle.planner.proofs.permutations.Kinds as plan-kinds
 use Rattle.planner.proofs.permutations.Reads as plan
 use Rattle.checker.proofs.check.Kinds as check-kinds
@@ -25,18 +25,18 @@ module _ (κs : Lfts 3) (a : Dens κs check-kinds.ps) (r : (res_t check-kinds.r 
   abbrev asked : Bytes
   asked = a.0.now
 
-  work-counted : Counted asked (r.verdict, r.permutations, e.1.1.0.now)
+  work-counted : Counted asked (number_of r.outcome, r.permutations, e.1.1.0.now)
   work-counted = subst (Counted asked) (sym h) (all_counted asked a.1.0.now a.1.1.0.now)
 
   pub never_over : r.permutations ≤ work_bound (read_question asked).sizes
   never_over = work-counted.bounded
 
-  module _ (hashing : after_hashing r.verdict ≡ true) where
+  module _ (hashing : after_hashing (number_of r.outcome) ≡ true) where
     -- the entry of Rattle
     pub foretold : (κ₁ : Lfts 1) (a₁ : Dens κ₁ plan-kinds.ps) (r₁ : (res_t plan-kinds.r κ₁).Denot) (e₁ : AtExit (ended_of 1 plan-kinds.ps plan-kinds.r) κ₁) → plan.Learnt κ₁ a₁ r₁ e₁
-        → a₁.0.now ≡ asked → (verdict_in r₁ ≡ 0) × (number_in r₁ ≡ r.permutations)
+        → a₁.0.now ≡ asked → (number_of r₁ ≡ 0) × (given r₁ ≡ r.permutations)
     foretold κ₁ a₁ r₁ e₁ h₁ same =
-        let k : ◌≡◌ {A = ℕ × ℕ} (verdict_in r₁, number_in r₁) (0, r.permutations) = h₁ ∙ ap counting same ∙ work-counted.planned hashing in
+        let k : ◌≡◌ {A = ℕ × ℕ} (number_of r₁, given r₁) (0, r.permutations) = h₁ ∙ ap counting same ∙ work-counted.planned hashing in
         (ap (λ (z : ℕ × ℕ). z.0) k, ap (λ (z : ℕ × ℕ). z.1) k)
 
     -- the entry for C

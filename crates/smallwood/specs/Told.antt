@@ -1,8 +1,9 @@
--- What a planner's answer leaves: the number returned, and the lent number after it.
-use Rattle.std.specs.Prelude.{ℕ}
-use Rattle.planner.specs.declared.Planned.{Planned}
-use Rattle.planner.specs.declared.Planned.TheVariants.{Number, Refused}
+-- What an answer with a number leaves: the number returned, and the lent number after it.
+use Rattle.std.specs.Prelude.{ℕ, Result}
+use Rattle.std.specs.Prelude.Result.{Ok, Err}
+use Rattle.refusal.specs.declared.Refusal.{Refusal}
+use Rattle.refusal.specs.Numbers.{number}
 
-abbrev pub told : Planned → ℕ → ℕ × ℕ
-told (Number n) before = (0, n)
-told (Refused v) before = (v, before)
+abbrev pub told : Result ℕ Refusal → ℕ → ℕ × ℕ
+told (Ok n) before = (0, n)
+told (Err r) before = (number r, before)

@@ -1,7 +1,7 @@
 // The entries for C. A slice is a pointer and a length in elements; no entry keeps anything between calls.
 #![tactic(auto)]
 
-ghost use Rattle.std.specs.Prelude.{◌≡◌, ◌*◌, length};
+ghost use Rattle.std.specs.Prelude.{◌≡◌, ◌≢◌, ◌*◌, ◌≤◌, IfErr, OnOk, length, replicate, take};
 ghost use Rattle.scheme.specs.Sizes.{sizes_of};
 ghost use Rattle.scheme.specs.Layers.{lent_of};
 ghost use Rattle.scheme.specs.Commit.{committing};
@@ -12,16 +12,16 @@ ghost use Rattle.scheme.specs.Check.{checking, checking_c};
 ghost use Rattle.scheme.specs.Interpolate.{interpolating};
 ghost use Rattle.fiat_shamir.specs.Prove.{proving_c};
 ghost use Rattle.fiat_shamir.specs.CheckProof.{checking_proof, checking_proof_c};
+ghost use Rattle.refusal.specs.Numbers.{number, number_of};
 ghost use Rattle.smallwood.specs.InBytes.{in_bytes};
 ghost use Rattle.smallwood.specs.Told.{told};
 
-use checker::WRONG_BUFFER;
 use codec::put_words;
+use commitment::Shape;
+use lent::Witness;
 use offline_question::ask_offline;
-use opener::Opened;
-use planner::Planned;
-use prover::Proved;
-use question::{Questioned, ask};
+use question::ask;
+use refusal::{Refusal, number_of};
 
 // Commits: fills the table and the tree, or returns the number of a refusal and leaves them as they were.
 #[unsafe(no_mangle)]
@@ -44,7 +44,7 @@ pub extern "C" fn smallwood_commit(
 ) -> u32
     ensures { (result, table.new, tree.new) ≡ committing (sizes_of h mu nu w l eta beta) (lent_of coefficients.now tails.now blinds.now masks.now nonces.now salt.now) table.old tree.old }
 {
-    committer::commit(
+    let shape = Shape {
         h,
         mu,
         nu,
@@ -52,27 +52,28 @@ pub extern "C" fn smallwood_commit(
         l,
         eta,
         beta,
+    };
+    let witness = Witness {
         coefficients,
         tails,
         blinds,
         masks,
         nonces,
         salt,
-        table,
-        tree,
-    )
+    };
+    number_of(committer::commit(shape, &witness, table, tree))
 }
 
-// Hands on a planner's answer: writes the number, or returns that of a refusal and leaves the number as it was.
-fn put_planned(answer: Planned, number: &mut u64) -> u32
+// Hands on an answer with a number: writes it, or returns that of a refusal and leaves the number as it was.
+fn put_number(answer: Result<usize, Refusal>, number: &mut u64) -> u32
     ensures { (result, number.new) ≡ told answer number.old }
 {
     match answer {
-        Planned::Number(n) => {
+        Ok(n) => {
             *number = n as u64;
             0
         }
-        Planned::Refused(v) => v,
+        Err(refusal) => refusal.number(),
     }
 }
 
@@ -81,7 +82,7 @@ fn put_planned(answer: Planned, number: &mut u64) -> u32
 pub extern "C" fn smallwood_reply_length(question: &[u8], length: &mut u64) -> u32
     ensures { (result, length.new) ≡ sizing_c question.now length.old }
 {
-    put_planned(planner::reply_length(question), length)
+    put_number(planner::reply_length(question), length)
 }
 
 // Counts: writes how many permutations the check of a reply to a question runs where it comes to hashing, or returns the number of a refusal and leaves the count as it was.
@@ -89,7 +90,7 @@ pub extern "C" fn smallwood_reply_length(question: &[u8], length: &mut u64) -> u
 pub extern "C" fn smallwood_permutations(question: &[u8], count: &mut u64) -> u32
     ensures { (result, count.new) ≡ counting_c question.now count.old }
 {
-    put_planned(planner::permutations(question), count)
+    put_number(planner::permutations(question), count)
 }
 
 // Opens: fills the reply and writes its length, or returns the number of a refusal and leaves both as they were.
@@ -109,79 +110,81 @@ pub extern "C" fn smallwood_open(
 ) -> u32
     ensures { (result, length.new, reply.new) ≡ opening_c question.now (lent_of coefficients.now tails.now blinds.now masks.now nonces.now salt.now) table.now tree.now reply.old length.old }
 {
-    let answer = opener::open(
-        question,
+    let witness = Witness {
         coefficients,
         tails,
         blinds,
         masks,
-        table,
         nonces,
         salt,
-        tree,
-        reply,
-    );
-    match answer {
-        Opened::Reply(n) => {
-            *length = n as u64;
-            0
-        }
-        Opened::Refused(v) => v,
+    };
+    let opened = opener::open(question, &witness, table, tree, reply);
+    put_number(opened, length)
+}
+
+// Up to so many values a small array does, since arrays are cleared; and the most.
+const FEW_VALUES: usize = 64;
+
+const MOST_VALUES: usize = 2048;
+
+// Is the buffer as long as so many words?
+fn test_buffer(values: &[u8], words: usize) -> Result<(), Refusal>
+    requires { words ≤ 2048 }
+    ensures fits { OnOk result (length values.now ≡ 4 * words) }
+    ensures other { IfErr result (λ r. (number r ≡ 2) × (length values.now ≢ 4 * words)) }
+{
+    if values.len() != 4 * words {
+        return Err(Refusal::Length);
     }
+    Ok(())
 }
 
-// Room for the values as words, and for at most 64 of them. Functions of their own, so that a caller's goals do not show the zeros.
-fn blank() -> [u32; 2048] {
-    [0u32; 2048]
-}
-
-fn blank_few() -> [u32; 64] {
-    [0u32; 64]
-}
-
-// Hands on a verdict, and after verdict 0 the words as bytes.
-fn put_values(verdict: u32, words: &[u32], values: &mut [u8]) -> u32
+// Hands on what a check says, and where it is no refusal the words as bytes.
+fn put_values(outcome: Result<(), Refusal>, words: &[u32], values: &mut [u8]) -> Result<(), Refusal>
     requires { length values.old ≡ 4 * length words.now }
-    ensures { (result, values.new) ≡ in_bytes (verdict, words.now) values.old }
+    ensures { (number_of result, values.new) ≡ in_bytes (number_of outcome, words.now) values.old }
 {
-    if verdict != 0 {
-        return verdict;
-    }
+    outcome?;
     put_words(values, 0, words);
-    0
+    Ok(())
 }
 
-// The check by way of lent words, which are written as bytes on verdict 0.
-fn check_into(question: &[u8], reply: &[u8], words: &mut [u32], values: &mut [u8]) -> u32
-    requires { length values.old ≡ 4 * length words.old }
-    ensures { (result, values.new) ≡ in_bytes (checking question.now reply.now words.old) values.old }
+// The check with room for so many words, which are written as bytes where it is no refusal.
+fn check_in<const ROOM: usize>(
+    question: &[u8],
+    reply: &[u8],
+    count: usize,
+    values: &mut [u8],
+) -> Result<(), Refusal>
+    requires { (ROOM ≤ 2048) × (count ≤ ROOM) × (length values.old ≡ 4 * count) }
+    ensures { (number_of result, values.new) ≡ in_bytes (checking question.now reply.now (take count (replicate ROOM 0))) values.old }
 {
+    let mut room = [0u32; ROOM];
+    let words = &mut room[..count];
     let checked = checker::check(question, reply, words);
-    put_values(checked.verdict, words, values)
+    put_values(checked.outcome, words, values)
 }
 
-// Checks: writes the values, four bytes each, or returns the number of a refusal and leaves them as they were. Few values take a small array, since arrays are cleared.
+// The check with the values as bytes: few of them take a small array.
+fn check_bytes(question: &[u8], reply: &[u8], values: &mut [u8]) -> Result<(), Refusal>
+    ensures { (number_of result, values.new) ≡ checking_c question.now reply.now values.old }
+{
+    let query = ask(question)?;
+    let count = query.shape.w as usize * query.m as usize;
+    test_buffer(values, count)?;
+    if count <= FEW_VALUES {
+        check_in::<FEW_VALUES>(question, reply, count, values)
+    } else {
+        check_in::<MOST_VALUES>(question, reply, count, values)
+    }
+}
+
+// Checks: writes the values, four bytes each, or returns the number of a refusal and leaves them as they were.
 #[unsafe(no_mangle)]
 pub extern "C" fn smallwood_check(question: &[u8], reply: &[u8], values: &mut [u8]) -> u32
     ensures { (result, values.new) ≡ checking_c question.now reply.now values.old }
 {
-    let answer = ask(question);
-    match answer {
-        Questioned::WellFormed(s, m) => {
-            let n = s.w as usize * m as usize;
-            if values.len() != 4 * n {
-                return WRONG_BUFFER;
-            }
-            if n <= 64 {
-                let mut words = blank_few();
-                check_into(question, reply, &mut words[0..n], values)
-            } else {
-                let mut words = blank();
-                check_into(question, reply, &mut words[0..n], values)
-            }
-        }
-        Questioned::Refused(v) => v,
-    }
+    number_of(check_bytes(question, reply, values))
 }
 
 // ---- proofs without a conversation
@@ -205,45 +208,55 @@ pub extern "C" fn smallwood_prove(
 ) -> u32
     ensures { (result, length.new, proof.new) ≡ proving_c question.now kappa limit (lent_of coefficients.now tails.now blinds.now masks.now nonces.now salt.now) table.now tree.now proof.old length.old }
 {
-    let answer = prover::prove(
-        question,
-        kappa,
-        limit,
+    let witness = Witness {
         coefficients,
         tails,
         blinds,
         masks,
-        table,
         nonces,
         salt,
-        tree,
-        proof,
-    );
-    match answer {
-        Proved::Proof(n) => {
-            *length = n as u64;
-            0
-        }
-        Proved::Refused(v) => v,
-    }
+    };
+    let proved = prover::prove(question, kappa, limit, &witness, table, tree, proof);
+    put_number(proved, length)
 }
 
-// The check of a proof by way of lent words, which are written as bytes on verdict 0.
-fn check_proof_into(
+// The check of a proof with room for so many words, which are written as bytes where it is no refusal.
+fn check_proof_in<const ROOM: usize>(
     question: &[u8],
     kappa: u32,
     proof: &[u8],
-    words: &mut [u32],
+    count: usize,
     values: &mut [u8],
-) -> u32
-    requires { length values.old ≡ 4 * length words.old }
-    ensures { (result, values.new) ≡ in_bytes (checking_proof question.now kappa proof.now words.old) values.old }
+) -> Result<(), Refusal>
+    requires { (ROOM ≤ 2048) × (count ≤ ROOM) × (length values.old ≡ 4 * count) }
+    ensures { (number_of result, values.new) ≡ in_bytes (checking_proof question.now kappa proof.now (take count (replicate ROOM 0))) values.old }
 {
-    let verdict = proof_checker::check_proof(question, kappa, proof, words);
-    put_values(verdict, words, values)
+    let mut room = [0u32; ROOM];
+    let words = &mut room[..count];
+    let outcome = proof_checker::check_proof(question, kappa, proof, words);
+    put_values(outcome, words, values)
 }
 
-// Checks a proof: writes the values, four bytes each, or returns the number of a refusal and leaves them as they were. Few values take a small array, since arrays are cleared.
+// The check of a proof with the values as bytes: few of them take a small array.
+fn check_proof_bytes(
+    question: &[u8],
+    kappa: u32,
+    proof: &[u8],
+    values: &mut [u8],
+) -> Result<(), Refusal>
+    ensures { (number_of result, values.new) ≡ checking_proof_c question.now kappa proof.now values.old }
+{
+    let query = ask_offline(question, kappa)?;
+    let count = query.shape.w as usize * query.m as usize;
+    test_buffer(values, count)?;
+    if count <= FEW_VALUES {
+        check_proof_in::<FEW_VALUES>(question, kappa, proof, count, values)
+    } else {
+        check_proof_in::<MOST_VALUES>(question, kappa, proof, count, values)
+    }
+}
+
+// Checks a proof: writes the values, four bytes each, or returns the number of a refusal and leaves them as they were.
 #[unsafe(no_mangle)]
 pub extern "C" fn smallwood_check_proof(
     question: &[u8],
@@ -253,23 +266,7 @@ pub extern "C" fn smallwood_check_proof(
 ) -> u32
     ensures { (result, values.new) ≡ checking_proof_c question.now kappa proof.now values.old }
 {
-    let answer = ask_offline(question, kappa);
-    match answer {
-        Questioned::WellFormed(s, m) => {
-            let count = s.w as usize * m as usize;
-            if values.len() != 4 * count {
-                return WRONG_BUFFER;
-            }
-            if count <= 64 {
-                let mut words = blank_few();
-                check_proof_into(question, kappa, proof, &mut words[0..count], values)
-            } else {
-                let mut words = blank();
-                check_proof_into(question, kappa, proof, &mut words[0..count], values)
-            }
-        }
-        Questioned::Refused(v) => v,
-    }
+    number_of(check_proof_bytes(question, kappa, proof, values))
 }
 
 // ---- interpolation
@@ -283,5 +280,5 @@ pub extern "C" fn smallwood_interpolate(
 ) -> u32
     ensures { (result, coefficients.new) ≡ interpolating points.now values.now coefficients.old }
 {
-    interpolation::interpolate(points, values, coefficients)
+    number_of(interpolation::interpolate(points, values, coefficients))
 }

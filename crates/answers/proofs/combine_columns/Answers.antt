@@ -9,12 +9,12 @@ use Rattle.answers.proofs.combine_columns.Goals as goal
 pub plain_columns-requires : goal.plain_columns-requires
 plain_columns-requires c =
     let s = c.args in
-    unblinded_asks (sizes_in s.s) s.coefficients.now s.blinds.now c.requires.0 s.weights.now c.requires.1 c.if-s-eq0.true (length s.out.now) c.requires.2
+    unblinded_asks (sizes_in s.s) s.witness.now.coefficients.now s.witness.now.blinds.now c.requires.0 s.weights.now c.requires.1 c.if-s-eq0.true (length s.out.now) c.requires.2
 
 pub returns-then-s-eq0 : goal.returns-then-s-eq0
 returns-then-s-eq0 c =
     let s = c.args in
-    c.plain_columns.ensures ∙ unblinded_sums (sizes_in s.s) s.coefficients.now s.blinds.now c.requires.0 s.weights.now c.requires.1 c.if-s-eq0.true (length s.out.now)
+    c.plain_columns.ensures ∙ unblinded_sums (sizes_in s.s) s.witness.now.coefficients.now s.witness.now.blinds.now c.requires.0 s.weights.now c.requires.1 c.if-s-eq0.true (length s.out.now)
     c.requires.2
 
 pub sum_columns-requires : goal.sum_columns-requires

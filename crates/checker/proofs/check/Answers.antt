@@ -1,28 +1,31 @@
--- `checker::check` meets its contract.
+-- `checker::check` meets its contract: by the answer to the question.
 use mathlib.Core.Path.{sym, ap, ◌∙◌}
 use Prim.Native.Nat.{ℕ}
+use Rattle.lists.specs.Bytes.{Bytes}
+use Rattle.refusal.specs.Numbers.{number, number_of, number_positive}
 use Rattle.scheme.specs.Question.{read_question}
+use Rattle.scheme.specs.Work.{checking_counted}
 use Rattle.scheme.proofs.Work.{counted_is, refused_none}
-use Rattle.question.proofs.Answer.{refused}
 use Rattle.reply_tests.proofs.Verdicts.{said_work, no_work}
 use Rattle.checker.proofs.Asking.{checked, unchecked}
 use Rattle.checker.proofs.check.Goals as goal
 
-pub check_reply-requires : goal.check_reply-requires
-check_reply-requires c = sym c.ask.ensures ∙ c.in-WellFormed.is
+pub returns-in-Ok : goal.returns-in-Ok
+returns-in-Ok c =
+    let q = c.in-Ok.query in
+    let reply = c.args.reply.now in
+    let values = c.args.values.now in
+    counted_is q.bytes.now reply values (number_of c.check_reply.result.outcome) c.check_reply.result.permutations _
+    (c.check_reply.ensures.values_after ∙ checked q.bytes.now reply values q.shape q.m q.asks) c.check_reply.ensures.permutations_value
+    ∙ ap (λ (b : Bytes). checking_counted b reply values) c.in-Ok.ensures.query
 
-pub returns-in-WellFormed : goal.returns-in-WellFormed
-returns-in-WellFormed c =
-    let s = c.args in
-    counted_is s.question.now s.reply.now s.values.now c.check_reply.result.verdict c.check_reply.result.permutations _
-    (c.check_reply.ensures.values_after ∙ checked s.question.now s.reply.now s.values.now _ _ (sym c.ask.ensures ∙ c.in-WellFormed.is)) c.check_reply.ensures.permutations_value
-
-pub returns-in-Refused : goal.returns-in-Refused
-returns-in-Refused c =
+pub returns-in-Err : goal.returns-in-Err
+returns-in-Err c =
     let s = c.args in
     let u = read_question s.question.now in
-    let asked = sym c.ask.ensures ∙ c.in-Refused.is in
-    let r = refused s.question.now c.in-Refused.v asked in
-    counted_is s.question.now s.reply.now s.values.now c.say.result.verdict c.say.result.permutations s.values.now
-    (ap (λ (v : ℕ). (v, s.values.now)) c.say.ensures.0 ∙ unchecked s.question.now s.reply.now s.values.now c.in-Refused.v asked)
-    (said_work u c.say.ensures.0 c.say.ensures.1 (no_work u c.in-Refused.v (refused_none s.question.now c.in-Refused.v r.1 r.0)))
+    let v = number c.in-Err.refusal in
+    let positive = number_positive c.in-Err.refusal in
+    let says = ap number_of c.refused.ensures.0 in
+    counted_is s.question.now s.reply.now s.values.now (number_of c.refused.result.outcome) c.refused.result.permutations s.values.now
+    (ap (λ (n : ℕ). (n, s.values.now)) says ∙ unchecked s.question.now s.reply.now s.values.now v positive c.in-Err.ensures.verdict)
+    (said_work u says c.refused.ensures.1 (no_work u v (refused_none s.question.now v positive (sym c.in-Err.ensures.verdict))))

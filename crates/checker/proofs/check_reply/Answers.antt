@@ -1,54 +1,45 @@
 -- `checker::check_reply` meets its contract.
-use Prim.Native.Nat.{ℕ}
-use mathlib.Core.Path.{ap, sym, ◌∙◌}
+use mathlib.Core.Path.{◌≡◌, ap, sym, ◌∙◌}
+use Prim.Native.Nat.{ℕ, ◌*◌}
+use Rattle.refusal.specs.Numbers.{number_of}
 use Rattle.scheme.specs.Question.{read_question}
-use Rattle.scheme.proofs.Accepted.{sizes_in_order}
-use Rattle.commitment.specs.Shape.{sizes_in}
-use Rattle.commitment.proofs.Places.{buffer_high}
-use Rattle.question.proofs.Answer.{taken}
 use Rattle.scheme.proofs.Work.{before_hashing}
+use Rattle.question.specs.declared.Query.{Query}
 use Rattle.reply_tests.proofs.Verdicts.{said_work, no_work}
-use Rattle.checker.proofs.Asking.{answer_2, answer_refused, answer_0, values_count, accepted_room}
-use borrow.Author.Rules.{rules}
+use Rattle.checker.proofs.Asking.{accepted, not_accepted, answer_2, answer_refused, answer_0, values_count, accepted_room}
 use Rattle.checker.proofs.check_reply.Goals as goal
 
-pub overflow_mul-s : goal.overflow_mul-s
-overflow_mul-s c =
-    let s = c.args in
-    let t = taken s.question.now s.s s.m c.requires in
-    let h = buffer_high (sizes_in s.s) (sizes_in_order (sizes_in s.s) t.sizes_ok_lem) s.m t.m_high in search rules
+count : (q : Query) → q.shape.w * q.m ≡ (read_question q.bytes.now).sizes.w * (read_question q.bytes.now).m
+count q = values_count q.bytes.now q.shape q.m q.asks
 
-pub returns-then-values-s : goal.returns-then-values-s
-returns-then-values-s c =
-    let s = c.args in
-    let u = read_question s.question.now in record {
-      values_after = ap (λ (v : ℕ). (v, s.values.now)) c.say.ensures.0
-          ∙ answer_2 u s.reply.now s.values.now (λ e. c.if-values-s.true (e ∙ sym (values_count s.question.now s.s s.m c.requires)));
-      permutations_value = said_work u c.say.ensures.0 c.say.ensures.1 (no_work u 2 before_hashing.1.0);
-    }
-
-pub returns-then-answer-ne0 : goal.returns-then-answer-ne0
-returns-then-answer-ne0 c =
-    let s = c.args in record {
-      values_after = answer_refused (read_question s.question.now) s.reply.now s.values.now c.asked_verdict-answer.result.verdict
-          (c.if-values-s.false ∙ values_count s.question.now s.s s.m c.requires) c.asked_verdict-answer.ensures.verdict_value c.if-answer-ne0.true;
-      permutations_value = c.asked_verdict-answer.ensures.permutations_value;
+pub returns-then-values-query : goal.returns-then-values-query
+returns-then-values-query c =
+    let u = read_question c.args.query.now.bytes.now in
+    let says = ap number_of c.refused.ensures.0 in record {
+      values_after = ap (λ (v : ℕ). (v, c.args.values.now)) says
+          ∙ answer_2 u c.args.reply.now c.args.values.now (λ e. c.if-values-query.true (e ∙ sym (count c.args.query.now)));
+      permutations_value = said_work u says c.refused.ensures.1 (no_work u 2 before_hashing.1.0);
     }
 
 pub fill_values-requires : goal.fill_values-requires
 fill_values-requires c =
-    let s = c.args in (
-      c.requires,
-      accepted_room s.question.now s.reply.now s.s s.m c.asked_verdict-answer.result.verdict
-          c.requires c.asked_verdict-answer.ensures.verdict_value c.if-answer-ne0.false,
-      c.if-values-s.false,
+    let q = c.args.query.now in
+    let answer = c.asked_verdict-answer in (
+      accepted_room q.bytes.now c.args.reply.now q.shape q.m (number_of answer.result.outcome) q.asks answer.ensures.verdict_value
+          (accepted answer.result.outcome (sym c.is_ok.ensures.value ∙ c.if-is_ok.true)),
+      c.if-values-query.false,
     )
 
-pub returns : goal.returns
-returns c =
-    let s = c.args in record {
-      values_after = answer_0 (read_question s.question.now) s.reply.now s.values.now c.asked_verdict-answer.result.verdict c.fill_values.new.values
-          (c.if-values-s.false ∙ values_count s.question.now s.s s.m c.requires)
-          c.asked_verdict-answer.ensures.verdict_value c.if-answer-ne0.false c.fill_values.ensures;
-      permutations_value = c.asked_verdict-answer.ensures.permutations_value;
-    }
+pub returns-then-is_ok-clause-values_after : goal.returns-then-is_ok-clause-values_after
+returns-then-is_ok-clause-values_after c =
+    let q = c.args.query.now in
+    let answer = c.asked_verdict-answer in
+    answer_0 (read_question q.bytes.now) c.args.reply.now c.args.values.now (number_of answer.result.outcome) c.fill_values.new.values
+    (c.if-values-query.false ∙ count q) answer.ensures.verdict_value (accepted answer.result.outcome (sym c.is_ok.ensures.value ∙ c.if-is_ok.true)) c.fill_values.ensures
+
+pub returns-else-is_ok-clause-values_after : goal.returns-else-is_ok-clause-values_after
+returns-else-is_ok-clause-values_after c =
+    let q = c.args.query.now in
+    let answer = c.asked_verdict-answer in
+    answer_refused (read_question q.bytes.now) c.args.reply.now c.args.values.now (number_of answer.result.outcome) (c.if-values-query.false ∙ count q)
+    answer.ensures.verdict_value (not_accepted answer.result.outcome (sym c.is_ok.ensures.value ∙ c.if-is_ok.false))

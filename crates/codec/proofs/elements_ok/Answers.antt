@@ -10,15 +10,15 @@ use borrow.Author.Rules.{rules}
 use native.Mathlib.Omega.{arith}
 use Rattle.codec.proofs.elements_ok.Goals as goal
 
-pub loop-i-init : goal.loop-i-init
+pub loop-x-init : goal.loop-x-init
 unfolding all
-loop-i-init c = (search rules, search rules, refl)
+loop-x-init c = (search rules, refl)
 
-pub loop-i-preserved : goal.loop-i-preserved
-loop-i-preserved c =
+pub loop-x-preserved : goal.loop-x-preserved
+loop-x-preserved c =
     let xs = c.args.xs.now in
-    let i = c.loop-i.i in
-    (search rules, search rules, c.both-ok.ensures ∙ ap (λ (b : Bool). b && ltb (get_or xs i 0) q) c.loop-i.invariant.2 ∙ all_next (λ (x : ℕ). ltb x q) xs i (omega arith))
+    let i = c.loop-x.x-index in
+    (search rules, ap (λ (b : Bool). b && ltb (get_or xs i 0) q) c.loop-x.invariant.1 ∙ all_next (λ (x : ℕ). ltb x q) xs i (omega arith))
 
 pub returns : goal.returns
-returns c = c.loop-i.invariant.2 ∙ all_done (λ (x : ℕ). ltb x q) c.args.xs.now c.loop-i.i (omega arith)
+returns c = c.loop-x.invariant.1 ∙ all_done (λ (x : ℕ). ltb x q) c.args.xs.now c.loop-x.x-index (omega arith)

@@ -9,16 +9,16 @@ use Rattle.codec.proofs.put_halves.Goals as goal
 pub loop-i-init : goal.loop-i-init
 loop-i-init c =
     let s = c.args in
-    (search rules, search rules, search rules, up_to_none (little_endian 2) s.numbers.now 2 s.at s.out.now)
+    (search rules, up_to_none (little_endian 2) s.numbers.now 2 s.at s.out.now)
 
 pub loop-i-preserved : goal.loop-i-preserved
 loop-i-preserved c =
     let s = c.args in
     let loop = c.loop-i in
-    let turn = up_to_turn (little_endian 2) s.numbers.now 2 s.at s.out.now (λ k _. length-little_endian 2 (get_or s.numbers.now k 0)) (search rules) loop.i loop.out c.put_half.new.out (omega arith) loop.invariant.3 c.put_half.ensures in
-    (search rules, search rules, turn.1, turn.0)
+    let turn = up_to_turn (little_endian 2) s.numbers.now 2 s.at s.out.now (λ k _. length-little_endian 2 (get_or s.numbers.now k 0)) (search rules) loop.i loop.out c.put_half.new.out (omega arith) loop.invariant.1 c.put_half.ensures in
+    (turn.1, turn.0)
 
 pub returns : goal.returns
 returns c =
     let s = c.args in
-    c.loop-i.invariant.3 ∙ up_to_all (little_endian 2) s.numbers.now 2 s.at s.out.now c.loop-i.i (omega arith)
+    c.loop-i.invariant.1 ∙ up_to_all (little_endian 2) s.numbers.now 2 s.at s.out.now c.loop-i.i (omega arith)

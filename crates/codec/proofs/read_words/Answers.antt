@@ -1,24 +1,17 @@
-use mathlib.Core.Path.{refl, ap, ◌∙◌}
-use mathlib.Core.List.{◌++◌}
-use Prim.Native.Nat.{ℕ}
-use lib.ListN.{drop, length-set}
+use mathlib.Core.Path.{refl, ◌∙◌}
+use lib.ListN.{take, length-set}
 use Rattle.lists.specs.Pieces.{pieces}
-use Rattle.lists.specs.Numbers.{numbers, read_next}
-use borrow.Author.Rules.{rules}
+use Rattle.lists.specs.Numbers.{read_next}
 use native.Mathlib.Omega.{arith}
 use Rattle.codec.proofs.read_words.Goals as goal
 
 pub loop-i-init : goal.loop-i-init
 unfolding pieces
-loop-i-init c = (search rules, search rules, refl)
+loop-i-init c = (refl, refl)
 
 pub loop-i-preserved : goal.loop-i-preserved
 loop-i-preserved c =
     let s = c.args in
-    let i = c.loop-i.i in
-    let v = c.loop-i.invariant in
-    (search rules, length-set c.loop-i.out i c.word.result ∙ v.1, read_next 4 i s.at s.b.now s.out.now c.loop-i.out c.word.result (omega arith) v.2 c.word.ensures)
-
-pub returns : goal.returns
-returns c =
-    c.loop-i.invariant.2 ∙ ap (λ (k : ℕ). numbers 4 k c.args.at c.args.b.now ++ drop k c.args.out.now) (omega arith)
+    let loop = c.loop-i in
+    let v = loop.invariant in
+    (length-set loop.x-items loop.i c.word.result ∙ v.0, read_next 4 loop.i s.at s.b.now (take s.n s.out.now) loop.x-items c.word.result (omega (arith, v.0)) v.1 c.word.ensures)

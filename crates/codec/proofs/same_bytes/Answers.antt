@@ -1,7 +1,10 @@
-use mathlib.Core.Path.{refl, sym, ap, ◌∙◌}
+use mathlib.Core.Path.{refl, sym, ap, ap₂, ◌∙◌}
 use mathlib.Core.Bool.{Bool, ◌&&◌}
+use Prim.Native.Nat.{ℕ}
 use lib.Dec.{eqb}
-use lib.ListN.{get_or}
+use lib.ListN.{length, take}
+use Rattle.std.proofs.lemmas.List.{length_push}
+use Rattle.std.proofs.lemmas.Slice.Zip.{zip_turn, zip_end}
 use Rattle.lists.specs.Tests.{same}
 use Rattle.lists.specs.Scan.{same_next, same_done, other_length}
 use borrow.Author.Rules.{rules}
@@ -11,18 +14,25 @@ use Rattle.codec.proofs.same_bytes.Goals as goal
 pub returns-then-a-b : goal.returns-then-a-b
 returns-then-a-b c = sym (other_length c.args.a.now c.args.b.now c.if-a-b.true)
 
-pub loop-i-init : goal.loop-i-init
+pub loop-x-init : goal.loop-x-init
 unfolding same
-loop-i-init c = (search rules, search rules, c.if-a-b.false, refl)
+loop-x-init c = refl
 
-pub loop-i-preserved : goal.loop-i-preserved
-loop-i-preserved c =
+pub loop-x-preserved : goal.loop-x-preserved
+loop-x-preserved c =
     let a = c.args.a.now in
     let b = c.args.b.now in
-    let i = c.loop-i.i in
-    let v = c.loop-i.invariant in
-    (search rules, search rules, v.2, c.both-ok.ensures ∙ ap (λ (t : Bool). t && eqb (get_or a i 0) (get_or b i 0)) v.3 ∙ same_next a b i (omega arith) v.2)
+    let loop = c.loop-x in
+    let i = length loop.yielded in
+    let turn = zip_turn a b loop.yielded c.into_iter-x-iterator.result loop.x-iterator c.next.new.self _ (search rules) (search rules) loop.yielded_by _ c.in-Some.is c.next.ensures.steps in
+    ap₂ (λ (t u : Bool). t && u) loop.invariant (ap₂ eqb (turn.2 0) (turn.3 0))
+    ∙ same_next a b i turn.0 c.if-a-b.false
+    ∙ ap (λ (n : ℕ). same (take n a) (take n b)) (sym (length_push loop.yielded (c.in-Some.x, c.in-Some.y)))
 
 pub returns : goal.returns
 returns c =
-    c.loop-i.invariant.3 ∙ same_done c.args.a.now c.args.b.now c.loop-i.i (omega arith) c.loop-i.invariant.2
+    let a = c.args.a.now in
+    let b = c.args.b.now in
+    let loop = c.loop-x in
+    let n = zip_end a b loop.yielded c.into_iter-x-iterator.result loop.x-iterator c.next.new.self _ (search rules) (search rules) loop.yielded_by c.in-None.is c.next.ensures.steps in
+    loop.invariant ∙ same_done a b (length loop.yielded) (omega (arith, n, c.if-a-b.false)) c.if-a-b.false

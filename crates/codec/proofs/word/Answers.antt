@@ -1,10 +1,9 @@
 -- `codec::word` meets its contract.
-use Rattle.lists.specs.Numbers.{word_is}
+use mathlib.Core.Path.{ap, ◌∙◌}
+use Rattle.lists.specs.Bytes.{from_bytes}
+use Rattle.codec.proofs.Library.{word-read}
 use borrow.Author.Rules.{rules}
 use Rattle.codec.proofs.word.Goals as goal
 
 pub returns : goal.returns
-returns c =
-    word_is c.args.at c.args.b.now
-    c.wide-x.result c.wide-y.result c.wide-z.result c.wide.result (search rules)
-    c.wide-x.ensures.0 c.wide-y.ensures.0 c.wide-z.ensures.0 c.wide.ensures.0
+returns c = c.from_le_bytes.ensures ∙ word-read c.bytes_at.result (search rules) ∙ ap from_bytes c.bytes_at.ensures

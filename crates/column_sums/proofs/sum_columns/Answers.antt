@@ -15,28 +15,10 @@ use Rattle.column_sums.proofs.sum_columns.Goals as goal
 pub loop-i-init : goal.loop-i-init
 loop-i-init c =
     let s = c.args in
-    (omega arith, rows_start s.s.nu (polynomial_sums (sizes_in s.s) s.coefficients.now s.blinds.now s.weights.now) s.out.now, refl)
-
-pub overflow_mul-from : goal.overflow_mul-from
-overflow_mul-from c =
-    let s = c.args in
-    let r : s.s.nu * c.loop-i.i + s.s.nu ≤ s.s.nu * s.s.w = row_fits s.s.nu c.loop-i.i s.s.w (omega arith) in
-    search rules
+    (omega arith, rows_start s.s.nu (polynomial_sums (sizes_in s.s) s.witness.now.coefficients.now s.witness.now.blinds.now s.weights.now) s.out.now, refl)
 
 pub overflow_add-to : goal.overflow_add-to
 overflow_add-to c =
-    let s = c.args in
-    let r : s.s.nu * c.loop-i.i + s.s.nu ≤ s.s.nu * s.s.w = row_fits s.s.nu c.loop-i.i s.s.w (omega arith) in
-    search rules
-
-pub offset_bounds-out-from : goal.offset_bounds-out-from
-offset_bounds-out-from c =
-    let s = c.args in
-    let r : s.s.nu * c.loop-i.i + s.s.nu ≤ s.s.nu * s.s.w = row_fits s.s.nu c.loop-i.i s.s.w (omega arith) in
-    search rules
-
-pub slice_bounds-combine_polynomial-end : goal.slice_bounds-combine_polynomial-end
-slice_bounds-combine_polynomial-end c =
     let s = c.args in
     let r : s.s.nu * c.loop-i.i + s.s.nu ≤ s.s.nu * s.s.w = row_fits s.s.nu c.loop-i.i s.s.w (omega arith) in
     search rules
@@ -54,9 +36,9 @@ loop-i-preserved c =
     let sums = c.combine_polynomial in
     let n : ℕ = s.s.nu in
     let r : List ℕ = sums.new.out in
-    let f : ℕ → List ℕ = polynomial_sums (sizes_in s.s) s.coefficients.now s.blinds.now s.weights.now in (
+    let f : ℕ → List ℕ = polynomial_sums (sizes_in s.s) s.witness.now.coefficients.now s.witness.now.blinds.now s.weights.now in (
       omega arith,
-      row_turn n f (sums-sized (sizes_in s.s) s.coefficients.now s.blinds.now s.weights.now) s.out.now loop.out r loop.i loop.invariant.1 sums.ensures,
+      row_turn n f (sums-sized (sizes_in s.s) s.witness.now.coefficients.now s.witness.now.blinds.now s.weights.now) s.out.now loop.out r loop.i loop.invariant.1 sums.ensures,
       same_len_mid (n * loop.i) (n * loop.i + n - n * loop.i) loop.out r sums.auto.out ∙ loop.invariant.2,
     )
 
@@ -67,8 +49,8 @@ pub returns : goal.returns
 returns c =
     let s = c.args in
     let e : c.loop-i.i ≡ s.s.w = omega arith in
-    let f : ℕ → List ℕ = polynomial_sums (sizes_in s.s) s.coefficients.now s.blinds.now s.weights.now in
+    let f : ℕ → List ℕ = polynomial_sums (sizes_in s.s) s.witness.now.coefficients.now s.witness.now.blinds.now s.weights.now in
     c.loop-i.invariant.1
     ∙ ap (λ (k : ℕ). rows_of f k ++ drop (s.s.nu * k) s.out.now) e
     ∙ front_all (rows_of f s.s.w) s.out.now (s.s.nu * s.s.w) (omega (arith, c.requires.3))
-    ∙ columns_by_polynomials (sizes_in s.s) s.coefficients.now s.blinds.now c.requires.0 s.weights.now c.requires.1
+    ∙ columns_by_polynomials (sizes_in s.s) s.witness.now.coefficients.now s.witness.now.blinds.now c.requires.0 s.weights.now c.requires.1

@@ -4,12 +4,9 @@ use Rattle.column_sums.specs.Sums.{polynomial_sums}
 use Rattle.lists.specs.Rows.{rows_of}
 use lib.ListN.{drop, length}
 use mathlib.Core.Path.{◌≡◌}
-use Prim.Native.Nat.{◌*◌, ◌-◌, ◌≤◌}
+use Prim.Native.Nat.{◌*◌, ◌≤◌}
 use mathlib.Core.List.{◌++◌}
 use Rattle.column_sums.proofs.sum_columns.Given as goal
 
 abbrev pub invariant-loop-i : goal.invariant-loop-i
-invariant-loop-i l = (l.i ≤ l.s.w) × (l.out ≡ rows_of (polynomial_sums (sizes_in l.s) l.coefficients l.blinds l.weights) l.i ++ drop (l.s.nu * l.i) l.initial.out) × (length l.out ≡ length l.initial.out)
-
-abbrev pub decreases-loop-i : goal.decreases-loop-i
-decreases-loop-i l = l.w - l.i
+invariant-loop-i l = (l.i ≤ l.s.w) × (l.out ≡ rows_of (polynomial_sums (sizes_in l.s) l.witness.coefficients.now l.witness.blinds.now l.weights) l.i ++ drop (l.s.nu * l.i) l.initial.out) × (length l.out ≡ length l.initial.out)

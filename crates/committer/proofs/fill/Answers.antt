@@ -3,21 +3,21 @@ use mathlib.Core.List.{List}
 use Prim.Native.Nat.{ℕ}
 use Rattle.scheme.proofs.Accepted.{sizes_in_order}
 use Rattle.commitment.specs.Shape.{sizes_in}
-use Rattle.committer.proofs.Filled.{evaluable, table_is, salt_right, hashable, first_length, tree_is}
+use Rattle.lent.specs.Witnessed.{witnessed}
+use Rattle.committer.proofs.Filled.{evaluable, salt_right, hashable, first_length, tree_is}
 use Rattle.committer.proofs.fill.Goals as goal
 
 pub fill_table-requires : goal.fill_table-requires
 fill_table-requires c =
     let a = c.args in
-    evaluable (sizes_in a.s) a.coefficients.now a.tails.now a.blinds.now a.masks.now a.nonces.now a.salt.now a.table.now a.tree.now c.requires
+    evaluable (sizes_in a.s) (witnessed a.witness.now) a.table.now a.tree.now c.requires
 
 pub hash_leaves-requires : goal.hash_leaves-requires
 hash_leaves-requires c =
     let a = c.args in
     let t : List ℕ = c.fill_table.new.table in
-    let e = table_is (sizes_in a.s) a.coefficients.now a.tails.now a.blinds.now a.masks.now a.nonces.now a.salt.now a.table.now a.tree.now
-    c.requires t c.fill_table.ensures in
-    hashable (sizes_in a.s) a.coefficients.now a.tails.now a.blinds.now a.masks.now a.nonces.now a.salt.now a.table.now a.tree.now
+    let e = c.fill_table.ensures in
+    hashable (sizes_in a.s) (witnessed a.witness.now) a.table.now a.tree.now
     c.requires t e
 
 pub leaf_count-requires : goal.leaf_count-requires
@@ -29,12 +29,10 @@ pub fill_tree-requires : goal.fill_tree-requires
 fill_tree-requires c =
     let a = c.args in
     let t : List ℕ = c.fill_table.new.table in
-    let e = table_is (sizes_in a.s) a.coefficients.now a.tails.now a.blinds.now a.masks.now a.nonces.now a.salt.now a.table.now a.tree.now
-    c.requires t
-    c.fill_table.ensures in (
-      salt_right (sizes_in a.s) a.coefficients.now a.tails.now a.blinds.now a.masks.now a.nonces.now a.salt.now a.table.now a.tree.now c.requires,
+    let e = c.fill_table.ensures in (
+      salt_right (sizes_in a.s) (witnessed a.witness.now) a.table.now a.tree.now c.requires,
       c.leaf_count.ensures,
-      first_length (sizes_in a.s) a.coefficients.now a.tails.now a.blinds.now a.masks.now a.nonces.now a.salt.now a.table.now a.tree.now
+      first_length (sizes_in a.s) (witnessed a.witness.now) a.table.now a.tree.now
           c.requires t
           c.hash_leaves.new.tree e c.hash_leaves.ensures,
     )
@@ -43,11 +41,9 @@ pub returns : goal.returns
 returns c =
     let a = c.args in
     let t : List ℕ = c.fill_table.new.table in
-    let e = table_is (sizes_in a.s) a.coefficients.now a.tails.now a.blinds.now a.masks.now a.nonces.now a.salt.now a.table.now a.tree.now
-    c.requires t
-    c.fill_table.ensures in record {
+    let e = c.fill_table.ensures in record {
       table_after = e;
-      tree_after = tree_is (sizes_in a.s) a.coefficients.now a.tails.now a.blinds.now a.masks.now a.nonces.now a.salt.now a.table.now a.tree.now
+      tree_after = tree_is (sizes_in a.s) (witnessed a.witness.now) a.table.now a.tree.now
           c.requires t
           c.hash_leaves.new.tree e c.hash_leaves.ensures
           c.leaf_count.result c.fill_tree.new.tree c.leaf_count.ensures c.fill_tree.ensures;

@@ -12,72 +12,10 @@ use borrow.Author.Rules.{rules}
 use native.Mathlib.Omega.{arith}
 use Rattle.committer.proofs.hash_leaves.Goals as goal
 
-pub leaf_count-n-requires : goal.leaf_count-n-requires
-leaf_count-n-requires c = c.requires.sizes.h_high
-
-pub record_values-values-requires : goal.record_values-values-requires
-record_values-values-requires c = c.requires.sizes
-
 pub loop-index-init : goal.loop-index-init
 loop-index-init c =
     let s = c.args in
     (omega arith, refl, rows_start 32 (digest_of c.record_values-values.result s.table.now s.nonces.now s.salt.now) s.tree.now)
-
-pub overflow_mul-from : goal.overflow_mul-from
-overflow_mul-from c =
-    let f = leaf_fits (sizes_in c.args.s) c.args.table.now
-    c.args.nonces.now c.args.salt.now c.args.tree.now c.record_values-values.result
-    c.leaf_count-n.result c.loop-index.index c.requires c.record_values-values.ensures
-    c.leaf_count-n.ensures c.loop-index-test.true in
-    search rules
-
-pub overflow_add-to : goal.overflow_add-to
-overflow_add-to c =
-    let f = leaf_fits (sizes_in c.args.s) c.args.table.now
-    c.args.nonces.now c.args.salt.now c.args.tree.now c.record_values-values.result
-    c.leaf_count-n.result c.loop-index.index c.requires c.record_values-values.ensures
-    c.leaf_count-n.ensures c.loop-index-test.true in
-    search rules
-
-pub overflow_mul-start : goal.overflow_mul-start
-overflow_mul-start c =
-    let f = leaf_fits (sizes_in c.args.s) c.args.table.now
-    c.args.nonces.now c.args.salt.now c.args.tree.now c.record_values-values.result
-    c.leaf_count-n.result c.loop-index.index c.requires c.record_values-values.ensures
-    c.leaf_count-n.ensures c.loop-index-test.true in
-    search rules
-
-pub overflow_add-end : goal.overflow_add-end
-overflow_add-end c =
-    let f = leaf_fits (sizes_in c.args.s) c.args.table.now
-    c.args.nonces.now c.args.salt.now c.args.tree.now c.record_values-values.result
-    c.leaf_count-n.result c.loop-index.index c.requires c.record_values-values.ensures
-    c.leaf_count-n.ensures c.loop-index-test.true in
-    search rules
-
-pub overflow_cast-index : goal.overflow_cast-index
-overflow_cast-index c =
-    let f = leaf_fits (sizes_in c.args.s) c.args.table.now
-    c.args.nonces.now c.args.salt.now c.args.tree.now c.record_values-values.result
-    c.leaf_count-n.result c.loop-index.index c.requires c.record_values-values.ensures
-    c.leaf_count-n.ensures c.loop-index-test.true in
-    search rules
-
-pub offset_bounds-table-from : goal.offset_bounds-table-from
-offset_bounds-table-from c =
-    let f = leaf_fits (sizes_in c.args.s) c.args.table.now
-    c.args.nonces.now c.args.salt.now c.args.tree.now c.record_values-values.result
-    c.leaf_count-n.result c.loop-index.index c.requires c.record_values-values.ensures
-    c.leaf_count-n.ensures c.loop-index-test.true in
-    search rules
-
-pub slice_bounds-hash_leaf-start : goal.slice_bounds-hash_leaf-start
-slice_bounds-hash_leaf-start c =
-    let f = leaf_fits (sizes_in c.args.s) c.args.table.now
-    c.args.nonces.now c.args.salt.now c.args.tree.now c.record_values-values.result
-    c.leaf_count-n.result c.loop-index.index c.requires c.record_values-values.ensures
-    c.leaf_count-n.ensures c.loop-index-test.true in
-    search rules
 
 pub slice_bounds-hash_leaf-end : goal.slice_bounds-hash_leaf-end
 slice_bounds-hash_leaf-end c =
@@ -85,40 +23,6 @@ slice_bounds-hash_leaf-end c =
     c.args.nonces.now c.args.salt.now c.args.tree.now c.record_values-values.result
     c.leaf_count-n.result c.loop-index.index c.requires c.record_values-values.ensures
     c.leaf_count-n.ensures c.loop-index-test.true in
-    search rules
-
-pub slice_bounds-hash_leaf-start-in-loop-index : goal.slice_bounds-hash_leaf-start-in-loop-index
-slice_bounds-hash_leaf-start-in-loop-index c =
-    let f = leaf_fits (sizes_in c.args.s) c.args.table.now
-    c.args.nonces.now c.args.salt.now c.args.tree.now c.record_values-values.result
-    c.leaf_count-n.result c.loop-index.index c.requires c.record_values-values.ensures
-    c.leaf_count-n.ensures c.loop-index-test.true in
-    search rules
-
-pub slice_bounds-hash_leaf-end-in-loop-index : goal.slice_bounds-hash_leaf-end-in-loop-index
-slice_bounds-hash_leaf-end-in-loop-index c =
-    let f = leaf_fits (sizes_in c.args.s) c.args.table.now
-    c.args.nonces.now c.args.salt.now c.args.tree.now c.record_values-values.result
-    c.leaf_count-n.result c.loop-index.index c.requires c.record_values-values.ensures
-    c.leaf_count-n.ensures c.loop-index-test.true in
-    search rules
-
-pub slice_bounds-hash_leaf-start-in-loop-index-2 : goal.slice_bounds-hash_leaf-start-in-loop-index-2
-slice_bounds-hash_leaf-start-in-loop-index-2 c =
-    let f = leaf_fits (sizes_in c.args.s) c.args.table.now
-    c.args.nonces.now c.args.salt.now c.args.tree.now
-    c.record_values-values.result c.leaf_count-n.result c.loop-index.index
-    c.requires c.record_values-values.ensures c.leaf_count-n.ensures
-    c.loop-index-test.true in
-    search rules
-
-pub slice_bounds-hash_leaf-end-in-loop-index-2 : goal.slice_bounds-hash_leaf-end-in-loop-index-2
-slice_bounds-hash_leaf-end-in-loop-index-2 c =
-    let f = leaf_fits (sizes_in c.args.s) c.args.table.now
-    c.args.nonces.now c.args.salt.now c.args.tree.now
-    c.record_values-values.result c.leaf_count-n.result c.loop-index.index
-    c.requires c.record_values-values.ensures c.leaf_count-n.ensures
-    c.loop-index-test.true in
     search rules
 
 pub hash_leaf-requires : goal.hash_leaf-requires

@@ -3,11 +3,8 @@ use mathlib.Core.Path.{◌≡◌}
 use mathlib.Core.Bool.{false}
 use lib.ListN.{length, take}
 use Rattle.counter_search.specs.Tried.{tried_after}
-use Prim.Native.Nat.{◌-◌, ◌<◌, ◌≤◌, ℕ}
+use Prim.Native.Nat.{◌<◌, ℕ}
 use Rattle.counter_search.proofs.search.Given as goal
 
 abbrev pub invariant-loop-c : goal.invariant-loop-c
-invariant-loop-c l = (l.c ≤ l.limit) × (length l.tail ≡ length l.initial.tail) × (take l.at l.tail ≡ take l.at l.initial.tail) × ((j : ℕ) → j < l.c → tried_after l.kappa l.a (take l.at l.initial.tail) j ≡ false)
-
-abbrev pub decreases-loop-c : goal.decreases-loop-c
-decreases-loop-c l = l.limit - l.c
+invariant-loop-c l = (length l.tail ≡ length l.initial.tail) × (take l.at l.tail ≡ take l.at l.initial.tail) × ((j : ℕ) → j < l.c → tried_after l.kappa l.a (take l.at l.initial.tail) j ≡ false)

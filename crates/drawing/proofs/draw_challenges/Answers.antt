@@ -1,6 +1,5 @@
-use Rattle.algebra.specs.Prime.{q}
 use native.Mathlib.Nat.{mod-lt, zero-add}
-use mathlib.Core.Path.{◌∙◌, ap, sym}
+use mathlib.Core.Path.{◌∙◌, ap, ap₂, sym}
 use mathlib.Core.List.{List, ◌++◌}
 use lib.ListN.{drop, length-set, take}
 use Rattle.lists.specs.Pieces.{pieces}
@@ -14,12 +13,13 @@ use Rattle.drawing.proofs.draw_challenges.Goals as goal
 
 pub loop-k-init : goal.loop-k-init
 unfolding pieces
-loop-k-init c = (search rules, search rules, search rules, search rules)
+loop-k-init c = (search rules, search rules)
 
-pub overflow_cast-out : goal.overflow_cast-out
-overflow_cast-out c =
+pub overflow_cast-x : goal.overflow_cast-x
+overflow_cast-x c =
     let word' = c.word in
-    let low : word'.result % q < q = mod-lt word'.result (omega arith) in search rules
+    let low : word'.result % c.from.result < c.from.result = mod-lt word'.result (omega (arith, c.from.ensures)) in
+    omega (arith, c.from.ensures, low)
 
 pub loop-k-preserved : goal.loop-k-preserved
 unfolding word
@@ -28,17 +28,15 @@ loop-k-preserved c =
     let loop' = c.loop-k in
     let word' = c.word in
     let s = c.args in (
-      search rules,
-      search rules,
-      length-set loop'.out loop'.k _ ∙ loop'.invariant.2,
-      challenges_next challengeDigest'.result s.out.now loop'.out loop'.k (word'.result % q) (omega arith) loop'.invariant.3
-          (ap (λ (n : ℕ). n % q) (word'.ensures ∙ ap (λ (n : ℕ). from_bytes (take 8 (drop n challengeDigest'.result))) (sym (zero-add (8 * loop'.k))))),
+      length-set loop'.out loop'.k _ ∙ loop'.invariant.0,
+      challenges_next challengeDigest'.result s.out.now loop'.out loop'.k (word'.result % c.from.result) (omega arith) loop'.invariant.1
+          (ap₂ (λ (n m : ℕ). n % m) (word'.ensures ∙ ap (λ (n : ℕ). from_bytes (take 8 (drop n challengeDigest'.result))) (sym (zero-add (8 * loop'.k)))) c.from.ensures),
     )
 
 pub returns : goal.returns
 returns c =
     let loop' = c.loop-k in
     let s = c.args in
-    loop'.invariant.3
+    loop'.invariant.1
     ∙ ap (λ (d : List ℕ). challenges_in d loop'.k ++ drop loop'.k s.out.now) c.challenge_digest-d.ensures
     ∙ challenges_all s.question.now s.out.now loop'.k (omega arith) c.requires.2

@@ -3,11 +3,7 @@ use mathlib.Core.Path.{◌≡◌}
 use mathlib.Core.List.{◌++◌}
 use lib.ListN.{drop, length}
 use Rattle.drawing.proofs.Parts.{challenges_in}
-use Prim.Native.Nat.{◌-◌, ◌≤◌}
 use Rattle.drawing.proofs.draw_challenges.Given as goal
 
 abbrev pub invariant-loop-k : goal.invariant-loop-k
-invariant-loop-k l = (l.k ≤ length l.initial.out) × (l.k-end ≡ length l.initial.out) × (length l.out ≡ length l.initial.out) × (l.out ≡ challenges_in l.d l.k ++ drop l.k l.initial.out)
-
-abbrev pub decreases-loop-k : goal.decreases-loop-k
-decreases-loop-k l = l.k-end - l.k
+invariant-loop-k l = (length l.out ≡ length l.initial.out) × (l.out ≡ challenges_in l.d l.k ++ drop l.k l.initial.out)

@@ -1,77 +1,21 @@
 -- `evaluations::gather_blinds` meets its contract: the blinds, then the top coefficient.
-use mathlib.Core.List.{List, []}
-use mathlib.Core.Path.{refl}
+use mathlib.Core.List.{List}
 use Prim.Native.Nat.{ℕ}
 use Rattle.scheme.specs.Layers.{Lent}
-use Rattle.lent.specs.Partly.{lent_rows}
-use Rattle.scheme.specs.Sizes.{Sizes, blind_count, coefficient_count}
+use Rattle.lent.specs.Witnessed.{witnessed}
+use Rattle.scheme.specs.Sizes.{Sizes}
 use Rattle.commitment.specs.Shape.{sizes_in}
-use Rattle.evaluations.proofs.Entries.{blinding_row, blinds_room, blinds_there, coefficients_room, polynomial_room, top_there}
+use Rattle.evaluations.proofs.Entries.{blinding_row, blinds_there, polynomial_room, top_there}
 use Rattle.evaluations.proofs.Gathering.{both_kept}
-use borrow.Author.Rules.{rules}
 use native.Mathlib.Omega.{arith}
 use Rattle.evaluations.proofs.gather_blinds.Goals as goal
-
-pub overflow_mul-to : goal.overflow_mul-to
-overflow_mul-to c =
-    let a = c.args in
-    let pre = c.requires in
-    let S : Sizes = sizes_in a.s in
-    let L : Lent = lent_rows a.coefficients.now [] a.blinds.now in
-    let h = polynomial_room S L pre.0 a.i pre.1 (coefficient_count S) (blind_count S) refl refl in
-    let g = pre.0.sizes.columns-high in
-    search rules
-
-pub overflow_mul-top : goal.overflow_mul-top
-overflow_mul-top c =
-    let a = c.args in
-    let pre = c.requires in
-    let S : Sizes = sizes_in a.s in
-    let L : Lent = lent_rows a.coefficients.now [] a.blinds.now in
-    let k = c.coefficient_count in
-    let h = coefficients_room S L pre.0 a.i pre.1 k.result (blind_count S) k.ensures refl in
-    search rules
-
-pub overflow_add-top : goal.overflow_add-top
-overflow_add-top c =
-    let a = c.args in
-    let pre = c.requires in
-    let S : Sizes = sizes_in a.s in
-    let L : Lent = lent_rows a.coefficients.now [] a.blinds.now in
-    let k = c.coefficient_count in
-    let h = coefficients_room S L pre.0 a.i pre.1 k.result (blind_count S) k.ensures refl in
-    search rules
-
-pub overflow_mul-blind_count : goal.overflow_mul-blind_count
-overflow_mul-blind_count c =
-    let a = c.args in
-    let pre = c.requires in
-    let S : Sizes = sizes_in a.s in
-    let L : Lent = lent_rows a.coefficients.now [] a.blinds.now in
-    let k = c.coefficient_count in
-    let m = c.blind_count in
-    let h = blinds_room S L pre.0 a.i pre.1 k.result m.result k.ensures m.ensures in
-    search rules
-
-pub overflow_add-blind_count : goal.overflow_add-blind_count
-overflow_add-blind_count c =
-    let a = c.args in
-    let pre = c.requires in
-    let S : Sizes = sizes_in a.s in
-    let L : Lent = lent_rows a.coefficients.now [] a.blinds.now in
-    let k = c.coefficient_count in
-    let m = c.blind_count in
-    let h = blinds_room S L pre.0 a.i pre.1 k.result m.result k.ensures m.ensures in
-    let b = pre.2 in
-    let g = pre.0.sizes.β-high in
-    search rules
 
 pub gather_lane-requires : goal.gather_lane-requires
 gather_lane-requires c =
     let a = c.args in
     let pre = c.requires in
     let S : Sizes = sizes_in a.s in
-    let L : Lent = lent_rows a.coefficients.now [] a.blinds.now in
+    let L : Lent = witnessed a.witness.now in
     let k = c.coefficient_count in
     let m = c.blind_count in (
       pre.3,
@@ -79,33 +23,12 @@ gather_lane-requires c =
       omega (arith, polynomial_room S L pre.0 a.i pre.1 k.result m.result k.ensures m.ensures, pre.4, pre.0.sizes.ν-low),
     )
 
-pub overflow_add-top-2 : goal.overflow_add-top-2
-overflow_add-top-2 c =
-    let a = c.args in
-    let pre = c.requires in
-    let S : Sizes = sizes_in a.s in
-    let L : Lent = lent_rows a.coefficients.now [] a.blinds.now in
-    let k = c.coefficient_count in
-    let h = coefficients_room S L pre.0 a.i pre.1 k.result (blind_count S) k.ensures refl in
-    let b = pre.2 in
-    search rules
-
-pub overflow_add-to : goal.overflow_add-to
-overflow_add-to c =
-    let a = c.args in
-    let pre = c.requires in
-    let S : Sizes = sizes_in a.s in
-    let L : Lent = lent_rows a.coefficients.now [] a.blinds.now in
-    let h = polynomial_room S L pre.0 a.i pre.1 (coefficient_count S) (blind_count S) refl refl in
-    let g = pre.0.sizes.columns-high in
-    search rules
-
 pub gather_lane-requires-2 : goal.gather_lane-requires-2
 gather_lane-requires-2 c =
     let a = c.args in
     let pre = c.requires in
     let S : Sizes = sizes_in a.s in
-    let L : Lent = lent_rows a.coefficients.now [] a.blinds.now in
+    let L : Lent = witnessed a.witness.now in
     let k = c.coefficient_count in
     let m = c.blind_count in (
       pre.3,
@@ -118,7 +41,7 @@ returns c =
     let a = c.args in
     let pre = c.requires in
     let S : Sizes = sizes_in a.s in
-    let L : Lent = lent_rows a.coefficients.now [] a.blinds.now in
+    let L : Lent = witnessed a.witness.now in
     let k = c.coefficient_count in
     let m = c.blind_count in
     let v₁ : List ℕ = c.gather_lane.new.values in

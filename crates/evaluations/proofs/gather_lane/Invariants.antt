@@ -1,14 +1,9 @@
 -- `evaluations::gather_lane` meets its contract. The invariant: the first i values are there.
 use mathlib.Core.Path.{◌≡◌}
-use Prim.Native.Nat.{◌+◌, ◌-◌, ◌*◌, ◌≤◌, ◌<◌}
 use lib.ListN.{length}
 use Rattle.lent.specs.Rows.{strided}
 use Rattle.evaluations.proofs.Gathering.{GatherInv}
 use Rattle.evaluations.proofs.gather_lane.Given as goal
 
 abbrev pub invariant-loop-i : goal.invariant-loop-i
-invariant-loop-i l =
-    (l.i ≤ l.count) × (l.j < 4) × (l.first + l.step * l.count < length l.elements + l.step) × (4 * (l.to + l.count) ≤ length l.values) × (length l.values ≡ length l.initial.values) × GatherInv (strided l.elements l.first l.step) l.to l.j l.initial.values l.values l.i
-
-abbrev pub decreases-loop-i : goal.decreases-loop-i
-decreases-loop-i l = l.count - l.i
+invariant-loop-i l = (length l.values ≡ length l.initial.values) × GatherInv (strided l.elements l.first l.step) l.to l.j l.initial.values l.values l.i

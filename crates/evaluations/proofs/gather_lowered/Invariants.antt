@@ -1,6 +1,5 @@
 -- `evaluations::gather_lowered` meets its contract. The invariant: the first i values are there.
 use mathlib.Core.Path.{◌≡◌}
-use Prim.Native.Nat.{◌*◌, ◌+◌, ◌-◌, ◌<◌, ◌≤◌}
 use lib.ListN.{length}
 use Rattle.evaluations.specs.Values.{strided_difference}
 use Rattle.evaluations.proofs.Gathering.{GatherInv}
@@ -8,7 +7,4 @@ use Rattle.evaluations.proofs.gather_lowered.Given as goal
 
 abbrev pub invariant-loop-i : goal.invariant-loop-i
 invariant-loop-i l =
-    (l.i ≤ l.count) × (l.j < 4) × (4 * (l.to + l.count) ≤ length l.values) × (length l.values ≡ length l.initial.values) × GatherInv (strided_difference l.elements l.first l.step l.blinds l.start l.apart) l.to l.j l.initial.values l.values l.i
-
-abbrev pub decreases-loop-i : goal.decreases-loop-i
-decreases-loop-i l = l.count - l.i
+    (length l.values ≡ length l.initial.values) × GatherInv (strided_difference l.elements l.first l.step l.blinds l.start l.apart) l.to l.j l.initial.values l.values l.i

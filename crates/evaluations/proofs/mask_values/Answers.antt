@@ -1,13 +1,7 @@
 -- `evaluations::mask_values` meets its contract: dot products with the powers.
 use lib.ListN.{length}
-use Rattle.evaluations.proofs.Masks.{dots_room, mask_values}
+use Rattle.evaluations.proofs.Masks.{mask_values}
 use Rattle.evaluations.proofs.mask_values.Goals as goal
-
-pub dots-requires : goal.dots-requires
-dots-requires c =
-    let s = c.args in
-    dots_room s.x.0 (length s.weights.now) c.powers.new.out c.powers.ensures (length s.out.now) (length s.masks.now)
-    c.requires.0 c.requires.1
 
 pub returns : goal.returns
 returns c =

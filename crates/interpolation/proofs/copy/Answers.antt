@@ -8,17 +8,17 @@ use Rattle.interpolation.proofs.copy.Goals as goal
 
 pub loop-i-init : goal.loop-i-init
 loop-i-init c =
-    (refl, omega arith, omega arith, filled_none (entry_of c.args.from.now) c.args.to.now 0 0 (omega arith))
+    (omega arith, filled_none (entry_of c.args.from.now) c.args.to.now 0 0 (omega arith))
 
 pub loop-i-preserved : goal.loop-i-preserved
 loop-i-preserved c =
     let loop = c.loop-i in
     let from : List ℕ = c.args.from.now in
-    (refl, omega arith, simp length-set loop.invariant.2, fill_next (entry_of from) loop.to 0 loop.i _ (omega arith) refl loop.invariant.3)
+    (simp length-set loop.invariant.0, fill_next (entry_of from) loop.to 0 loop.i _ (omega arith) refl loop.invariant.1)
 
 pub returns : goal.returns
 returns c =
     let loop = c.loop-i in
     let from : List ℕ = c.args.from.now in
     let e : loop.i ≡ length from = omega arith in
-    filled_copy from loop.to (length from) refl loop.invariant.2 (subst (λ (k : ℕ). Filled (entry_of from) loop.to 0 k) e loop.invariant.3)
+    filled_copy from loop.to (length from) refl loop.invariant.0 (subst (λ (k : ℕ). Filled (entry_of from) loop.to 0 k) e loop.invariant.1)

@@ -5,13 +5,7 @@ use Prim.Native.Nat.{ℕ}
 use native.Mathlib.Nat.{suc-ne-zero}
 use Rattle.algebra.specs.Divided.{nform_n}
 use Rattle.scheme.proofs.Interpolation.{samples_pass, verdict_equal, verdict_taken, left, filled}
-use native.Mathlib.Omega.{arith}
 use Rattle.interpolation.proofs.interpolate_in.Goals as goal
-
-pub divide-requires : goal.divide-requires
-divide-requires c =
-    let s = c.requires.0 in
-    (s.points_below, s.values_below, s.values_count, omega arith, omega arith, omega arith, s.few, c.requires.4)
 
 pub returns-then-not-divide : goal.returns-then-not-divide
 returns-then-not-divide c =
@@ -19,10 +13,6 @@ returns-then-not-divide c =
     left args.points.now args.values.now args.out.now 13
     (verdict_equal args.points.now args.values.now args.out.now (samples_pass args.points.now args.values.now args.out.now c.requires.0) (sym c.divide.ensures.0 ∙ c.if-not-divide.true))
     (λ e. suc-ne-zero 12 e)
-
-pub expand-requires : goal.expand-requires
-expand-requires c =
-    (c.requires.0.points_below, c.copy.auto.to ∙ c.requires.0.room_count)
 
 pub returns : goal.returns
 returns c =

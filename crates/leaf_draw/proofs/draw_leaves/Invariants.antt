@@ -5,11 +5,7 @@ use Rattle.fiat_shamir.specs.Draw.{ranks_at}
 use Rattle.fiat_shamir.specs.Ranks.{drawn_into}
 use lib.ListN.{length, take, drop}
 use mathlib.Core.Path.{◌≡◌}
-use Prim.Native.Nat.{◌≤◌, ◌-◌}
 use Rattle.leaf_draw.proofs.draw_leaves.Given as goal
 
 abbrev pub invariant-loop-j : goal.invariant-loop-j
-invariant-loop-j l = (l.j ≤ length l.initial.out) × (l.j-end ≡ length l.initial.out) × (length l.out ≡ length l.initial.out) × (take l.j l.out ≡ drawn_into l.leaves [] (doubles l.j (drop ranks_at l.draw)))
-
-abbrev pub decreases-loop-j : goal.decreases-loop-j
-decreases-loop-j l = l.j-end - l.j
+invariant-loop-j l = (length l.out ≡ length l.initial.out) × (take l.j l.out ≡ drawn_into l.leaves [] (doubles l.j (drop ranks_at l.draw)))

@@ -11,20 +11,20 @@ use Rattle.leaf_draw.proofs.place_of.Goals as goal
 pub loop-k-init : goal.loop-k-init
 loop-k-init c =
     let s = c.args in
-    (search rules, search rules, ap (λ (n : ℕ). place_of n s.used.now) (sym (add-zero s.rank)) ∙ sym (zero-add (place_of (s.rank + 0) s.used.now)))
+    ap (λ (n : ℕ). place_of n s.used.now) (sym (add-zero s.rank)) ∙ sym (zero-add (place_of (s.rank + 0) s.used.now))
 
 pub returns-then-rank-k : goal.returns-then-rank-k
 returns-then-rank-k c =
     let s = c.args in
-    sym (c.loop-k.invariant.2 ∙ walk_stop s.rank s.used.now c.loop-k.k (omega arith) (search rules))
+    sym (c.loop-k.invariant ∙ walk_stop s.rank s.used.now c.loop-k.k (omega arith) (search rules))
 
 pub loop-k-preserved : goal.loop-k-preserved
 loop-k-preserved c =
     let s = c.args in
-    (search rules, search rules, c.loop-k.invariant.2 ∙ walk_on s.rank s.used.now c.loop-k.k (omega arith) (search rules))
+    c.loop-k.invariant ∙ walk_on s.rank s.used.now c.loop-k.k (omega arith) (search rules)
 
 pub returns : goal.returns
 returns c =
     let s = c.args in
     let e : c.loop-k.k ≡ length s.used.now = omega arith in
-    sym (c.loop-k.invariant.2 ∙ walk_end s.rank s.used.now c.loop-k.k (drop_of_length-le s.used.now (le_of_eq (sym e))) ∙ e)
+    sym (c.loop-k.invariant ∙ walk_end s.rank s.used.now c.loop-k.k (drop_of_length-le s.used.now (le_of_eq (sym e))) ∙ e)

@@ -1,12 +1,9 @@
 -- `leaf_draw::place_of` meets its contract: the used ones before k come before the unused one.
 use Rattle.leaf_draw.specs.Place.{place_of}
-use lib.ListN.{length, drop}
+use lib.ListN.{drop}
 use mathlib.Core.Path.{◌≡◌}
-use Prim.Native.Nat.{◌≤◌, ◌-◌, ◌+◌}
+use Prim.Native.Nat.{◌+◌}
 use Rattle.leaf_draw.proofs.place_of.Given as goal
 
 abbrev pub invariant-loop-k : goal.invariant-loop-k
-invariant-loop-k l = (l.k ≤ length l.used) × (l.k-end ≡ length l.used) × (place_of l.rank l.used ≡ l.k + place_of (l.rank + l.k) (drop l.k l.used))
-
-abbrev pub decreases-loop-k : goal.decreases-loop-k
-decreases-loop-k l = l.k-end - l.k
+invariant-loop-k l = place_of l.rank l.used ≡ l.k + place_of (l.rank + l.k) (drop l.k l.used)

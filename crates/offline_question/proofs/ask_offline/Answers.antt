@@ -1,12 +1,11 @@
 -- `offline_question::ask_offline` meets its contract.
+use Rattle.std.proofs.lemmas.Result.{err_from_is_err_and}
+use Rattle.refusal.specs.Numbers.{number, number_positive}
 use Rattle.offline_question.proofs.Order.{header_decides}
-use mathlib.Core.Path.{sym, ◌∙◌}
 use Rattle.offline_question.proofs.ask_offline.Goals as goal
 
-pub offline_body-requires : goal.offline_body-requires
-offline_body-requires c = sym c.header-head.ensures ∙ c.in-WellFormed.is
-
-pub returns-in-Refused : goal.returns-in-Refused
-returns-in-Refused c =
-    let s = c.args in
-    sym (header_decides s.question.now s.kappa c.in-Refused.v (sym c.header-head.ensures ∙ c.in-Refused.is))
+pub returns-in_err-shape-clause-verdict : goal.returns-in_err-shape-clause-verdict
+returns-in_err-shape-clause-verdict c =
+    let refusal = c.in_err-shape.field-0.0 in
+    let p = err_from_is_err_and c.from_residual.result c.from_residual.ensures.1 in
+    rw (p.1, p.2) (header_decides c.args.question.now c.args.kappa (number refusal) c.in_err-shape.ensures.verdict (number_positive refusal))

@@ -1,8 +1,12 @@
 -- `opener::open` meets its contract.
 use mathlib.Core.Path.{◌≡◌, sym, ap, ◌∙◌}
 use lib.ListN.{length}
-use Rattle.scheme.specs.Layers.{lent_of}
+use Rattle.std.proofs.lemmas.Result.{err_from_is_err_and}
+use Rattle.lists.specs.Bytes.{Bytes}
+use Rattle.lent.specs.Witnessed.{witnessed}
+use Rattle.refusal.specs.Numbers.{number, number_positive}
 use Rattle.scheme.specs.Question.{Question}
+use Rattle.scheme.specs.Open.{open_verdict, opening}
 use Rattle.scheme.proofs.Accepted.{sizes_in_order}
 use Rattle.question.proofs.Answer.{taken, asked_indices}
 use Rattle.opener.proofs.Given.{question_is}
@@ -11,89 +15,46 @@ use borrow.Author.Rules.{rules}
 use native.Mathlib.Omega.{arith}
 use Rattle.opener.proofs.open.Goals as goal
 
-pub question_indices-requires : goal.question_indices-requires
-question_indices-requires c =
-    let b : length c.blank_indices-indices.result ≡ 64 = search rules in
-    (sym c.ask.ensures ∙ c.in-WellFormed.is, omega arith)
+pub returns-in_err-query : goal.returns-in_err-query
+returns-in_err-query c =
+    let s = c.args in
+    let refusal = c.in_err-query.field-0.0 in
+    let p = err_from_is_err_and c.from_residual.result c.from_residual.ensures.1 in
+    rw (p.1, p.2) (question_refused s.question.now (witnessed s.witness.now) s.table.now s.tree.now s.reply.now (number refusal)
+    (number_positive refusal) c.in_err-query.ensures.verdict)
+
+pub slice_bounds-all-end : goal.slice_bounds-all-end
+slice_bounds-all-end c =
+    let q = c.in_ok-query.query in
+    let b : length c.indices-all.result ≡ 64 = search rules in
+    omega (arith, (sizes_in_order _ (taken q.bytes.now q.shape q.m q.asks).sizes_ok_lem).ℓ-high, b)
 
 pub slice_bounds-indices-end : goal.slice_bounds-indices-end
 slice_bounds-indices-end c =
-    let b : length c.blank_indices-indices.result ≡ 64 = search rules in
-    omega (
-      arith,
-      (sizes_in_order _ (taken c.args.question.now
-          c.in-WellFormed.s c.in-WellFormed.m
-          (sym c.ask.ensures ∙ c.in-WellFormed.is)).sizes_ok_lem).ℓ-high,
-      c.question_indices.auto.out,
+    let q = c.in_ok-query.query in
+    sym (ap length c.indices-all.ensures ∙ (asked_indices q.bytes.now q.shape q.m q.asks).0)
+
+pub returns-in_err-lent_verdict : goal.returns-in_err-lent_verdict
+returns-in_err-lent_verdict c =
+    let s = c.args in
+    let refusal = c.in_err-lent_verdict.field-0.0 in
+    let p = err_from_is_err_and c.from_residual-in_err-lent_verdict.result c.from_residual-in_err-lent_verdict.ensures.1 in
+    rw (p.1, p.2) (lent_refused s.question.now (witnessed s.witness.now) s.table.now s.tree.now s.reply.now (number refusal)
+    (number_positive refusal)
+    (c.in_err-lent_verdict.ensures ∙ ap (λ (b : Bytes). open_verdict b (witnessed s.witness.now) s.table.now s.tree.now s.reply.now) c.in_ok-query.ensures.query))
+
+pub write_reply-requires : goal.write_reply-requires
+write_reply-requires c =
+    let s = c.args in
+    let q = c.in_ok-query.query in (
+      is_ready q.bytes.now (witnessed s.witness.now) s.table.now s.tree.now s.reply.now q.shape q.m q.asks (sym c.in_ok-lent_verdict.ensures),
+      c.indices-all.ensures ∙ sym (ap (λ (u : Question). u.indices) (question_is q.bytes.now q.shape q.m q.asks)),
     )
 
-pub slice_bounds-lent_verdict-end : goal.slice_bounds-lent_verdict-end
-slice_bounds-lent_verdict-end c =
-    sym (ap length c.question_indices.ensures ∙ (asked_indices
-    c.args.question.now
-    c.in-WellFormed.s c.in-WellFormed.m
-    (sym c.ask.ensures ∙ c.in-WellFormed.is)).0)
-
-pub lent_verdict-verdict-requires : goal.lent_verdict-verdict-requires
-lent_verdict-verdict-requires c = (
-  sym c.ask.ensures ∙ c.in-WellFormed.is,
-  c.question_indices.ensures,
-)
-
-pub slice_bounds-indices-end-then-verdict-eq0 : goal.slice_bounds-indices-end-then-verdict-eq0
-slice_bounds-indices-end-then-verdict-eq0 c =
-    let b : length c.blank_indices-indices.result ≡ 64 = search rules in
-    omega (
-      arith,
-      (sizes_in_order _ (taken c.args.question.now
-          c.in-WellFormed.s c.in-WellFormed.m
-          (sym c.ask.ensures ∙
-          c.in-WellFormed.is)).sizes_ok_lem).ℓ-high,
-      c.question_indices.auto.out,
-    )
-
-pub slice_bounds-write_reply-end : goal.slice_bounds-write_reply-end
-slice_bounds-write_reply-end c =
-    sym (ap length c.question_indices.ensures ∙ (asked_indices
-    c.args.question.now
-    c.in-WellFormed.s c.in-WellFormed.m
-    (sym c.ask.ensures ∙ c.in-WellFormed.is)).0)
-
-pub write_reply-n-requires : goal.write_reply-n-requires
-write_reply-n-requires c =
-    let s = c.args in (
-      is_ready s.question.now (lent_of s.coefficients.now s.tails.now s.blinds.now s.masks.now s.nonces.now s.salt.now) s.table.now s.tree.now s.reply.now
-          c.in-WellFormed.s
-          c.in-WellFormed.m
-          (sym c.ask.ensures ∙
-          c.in-WellFormed.is) c.lent_verdict-verdict.result c.lent_verdict-verdict.ensures
-          c.if-verdict-eq0.true,
-      c.question_indices.ensures ∙ sym
-          (ap (λ (u : Question). u.indices) (question_is s.question.now c.in-WellFormed.s
-          c.in-WellFormed.m
-          (sym c.ask.ensures ∙
-          c.in-WellFormed.is))),
-    )
-
-pub returns-then-verdict-eq0 : goal.returns-then-verdict-eq0
-returns-then-verdict-eq0 c =
+pub returns : goal.returns
+returns c =
     let s = c.args in
-    replied s.question.now (lent_of s.coefficients.now s.tails.now s.blinds.now s.masks.now s.nonces.now s.salt.now) s.table.now s.tree.now s.reply.now
-    c.in-WellFormed.s
-    c.in-WellFormed.m
-    (sym c.ask.ensures ∙
-    c.in-WellFormed.is) c.lent_verdict-verdict.result
-    c.lent_verdict-verdict.ensures c.if-verdict-eq0.true
-    c.write_reply-n.result c.write_reply-n.new.reply c.write_reply-n.ensures.value c.write_reply-n.ensures.reply_after
-
-pub returns-else-verdict-eq0 : goal.returns-else-verdict-eq0
-returns-else-verdict-eq0 c =
-    let s = c.args in
-    lent_refused s.question.now (lent_of s.coefficients.now s.tails.now s.blinds.now s.masks.now s.nonces.now s.salt.now) s.table.now s.tree.now s.reply.now c.lent_verdict-verdict.result
-    c.lent_verdict-verdict.ensures c.if-verdict-eq0.false
-
-pub returns-in-Refused : goal.returns-in-Refused
-returns-in-Refused c =
-    let s = c.args in
-    question_refused s.question.now (lent_of s.coefficients.now s.tails.now s.blinds.now s.masks.now s.nonces.now s.salt.now) s.table.now s.tree.now s.reply.now c.in-Refused.verdict
-    (sym c.ask.ensures ∙ c.in-Refused.is)
+    let q = c.in_ok-query.query in
+    replied q.bytes.now (witnessed s.witness.now) s.table.now s.tree.now s.reply.now q.shape q.m q.asks (sym c.in_ok-lent_verdict.ensures)
+    c.write_reply.result c.write_reply.new.reply c.write_reply.ensures.value c.write_reply.ensures.reply_after
+    ∙ ap (λ (b : Bytes). opening b (witnessed s.witness.now) s.table.now s.tree.now s.reply.now) c.in_ok-query.ensures.query

@@ -1,6 +1,7 @@
 -- `opener::put_sums` meets its contract: the two parts one after the other.
 use Rattle.scheme.proofs.Accepted.{leaves-high}
 use Rattle.commitment.specs.Shape.{sizes_in}
+use Rattle.lent.specs.Witnessed.{witnessed}
 use Rattle.opener.proofs.Sums.{batchings_ask, answers_ask, sums_are}
 use borrow.Author.Rules.{rules}
 use Rattle.opener.proofs.put_sums.Goals as goal
@@ -18,7 +19,7 @@ overflow_cast-first c =
 pub put_batchings-requires : goal.put_batchings-requires
 put_batchings-requires c =
     let s = c.args in
-    batchings_ask (sizes_in s.s) s.m s.question.now s.coefficients.now s.tails.now s.blinds.now s.masks.now s.reply.now c.requires
+    batchings_ask (sizes_in s.s) s.m s.question.now (witnessed s.witness.now) s.reply.now c.requires
     c.row_width-n.result c.leaf_count.result c.challenges_at.result c.row_width-n.ensures c.leaf_count.ensures
     c.challenges_at.ensures
 
@@ -28,7 +29,7 @@ answers_at-requires c = c.requires.combine.extend.laid.sizes
 pub put_answers-requires : goal.put_answers-requires
 put_answers-requires c =
     let s = c.args in
-    answers_ask (sizes_in s.s) s.m s.question.now s.coefficients.now s.tails.now s.blinds.now s.masks.now s.reply.now
+    answers_ask (sizes_in s.s) s.m s.question.now (witnessed s.witness.now) s.reply.now
     c.requires c.row_width-n.result
     c.points_at.result c.answers_at.result c.put_batchings.new.out
     c.row_width-n.ensures c.points_at.ensures c.answers_at.ensures
@@ -37,7 +38,7 @@ put_answers-requires c =
 pub returns : goal.returns
 returns c =
     let s = c.args in
-    sums_are (sizes_in s.s) s.m s.question.now s.coefficients.now s.tails.now s.blinds.now s.masks.now s.reply.now
+    sums_are (sizes_in s.s) s.m s.question.now (witnessed s.witness.now) s.reply.now
     c.requires
     c.row_width-n.result
     c.leaf_count.result c.challenges_at.result

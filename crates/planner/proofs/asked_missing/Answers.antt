@@ -14,19 +14,19 @@ use Rattle.planner.proofs.asked_missing.Goals as goal
 pub slice_bounds-indices-end : goal.slice_bounds-indices-end
 slice_bounds-indices-end c =
     let s = c.args in
-    let b : length c.blank_indices-indices.result ≡ 64 = search rules in
-    omega (arith, (sizes_in_order (sizes_in s.s) (taken s.question.now s.s s.m c.requires).sizes_ok_lem).ℓ-high, c.question_indices.auto.out)
+    let b : length c.indices-indices.result ≡ 64 = search rules in
+    omega (arith, (sizes_in_order (sizes_in s.query.now.shape) (taken s.query.now.bytes.now s.query.now.shape s.query.now.m s.query.now.asks).sizes_ok_lem).ℓ-high, b)
 
 pub slice_bounds-count_missing-end : goal.slice_bounds-count_missing-end
 slice_bounds-count_missing-end c =
     let s = c.args in
-    sym (ap length c.question_indices.ensures ∙ (asked_indices s.question.now s.s s.m c.requires).0)
+    sym (ap length c.indices-indices.ensures ∙ (asked_indices s.query.now.bytes.now s.query.now.shape s.query.now.m s.query.now.asks).0)
 
 pub count_missing-requires : goal.count_missing-requires
 count_missing-requires c =
     let s = c.args in
-    subst (IndexSet s.s.h) (sym c.question_indices.ensures) (asked_indices s.question.now s.s s.m c.requires).1
+    subst (IndexSet s.query.now.shape.h) (sym c.indices-indices.ensures) (asked_indices s.query.now.bytes.now s.query.now.shape s.query.now.m s.query.now.asks).1
 
 pub returns : goal.returns
 returns c =
-    c.count_missing.ensures ∙ ap (λ (x : List _). length (missing 2 c.args.s.h x)) c.question_indices.ensures
+    c.count_missing.ensures ∙ ap (λ (x : List _). length (missing 2 c.args.query.now.shape.h x)) c.indices-indices.ensures

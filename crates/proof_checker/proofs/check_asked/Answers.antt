@@ -8,31 +8,31 @@ use borrow.Author.Rules.{rules}
 use native.Mathlib.Omega.{arith}
 use Rattle.proof_checker.proofs.check_asked.Goals as goal
 
-pub overflow_mul-s : goal.overflow_mul-s
-overflow_mul-s c =
+pub overflow_mul-query : goal.overflow_mul-query
+overflow_mul-query c =
     let s = c.args in
-    let f = known s.question.now s.kappa s.s s.m c.requires in
-    let h = buffer_high (sizes_in s.s) f.in_order s.m f.few_points in search rules
+    let f = known s.query.now.bytes.now s.query.now.kappa s.query.now.shape s.query.now.m s.query.now.asks in
+    let h = buffer_high (sizes_in s.query.now.shape) f.in_order s.query.now.m f.few_points in search rules
 
-pub returns-then-values-s : goal.returns-then-values-s
-returns-then-values-s c =
+pub returns-then-values-query : goal.returns-then-values-query
+returns-then-values-query c =
     let s = c.args in
-    refused_2 s.question.now s.kappa s.proof.now s.values.now s.s s.m c.requires c.if-values-s.true
+    refused_2 s.query.now.bytes.now s.query.now.kappa s.proof.now s.values.now s.query.now.shape s.query.now.m s.query.now.asks c.if-values-query.true
 
 pub records_at-requires : goal.records_at-requires
 records_at-requires c =
     let s = c.args in
-    let f = known s.question.now s.kappa s.s s.m c.requires in
+    let f = known s.query.now.bytes.now s.query.now.kappa s.query.now.shape s.query.now.m s.query.now.asks in
     (f.in_order, f.few_points)
 
 pub overflow_add-records_at : goal.overflow_add-records_at
 overflow_add-records_at c =
     let records-at = c.records_at in
     let s = c.args in
-    let f = known s.question.now s.kappa s.s s.m c.requires in
-    let h : records-at.result ≤ 15360 = omega (arith, records-at.ensures, records_high (sizes_in s.s) f.in_order s.m f.few_points) in search rules
+    let f = known s.query.now.bytes.now s.query.now.kappa s.query.now.shape s.query.now.m s.query.now.asks in
+    let h : records-at.result ≤ 15360 = omega (arith, records-at.ensures, records_high (sizes_in s.query.now.shape) f.in_order s.query.now.m f.few_points) in search rules
 
 pub returns-then-proof-records_at : goal.returns-then-proof-records_at
 returns-then-proof-records_at c =
     let s = c.args in
-    refused_7 s.question.now s.kappa s.proof.now s.values.now s.s s.m c.requires c.if-values-s.false (omega (arith, c.if-proof-records_at.true, c.records_at.ensures))
+    refused_7 s.query.now.bytes.now s.query.now.kappa s.proof.now s.values.now s.query.now.shape s.query.now.m s.query.now.asks c.if-values-query.false (omega (arith, c.if-proof-records_at.true, c.records_at.ensures))

@@ -4,7 +4,7 @@ use mathlib.Core.List.{◌++◌, ◌∷◌}
 use lib.ListN.{drop, length, length-drop, take}
 use Rattle.scheme.specs.Reply.{records_at}
 use Rattle.scheme.specs.Layers.{Lent}
-use Rattle.lent.specs.Partly.{unsalted}
+use Rattle.lent.specs.Witnessed.{witnessed}
 use Rattle.prover.proofs.Answers.{few_points, sized, string_fits, string_put}
 use Rattle.lists.specs.Parts.{mid_tail}
 use Rattle.fiat_shamir.specs.Prove.{proved_answers}
@@ -17,14 +17,14 @@ use Rattle.prover.proofs.put_string.Goals as goal
 pub put_question-requires : goal.put_question-requires
 put_question-requires c =
     let s = c.args in
-    omega (arith, string_fits s.question.now (sizes_in s.s) s.m (unsalted s.coefficients.now s.tails.now s.blinds.now s.masks.now s.nonces.now) c.requires.0, c.requires.1)
+    omega (arith, string_fits s.query.now.bytes.now (sizes_in s.query.now.shape) s.query.now.m (witnessed s.witness.now) c.requires.0, c.requires.1)
 
 pub slice_bounds-put_answers-count : goal.slice_bounds-put_answers-count
 slice_bounds-put_answers-count c =
     let s = c.args in
     omega (
       arith,
-      string_fits s.question.now (sizes_in s.s) s.m (unsalted s.coefficients.now s.tails.now s.blinds.now s.masks.now s.nonces.now) c.requires.0,
+      string_fits s.query.now.bytes.now (sizes_in s.query.now.shape) s.query.now.m (witnessed s.witness.now) c.requires.0,
       c.requires.1,
       c.put_question.auto.string,
     )
@@ -33,22 +33,22 @@ pub slice_bounds-put_answers-start : goal.slice_bounds-put_answers-start
 slice_bounds-put_answers-start c =
     let putQuestion' = c.put_question in
     let s = c.args in
-    let fit : length s.question.now + 1 ≤ length putQuestion'.new.string = omega
-    (arith, string_fits s.question.now (sizes_in s.s) s.m (unsalted s.coefficients.now s.tails.now s.blinds.now s.masks.now s.nonces.now) c.requires.0, c.requires.1, putQuestion'.auto.string) in
+    let fit : length s.query.now.bytes.now + 1 ≤ length putQuestion'.new.string = omega
+    (arith, string_fits s.query.now.bytes.now (sizes_in s.query.now.shape) s.query.now.m (witnessed s.witness.now) c.requires.0, c.requires.1, putQuestion'.auto.string) in
     search rules
 
 pub put_answers-requires : goal.put_answers-requires
 put_answers-requires c =
     let putQuestion' = c.put_question in
     let s = c.args in
-    let at : ℕ = length s.question.now + 1 in
+    let at : ℕ = length s.query.now.bytes.now + 1 in
     let o = putQuestion'.new.string in
     let size : length (take (length o - at) (drop at o)) ≡ length o - at = ap length (mid_tail at o) ∙ length-drop at o in (
       c.requires.0,
       omega (
         arith,
         size,
-        string_fits s.question.now (sizes_in s.s) s.m (unsalted s.coefficients.now s.tails.now s.blinds.now s.masks.now s.nonces.now) c.requires.0,
+        string_fits s.query.now.bytes.now (sizes_in s.query.now.shape) s.query.now.m (witnessed s.witness.now) c.requires.0,
         c.requires.1,
         putQuestion'.auto.string,
       ),
@@ -57,13 +57,13 @@ put_answers-requires c =
 pub records_at-requires : goal.records_at-requires
 records_at-requires c =
     let s = c.args in
-    let l : Lent = unsalted s.coefficients.now s.tails.now s.blinds.now s.masks.now s.nonces.now in
-    (sized s.question.now (sizes_in s.s) s.m l c.requires.0, few_points s.question.now (sizes_in s.s) s.m l c.requires.0)
+    let l : Lent = witnessed s.witness.now in
+    (sized s.query.now.bytes.now (sizes_in s.query.now.shape) s.query.now.m l c.requires.0, few_points s.query.now.bytes.now (sizes_in s.query.now.shape) s.query.now.m l c.requires.0)
 
 pub overflow_add-result : goal.overflow_add-result
 overflow_add-result c =
     let s = c.args in
-    omega (arith, c.records_at.ensures, string_fits s.question.now (sizes_in s.s) s.m (unsalted s.coefficients.now s.tails.now s.blinds.now s.masks.now s.nonces.now) c.requires.0)
+    omega (arith, c.records_at.ensures, string_fits s.query.now.bytes.now (sizes_in s.query.now.shape) s.query.now.m (witnessed s.witness.now) c.requires.0)
 
 pub returns : goal.returns
 returns c =
@@ -71,12 +71,12 @@ returns c =
     let putQuestion' = c.put_question in
     let records_at' = c.records_at in
     let s = c.args in
-    let b = s.question.now in
-    let l : Lent = unsalted s.coefficients.now s.tails.now s.blinds.now s.masks.now s.nonces.now in
-    let fits = string_fits b (sizes_in s.s) s.m l c.requires.0 in
-    let n : length b + 1 + records_at'.result ≡ suc (length b) + records_at (sizes_in s.s) s.m = omega (arith, records_at'.ensures) in record {
+    let b = s.query.now.bytes.now in
+    let l : Lent = witnessed s.witness.now in
+    let fits = string_fits b (sizes_in s.query.now.shape) s.query.now.m l c.requires.0 in
+    let n : length b + 1 + records_at'.result ≡ suc (length b) + records_at (sizes_in s.query.now.shape) s.query.now.m = omega (arith, records_at'.ensures) in record {
       value = n;
-      string_after = string_put b (sizes_in s.s) s.m l c.requires.0 s.string.now putQuestion'.new.string putAnswers'.new.out (length b + 1) (search rules) (omega (arith, fits, c.requires.1))
+      string_after = string_put b (sizes_in s.query.now.shape) s.query.now.m l c.requires.0 s.string.now putQuestion'.new.string putAnswers'.new.out (length b + 1) (search rules) (omega (arith, fits, c.requires.1))
           putQuestion'.ensures putAnswers'.ensures
           ∙ ap (λ (k : ℕ). (3 ∷ (b ++ proved_answers b l)) ++ drop (length b + 1 + k) s.string.now) (sym records_at'.ensures);
     }

@@ -1,11 +1,11 @@
 -- `question::ask` meets its contract.
-use mathlib.Core.Path.{sym, ◌∙◌}
+use Rattle.std.proofs.lemmas.Result.{err_from_is_err_and}
+use Rattle.refusal.specs.Numbers.{number, number_positive}
 use Rattle.question.proofs.Order.{header_decides}
 use Rattle.question.proofs.ask.Goals as goal
 
-pub body-requires : goal.body-requires
-body-requires c = sym c.header-head.ensures ∙ c.in-WellFormed.is
-
-pub returns-in-Refused : goal.returns-in-Refused
-returns-in-Refused c =
-    sym (header_decides c.args.question.now c.in-Refused.v (sym c.header-head.ensures ∙ c.in-Refused.is))
+pub returns-in_err-shape-clause-verdict : goal.returns-in_err-shape-clause-verdict
+returns-in_err-shape-clause-verdict c =
+    let refusal = c.in_err-shape.field-0.0 in
+    let p = err_from_is_err_and c.from_residual.result c.from_residual.ensures.1 in
+    rw (p.1, p.2) (header_decides c.args.question.now (number refusal) c.in_err-shape.ensures.verdict (number_positive refusal))

@@ -11,9 +11,8 @@ use Rattle.scheme.specs.Sizes.{elements}
 use Rattle.scheme.specs.Question.{question_length}
 use Rattle.scheme.proofs.Accepted.{sizes_in_order}
 use Rattle.commitment.specs.Shape.{sizes_in}
-use Rattle.question.specs.Questioned.{answered}
 use Rattle.question.proofs.Answer.{well_headed}
-use Rattle.question.proofs.Order.{body_decides, body_passes}
+use Rattle.question.proofs.Order.{body_decides}
 use native.Mathlib.Omega.{arith}
 use Rattle.question.proofs.body.Goals as goal
 
@@ -23,7 +22,7 @@ question_length-requires c =
     within_high 1 8 s.m (well_headed s.question.now s.s s.m c.requires).points_ok_lem
 
 pub returns-then-question-question_length : goal.returns-then-question-question_length
-unfolding answered verdict_of
+unfolding verdict_of
 returns-then-question-question_length c =
     let s = c.args in
     simp (
@@ -36,7 +35,7 @@ pub elements_in-requires : goal.elements_in-requires
 elements_in-requires c = omega (arith, c.challenges_at.ensures, c.question_length.ensures, c.if-question-question_length.false)
 
 pub returns-then-not-elements_in : goal.returns-then-not-elements_in
-unfolding answered verdict_of
+unfolding verdict_of
 returns-then-not-elements_in c =
     let s = c.args in
     let e = c.elements_in.ensures ∙ ap (λ (k : ℕ). elements (numbers 4 (s.s.eta + s.m) k s.question.now)) c.challenges_at.ensures in
@@ -62,7 +61,7 @@ indices_ok-requires c =
     omega (arith, c.indices_at.ensures, c.question_length.ensures, c.if-question-question_length.false)
 
 pub returns-then-not-indices_ok : goal.returns-then-not-indices_ok
-unfolding answered verdict_of
+unfolding verdict_of
 returns-then-not-indices_ok c =
     let s = c.args in
     let e = c.elements_in.ensures ∙ ap (λ (k : ℕ). elements (numbers 4 (s.s.eta + s.m) k s.question.now))
@@ -83,10 +82,10 @@ returns c =
     let e = c.elements_in.ensures ∙ ap (λ (k : ℕ). elements (numbers 4 (s.s.eta + s.m) k s.question.now))
     c.challenges_at.ensures in
     let f = c.indices_ok.ensures ∙ ap₂ (λ (k n : ℕ). placed n (numbers 2 s.s.l k s.question.now)) c.indices_at.ensures c.leaf_count-leaves.ensures in
-    body_passes s.question.now s.s s.m c.requires
-    (simp (
+    simp (
+      body_decides s.question.now s.s s.m c.requires,
       eq-eqb (length s.question.now) (question_length (sizes_in s.s) s.m) (c.if-question-question_length.false ∙
           c.question_length.ensures),
       ap not (sym e) ∙ (ap not c.if-not-elements_in.false),
       ap not (sym f) ∙ (ap not c.if-not-indices_ok.false),
-    ))
+    )

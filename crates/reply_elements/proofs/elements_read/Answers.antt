@@ -1,30 +1,30 @@
 -- `reply_elements::elements_read` meets its contract.
-use mathlib.Core.Path.{sym, ◌∙◌, ap}
-use mathlib.Core.Bool.{Bool, not}
-use borrow.Author.Tests.{not-false}
+use mathlib.Core.Path.{sym, ◌∙◌}
+use mathlib.Core.Bool.{Bool, false≢true}
 use Rattle.lists.specs.Tests.{each, every_first, every_second, every_last}
 use Rattle.scheme.specs.Sizes.{elements}
 use Rattle.reply_elements.specs.Elements.{record_elements_at}
+use Rattle.reply_elements.proofs.elements_read.Goals.{then-elements_ok, else-elements_ok}
 use Rattle.reply_elements.proofs.elements_read.Goals as goal
 
-pub returns-then-not-elements_ok : goal.returns-then-not-elements_ok
-returns-then-not-elements_ok c =
+pub returns-then-elements_ok-2 : goal.returns-then-elements_ok-2
+returns-then-elements_ok-2 c =
     let s = c.args in
     let r : Bool = each s.count (record_elements_at s.at s.size s.n s.reply.now) in
-    sym (every_first (elements s.batching.now) (elements s.answers.now) r (sym c.elements_ok.ensures ∙ c.if-not-elements_ok.true))
+    let e = c.if-elements_ok-2.true in
+    elim c.if-elements_ok.branch [
+      | then-elements_ok w ↦ c.record_elements.ensures ∙ sym (every_last (elements s.batching.now) (elements s.answers.now) r
+          (sym c.elements_ok.ensures ∙ w.if-elements_ok.true) (sym w.elements_ok-then-elements_ok.ensures ∙ sym w.value-is ∙ e))
+      | else-elements_ok w ↦ absurd (false≢true (sym w.if-elements_ok.false ∙ sym w.value-is ∙ e))
+    ]
 
-pub returns-then-not-elements_ok-2 : goal.returns-then-not-elements_ok-2
-returns-then-not-elements_ok-2 c =
+pub returns-else-elements_ok-2 : goal.returns-else-elements_ok-2
+returns-else-elements_ok-2 c =
     let s = c.args in
     let r : Bool = each s.count (record_elements_at s.at s.size s.n s.reply.now) in
-    sym (every_second (elements s.batching.now) (elements s.answers.now) r (sym c.elements_ok.ensures ∙ c.if-not-elements_ok.false)
-    (sym c.elements_ok-2.ensures ∙ c.if-not-elements_ok-2.true))
-
-pub returns : goal.returns
-returns c =
-    let s = c.args in
-    let r : Bool = each s.count (record_elements_at s.at s.size s.n s.reply.now) in
-    c.record_elements.ensures
-    ∙ sym (every_last (elements s.batching.now) (elements s.answers.now) r (sym c.elements_ok.ensures ∙ not-false c.elements_ok.result
-    (ap not c.if-not-elements_ok.false))
-    (sym c.elements_ok-2.ensures ∙ c.if-not-elements_ok-2.false))
+    let e = c.if-elements_ok-2.false in
+    elim c.if-elements_ok.branch [
+      | then-elements_ok w ↦ e ∙ sym (every_second (elements s.batching.now) (elements s.answers.now) r
+          (sym c.elements_ok.ensures ∙ w.if-elements_ok.true) (sym w.elements_ok-then-elements_ok.ensures ∙ sym w.value-is ∙ e))
+      | else-elements_ok w ↦ e ∙ sym (every_first (elements s.batching.now) (elements s.answers.now) r (sym c.elements_ok.ensures ∙ w.if-elements_ok.false))
+    ]

@@ -1,8 +1,8 @@
 -- `reply_root::leaf_digests` meets its contract: after a turns the digests of the first a leaves are written, and their permutations counted.
 use mathlib.Core.Path.{◌≡◌}
 use mathlib.Core.List.{◌++◌}
-use Prim.Native.Nat.{◌+◌, ◌-◌, ◌*◌, ◌≤◌}
-use lib.ListN.{length, drop}
+use Prim.Native.Nat.{◌+◌, ◌*◌}
+use lib.ListN.{drop}
 use Rattle.lists.specs.Rows.{rows_of}
 use Rattle.tree.specs.Leaf.{record_start}
 use Rattle.tree.specs.Work.{permutations_for}
@@ -11,7 +11,4 @@ use Rattle.reply_root.proofs.leaf_digests.Given as goal
 
 abbrev pub invariant-loop-a : goal.invariant-loop-a
 invariant-loop-a l =
-    (l.a-end ≡ length l.indices) × (l.a ≤ length l.indices) × (length l.out ≡ length l.initial.out) × (l.out ≡ rows_of (leaf_digest_at l.salt l.at l.size l.indices l.reply) l.a ++ drop (32 * l.a) l.initial.out) × (l.ran ≡ l.a * permutations_for (record_start + l.size))
-
-abbrev pub decreases-loop-a : goal.decreases-loop-a
-decreases-loop-a l = l.a-end - l.a
+    (l.out ≡ rows_of (leaf_digest_at l.salt l.records.at l.records.size l.indices l.records.reply.now) l.a ++ drop (32 * l.a) l.initial.out) × (l.ran ≡ l.a * permutations_for (record_start + l.records.size))

@@ -1,7 +1,7 @@
 -- `reply_values::all_values` meets its contract: after p turns the values of the first p points are written.
 use mathlib.Core.Path.{◌≡◌}
 use mathlib.Core.List.{◌++◌}
-use Prim.Native.Nat.{◌-◌, ◌*◌, ◌≤◌}
+use Prim.Native.Nat.{◌*◌}
 use lib.ListN.{length, drop}
 use Rattle.lists.specs.Bytes.{words}
 use Rattle.lists.specs.Rows.{rows_of}
@@ -10,8 +10,4 @@ use Rattle.reply_values.proofs.all_values.Given as goal
 
 abbrev pub invariant-loop-p : goal.invariant-loop-p
 invariant-loop-p l =
-    (l.p-end ≡ length l.points) × (l.p ≤ length l.points) × (length l.answer ≡ length l.initial.answer) × (length l.values ≡ length l.initial.values) ×
-    (l.values ≡ rows_of (values_at l.mu l.nu l.w (length l.initial.answer) l.points (words (length l.initial.answer * length l.points) (drop l.at l.reply))) l.p ++ drop (l.w * l.p) l.initial.values)
-
-abbrev pub decreases-loop-p : goal.decreases-loop-p
-decreases-loop-p l = l.p-end - l.p
+    l.values ≡ rows_of (values_at l.s.mu l.s.nu l.s.w (length l.initial.answer) l.points (words (length l.initial.answer * length l.points) (drop l.at l.reply))) l.p ++ drop (l.s.w * l.p) l.initial.values

@@ -8,4 +8,4 @@ use Rattle.smallwood.proofs.smallwood_permutations.Goals as goal
 pub returns : goal.returns
 returns c =
     let s = c.args in
-    c.put_planned.ensures ∙ told_is question_work s.question.now (some_work s.question.now) s.count.now c.permutations.result c.permutations.ensures
+    c.put_number.ensures ∙ told_is question_work s.question.now (some_work s.question.now) s.count.now c.permutations.result c.permutations.ensures

@@ -10,4 +10,4 @@ use Rattle.smallwood.proofs.smallwood_reply_length.Goals as goal
 pub returns : goal.returns
 returns c =
     let s = c.args in
-    c.put_planned.ensures ∙ told_is reply_length s.question.now (λ wf. some_bytes (read_question s.question.now) (well_formed s.question.now wf)) s.length.now c.reply_length.result c.reply_length.ensures
+    c.put_number.ensures ∙ told_is reply_length s.question.now (λ wf. some_bytes (read_question s.question.now) (well_formed s.question.now wf)) s.length.now c.reply_length.result c.reply_length.ensures

@@ -1,2 +1,0 @@
--- For contracts inside the crate.
-pub mod Few
