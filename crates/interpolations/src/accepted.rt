@@ -1,9 +1,10 @@
 // Interpolations that are accepted: the coefficients of few points whole, those of many by their digest.
 use super::inputs::{Recurrence, any_points, constant, room, rule, scattered, words};
+use field::Q;
 use interpolation::interpolate;
-use runs::calls::{front_words, front_words_mut};
-use runs::inputs::Q;
-use runs::printing::{print_number, print_word_digest, print_words};
+use refusal::number_of;
+use runs::calls::{front, front_mut};
+use runs::printing::{Hex, print_words, word_digest};
 use std::io;
 
 // The number of points from which on there is a digest.
@@ -11,9 +12,11 @@ const MANY: usize = 20;
 
 fn print_coefficients(rt: &impl Print, coefficients: &[u32]) -> io::Result<()> {
     if coefficients.len() < MANY {
-        print_words(rt, b"\ncoefficients ", coefficients)
+        print!(rt; "coefficients ")?;
+        print_words(rt, coefficients)
     } else {
-        print_word_digest(rt, b"\ncoefficients digest ", coefficients)
+        let digest = word_digest(coefficients);
+        println!(rt; "coefficients digest {}", Hex(&digest))
     }
 }
 
@@ -22,14 +25,9 @@ fn print_run(rt: &impl Print, n: usize, points: Recurrence, values: Recurrence) 
     let x = words(points);
     let y = words(values);
     let mut coefficients = room();
-    let v = interpolate(
-        front_words(&x, n),
-        front_words(&y, n),
-        front_words_mut(&mut coefficients, n),
-    );
-    print_number(rt, b"points ", n as u64)?;
-    print_number(rt, b" interpolate ", v as u64)?;
-    print_coefficients(rt, front_words(&coefficients, n))
+    let answer = interpolate(front(&x, n), front(&y, n), front_mut(&mut coefficients, n));
+    println!(rt; "points {n} interpolate {}", number_of(answer))?;
+    print_coefficients(rt, front(&coefficients, n))
 }
 
 fn print_any(rt: &impl Print, n: usize) -> io::Result<()> {

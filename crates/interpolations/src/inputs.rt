@@ -1,5 +1,5 @@
 // The inputs, made by one rule, and the buffers that hold them.
-use runs::inputs::{LARGEST, Q};
+use field::Q;
 
 // Room for a few points more than can be.
 const ROOM: usize = 328;
@@ -14,9 +14,9 @@ pub struct Recurrence {
 
 pub fn rule(first: u32, factor: u32, step: u32) -> Recurrence {
     Recurrence {
-        first: first,
-        factor: factor,
-        step: step,
+        first,
+        factor,
+        step,
     }
 }
 
@@ -37,27 +37,22 @@ pub fn constant(word: u32) -> Recurrence {
 
 // What the lent coefficients hold before: the first is no element.
 fn before() -> Recurrence {
-    scattered(LARGEST)
+    scattered(u32::MAX)
 }
 
 fn next(r: Recurrence, word: u32) -> u32 {
-    let x = word as usize;
-    let y = r.factor as usize;
-    ((x * y + (r.step as usize)) % (Q as usize)) as u32
-}
-
-fn fill(r: Recurrence, out: &mut [u32]) {
-    let mut word = r.first;
-    for i in 0..out.len() {
-        out[i] = word;
-        word = next(r, word);
-    }
+    let product = u64::from(word) * u64::from(r.factor);
+    ((product + u64::from(r.step)) % u64::from(Q)) as u32
 }
 
 pub fn words(r: Recurrence) -> [u32; ROOM] {
-    let mut out = [0u32; ROOM];
-    fill(r, &mut out);
-    out
+    let mut words = [0; ROOM];
+    let mut word = r.first;
+    for place in &mut words {
+        *place = word;
+        word = next(r, word);
+    }
+    words
 }
 
 pub fn room() -> [u32; ROOM] {

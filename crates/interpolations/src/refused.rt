@@ -1,37 +1,41 @@
 // Calls that are refused, in the order of the tests: 1 2 3 13.
 use super::inputs::{any_points, room, scattered, words};
+use field::Q;
 use interpolation::interpolate;
-use runs::calls::{front_words, front_words_mut};
-use runs::inputs::{LARGEST, Q};
-use runs::printing::{print_number, word_digest};
-use runs::small::{NOWHERE, print_same};
+use refusal::number_of;
+use runs::calls::{front, front_mut};
+use runs::printing::word_digest;
+use runs::small::print_same;
 use std::io;
 
-// How many points and values are lent, and room for how many coefficients. A point and a value may be set to a word, and after that a point to another one.
+// How many points and values are lent, and room for how many coefficients. A point and a value may be set to a word, each by its place, and after that the point at the second place to the one at the first.
 #[derive(Clone, Copy)]
 struct Attempt {
     points: usize,
     values: usize,
     room: usize,
-    point_at: usize,
-    point: u32,
-    value_at: usize,
-    value: u32,
-    from: usize,
-    to: usize,
+    point: Option<(usize, u32)>,
+    value: Option<(usize, u32)>,
+    equal: Option<(usize, usize)>,
 }
 
-fn put(words: &mut [u32], at: usize, word: u32) {
-    if at < words.len() {
-        words[at] = word;
+fn put(words: &mut [u32], change: Option<(usize, u32)>) {
+    let Some((at, word)) = change else {
+        return;
+    };
+    if let Some(place) = words.get_mut(at) {
+        *place = word;
     }
 }
 
-// The word at `from` is put at `to` too.
-fn repeat(words: &mut [u32], from: usize, to: usize) {
+// The word at the first place is put at the second too.
+fn repeat(words: &mut [u32], equal: Option<(usize, usize)>) {
+    let Some((from, to)) = equal else {
+        return;
+    };
     if from < words.len() {
         let word = words[from];
-        put(words, to, word);
+        put(words, Some((to, word)));
     }
 }
 
@@ -39,34 +43,34 @@ fn print_attempt(rt: &impl Print, a: Attempt) -> io::Result<()> {
     let mut points = words(any_points());
     let mut values = words(scattered(11));
     let mut coefficients = room();
-    put(&mut points, a.point_at, a.point);
-    put(&mut values, a.value_at, a.value);
-    repeat(&mut points, a.from, a.to);
+    put(&mut points, a.point);
+    put(&mut values, a.value);
+    repeat(&mut points, a.equal);
     let before = word_digest(&coefficients);
-    let v = interpolate(
-        front_words(&points, a.points),
-        front_words(&values, a.values),
-        front_words_mut(&mut coefficients, a.room),
+    let answer = interpolate(
+        front(&points, a.points),
+        front(&values, a.values),
+        front_mut(&mut coefficients, a.room),
     );
-    print_number(rt, b"points ", a.points as u64)?;
-    print_number(rt, b" values ", a.values as u64)?;
-    print_number(rt, b" room ", a.room as u64)?;
-    print_number(rt, b" interpolate ", v as u64)?;
+    print!(rt;
+        "points {} values {} room {} interpolate {}",
+        a.points,
+        a.values,
+        a.room,
+        number_of(answer)
+    )?;
     print_same(rt, before, word_digest(&coefficients))
 }
 
 // With nothing wrong but perhaps the lengths.
 fn lent(points: usize, values: usize, room: usize) -> Attempt {
     Attempt {
-        points: points,
-        values: values,
-        room: room,
-        point_at: NOWHERE,
-        point: 0,
-        value_at: NOWHERE,
-        value: 0,
-        from: NOWHERE,
-        to: NOWHERE,
+        points,
+        values,
+        room,
+        point: None,
+        value: None,
+        equal: None,
     }
 }
 
@@ -75,24 +79,24 @@ fn sound(n: usize) -> Attempt {
 }
 
 fn with_point(a: Attempt, at: usize, word: u32) -> Attempt {
-    let mut b = a;
-    b.point_at = at;
-    b.point = word;
-    b
+    Attempt {
+        point: Some((at, word)),
+        ..a
+    }
 }
 
 fn with_value(a: Attempt, at: usize, word: u32) -> Attempt {
-    let mut b = a;
-    b.value_at = at;
-    b.value = word;
-    b
+    Attempt {
+        value: Some((at, word)),
+        ..a
+    }
 }
 
 fn with_equal(a: Attempt, from: usize, to: usize) -> Attempt {
-    let mut b = a;
-    b.from = from;
-    b.to = to;
-    b
+    Attempt {
+        equal: Some((from, to)),
+        ..a
+    }
 }
 
 // 1, whatever else is wrong.
@@ -128,12 +132,12 @@ fn print_lengths(rt: &impl Print) -> io::Result<()> {
 // 3, before equal points.
 fn print_elements(rt: &impl Print) -> io::Result<()> {
     print_attempt(rt, with_point(sound(1), 0, Q))?;
-    print_attempt(rt, with_value(sound(1), 0, LARGEST))?;
+    print_attempt(rt, with_value(sound(1), 0, u32::MAX))?;
     print_attempt(rt, with_point(sound(9), 0, Q + 1))?;
     print_attempt(rt, with_point(sound(9), 8, Q))?;
     print_attempt(rt, with_value(sound(9), 0, Q))?;
     print_attempt(rt, with_value(sound(9), 8, Q))?;
-    print_attempt(rt, with_point(sound(320), 319, LARGEST))?;
+    print_attempt(rt, with_point(sound(320), 319, u32::MAX))?;
     print_attempt(rt, with_value(sound(320), 319, Q))?;
     print_attempt(rt, with_equal(with_point(sound(9), 0, Q), 0, 8))?;
     print_attempt(rt, with_equal(with_value(sound(9), 4, Q), 0, 8))

@@ -14,7 +14,7 @@ use refused_checks::{
 use refused_proofs::{
     print_refused_blinded_proofs, print_refused_proofs, print_refused_salted_proofs,
 };
-use runs::inputs::OTHER_SALT;
+use runs::inputs::Salt;
 use runs::sizes::{blinded, shape};
 use runs::small::{small, small_blinded};
 use std::io;
@@ -40,8 +40,8 @@ fn print_blinded(rt: &impl Print) -> io::Result<()> {
 
 // What has been committed above, under another salt: the values stay.
 fn print_about_salt(rt: &impl Print) -> io::Result<()> {
-    print_salted(rt, small(), 2, 3, OTHER_SALT)?;
-    print_salted(rt, small_blinded(), 2, 3, OTHER_SALT)?;
+    print_salted(rt, small(), 2, 3, Salt::Other)?;
+    print_salted(rt, small_blinded(), 2, 3, Salt::Other)?;
     print_refused_salted_proofs(rt)?;
     print_refused_salted_checks(rt)
 }

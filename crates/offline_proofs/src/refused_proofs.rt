@@ -1,16 +1,12 @@
 // Calls of the prover that are refused, in the order of its tests: 6 5 1 6 3 2 3 8 11.
-use super::attempt::{
-    Attempt, ask, commit_sound, number_of, prove_asked, sound, with_asked_sizes, with_conversation,
-    with_kappa, with_point, with_question_length, with_question_raised, with_version,
-};
+use super::attempt::{Attempt, ask, commit_sound, prove_asked, sound};
 use commitment::{SALT_LENGTH, root_at, salt_at};
-use runs::inputs::{
-    BLINDS, COEFFICIENTS, MASKS, NONCES, Q, REPLY, SALT, TABLE, TAILS, TREE, blank_small,
-    filled_bytes, filled_words,
-};
-use runs::printing::print_number;
-use runs::sizes::{blinded, largest, salted, shape, shorter};
-use runs::small::{NOWHERE, print_same, raise, small, small_blinded, spoil};
+use field::Q;
+use refusal::number_of;
+use runs::faults::Fault;
+use runs::inputs::{SMALL_ROOM, Slice, WORD_ROOM, filled};
+use runs::sizes::{blinded, largest, shape};
+use runs::small::{print_same, raise, small, small_blinded, spoil};
 use std::io;
 
 // The bound at the small sizes with two points: a counter, four answers of 4 words, two records of 4 words and a nonce, and 4 nodes.
@@ -45,153 +41,108 @@ fn print_prove(
     table: &[u32],
     tree: &[u8],
 ) -> io::Result<()> {
-    let mut proof = filled_bytes(REPLY);
+    let mut proof = filled::<u8, SMALL_ROOM>(Slice::Reply);
     let before = sponge::digest(&proof);
     let answer = prove_asked(a, question, table, tree, &mut proof);
-    print_number(rt, b"kappa ", a.kappa as u64)?;
-    print_number(rt, b" limit ", a.limit as u64)?;
-    print_number(rt, b" question ", a.lengths.question as u64)?;
-    print_number(rt, b" buffer ", a.proof_length as u64)?;
-    print_number(rt, b" prove ", number_of(answer))?;
+    print!(rt;
+        "kappa {} limit {} question {} ",
+        a.kappa, a.limit, a.call.lengths.question
+    )?;
+    print!(rt; "buffer {} prove {}", a.call.room, number_of(answer))?;
     print_same(rt, before, sponge::digest(&proof))
 }
 
 // Commits, asks, makes what is lent wrong, and proves.
 fn print_attempt(rt: &impl Print, a: Attempt) -> io::Result<()> {
-    let mut table = filled_words(TABLE);
-    let mut tree = filled_bytes(TREE);
-    let mut question = blank_small();
-    commit_sound(a, &mut table, &mut tree);
+    let mut table = filled::<u32, WORD_ROOM>(Slice::Table);
+    let mut tree = filled::<u8, SMALL_ROOM>(Slice::Tree);
+    let mut question = [0; SMALL_ROOM];
+    commit_sound(a.call, &mut table, &mut tree);
     ask(a, &tree, &mut question);
-    raise(&mut tree, a.tree_at);
-    spoil(&mut table, a.lengths.table, a.spoiled == TABLE);
+    raise(&mut tree, a.call.tree_at);
+    if a.call.spoiled == Some(Slice::Table) {
+        spoil(&mut table, a.call.lengths.table);
+    }
     print_prove(rt, a, &question, &table, &tree)
-}
-
-fn with_shorter(rt: &impl Print, a: Attempt, slice: usize) -> io::Result<()> {
-    let mut b = a;
-    b.lengths = shorter(a.lengths, slice);
-    print_attempt(rt, b)
-}
-
-fn with_blind_count(rt: &impl Print, a: Attempt, count: usize) -> io::Result<()> {
-    let mut b = a;
-    b.lengths.blinds = count;
-    print_attempt(rt, b)
-}
-
-fn with_buffer(rt: &impl Print, a: Attempt, length: usize) -> io::Result<()> {
-    let mut b = a;
-    b.proof_length = length;
-    print_attempt(rt, b)
-}
-
-fn with_spoiled(rt: &impl Print, a: Attempt, slice: usize) -> io::Result<()> {
-    let mut b = a;
-    b.spoiled = slice;
-    print_attempt(rt, b)
-}
-
-fn with_salt_length(rt: &impl Print, a: Attempt, length: usize) -> io::Result<()> {
-    let mut b = a;
-    b.lengths = salted(a.lengths, length);
-    print_attempt(rt, b)
-}
-
-// With byte `asked` of the question and byte `lent` of the lent salt raised.
-fn with_salt_raised(rt: &impl Print, a: Attempt, asked: usize, lent: usize) -> io::Result<()> {
-    let mut b = a;
-    b.question_at = asked;
-    b.lent_salt_at = lent;
-    print_attempt(rt, b)
-}
-
-fn with_tree_raised(rt: &impl Print, at: usize) -> io::Result<()> {
-    let mut a = sound_proof();
-    a.tree_at = at;
-    print_attempt(rt, a)
-}
-
-fn with_limit(rt: &impl Print, limit: u32) -> io::Result<()> {
-    let mut a = sound_proof();
-    a.limit = limit;
-    print_attempt(rt, a)
 }
 
 fn print_questions(rt: &impl Print) -> io::Result<()> {
     let a = sound_proof();
-    print_attempt(rt, with_question_length(a, 13))?;
-    print_attempt(rt, with_question_raised(a, 0))?;
-    print_attempt(rt, with_question_raised(a, 4))?;
-    print_attempt(rt, with_question_raised(a, 8))?;
-    print_attempt(rt, with_kappa(a, 17))?;
-    print_attempt(rt, with_conversation(a))?;
-    print_attempt(rt, with_question_length(a, QUESTION_LENGTH - 1))?;
-    print_attempt(rt, with_question_length(a, QUESTION_LENGTH + 1))?;
-    print_attempt(rt, with_point(a, Q))
+    print_attempt(rt, a.with(Fault::QuestionLength(13)))?;
+    print_attempt(rt, a.with(Fault::QuestionRaised(0)))?;
+    print_attempt(rt, a.with(Fault::QuestionRaised(4)))?;
+    print_attempt(rt, a.with(Fault::QuestionRaised(8)))?;
+    print_attempt(rt, a.with_kappa(17))?;
+    print_attempt(rt, a.with_conversation())?;
+    print_attempt(rt, a.with(Fault::QuestionLength(QUESTION_LENGTH - 1)))?;
+    print_attempt(rt, a.with(Fault::QuestionLength(QUESTION_LENGTH + 1)))?;
+    print_attempt(rt, a.with_point(Q))
 }
 
 pub fn print_refused_proofs(rt: &impl Print) -> io::Result<()> {
     let a = sound_proof();
     print_questions(rt)?;
-    with_shorter(rt, a, COEFFICIENTS)?;
-    with_shorter(rt, a, TAILS)?;
-    with_shorter(rt, a, MASKS)?;
-    with_shorter(rt, a, NONCES)?;
-    with_shorter(rt, a, TABLE)?;
-    with_shorter(rt, a, TREE)?;
-    with_buffer(rt, a, BUFFER - 1)?;
-    with_buffer(rt, a, BUFFER + 1)?;
-    with_spoiled(rt, a, COEFFICIENTS)?;
-    with_spoiled(rt, a, TAILS)?;
-    with_spoiled(rt, a, MASKS)?;
-    with_spoiled(rt, a, TABLE)?;
-    print_attempt(rt, with_question_raised(a, root_at()))?;
-    with_tree_raised(rt, ROOT_END)?;
-    with_limit(rt, 0)?;
-    with_limit(rt, LEAST)?;
+    print_attempt(rt, a.with(Fault::Shorter(Slice::Coefficients)))?;
+    print_attempt(rt, a.with(Fault::Shorter(Slice::Tails)))?;
+    print_attempt(rt, a.with(Fault::Shorter(Slice::Masks)))?;
+    print_attempt(rt, a.with(Fault::Shorter(Slice::Nonces)))?;
+    print_attempt(rt, a.with(Fault::Shorter(Slice::Table)))?;
+    print_attempt(rt, a.with(Fault::Shorter(Slice::Tree)))?;
+    print_attempt(rt, a.with(Fault::Room(BUFFER - 1)))?;
+    print_attempt(rt, a.with(Fault::Room(BUFFER + 1)))?;
+    print_attempt(rt, a.with(Fault::Spoiled(Slice::Coefficients)))?;
+    print_attempt(rt, a.with(Fault::Spoiled(Slice::Tails)))?;
+    print_attempt(rt, a.with(Fault::Spoiled(Slice::Masks)))?;
+    print_attempt(rt, a.with(Fault::Spoiled(Slice::Table)))?;
+    print_attempt(rt, a.with(Fault::QuestionRaised(root_at())))?;
+    print_attempt(rt, a.with(Fault::TreeRaised(ROOT_END)))?;
+    print_attempt(rt, a.with_limit(0))?;
+    print_attempt(rt, a.with_limit(LEAST))?;
     // Nothing wrong: accepted, and changed.
-    with_limit(rt, LEAST + 1)
+    print_attempt(rt, a.with_limit(LEAST + 1))
 }
 
 fn print_blinded_questions(rt: &impl Print) -> io::Result<()> {
     let a = sound_blinded_proof();
     // The header of version 1 was a byte shorter.
-    print_attempt(rt, with_question_length(a, 14))?;
-    print_attempt(rt, with_version(a, 1))?;
-    print_attempt(rt, with_asked_sizes(a, blinded(small_blinded(), 3)))?;
+    print_attempt(rt, a.with(Fault::QuestionLength(14)))?;
+    print_attempt(rt, a.with(Fault::Version(1)))?;
+    print_attempt(rt, a.with(Fault::AskedSizes(blinded(small_blinded(), 3))))?;
     print_attempt(
         rt,
-        with_asked_sizes(a, blinded(shape(2, 20, 1, 2, 2, 2), 17)),
+        a.with(Fault::AskedSizes(blinded(shape(2, 20, 1, 2, 2, 2), 17))),
     )?;
     print_attempt(
         rt,
-        with_asked_sizes(a, blinded(shape(2, 49, 1, 2, 2, 2), 16)),
+        a.with(Fault::AskedSizes(blinded(shape(2, 49, 1, 2, 2, 2), 16))),
     )?;
-    print_attempt(rt, with_asked_sizes(a, largest()))?;
-    print_attempt(rt, with_question_length(a, 15))
+    print_attempt(rt, a.with(Fault::AskedSizes(largest())))?;
+    print_attempt(rt, a.with(Fault::QuestionLength(15)))
 }
 
 pub fn print_refused_blinded_proofs(rt: &impl Print) -> io::Result<()> {
     let a = sound_blinded_proof();
     print_blinded_questions(rt)?;
-    with_blind_count(rt, sound_proof(), 1)?;
-    with_blind_count(rt, a, 0)?;
-    with_blind_count(rt, a, 2)?;
+    print_attempt(rt, sound_proof().with(Fault::BlindCount(1)))?;
+    print_attempt(rt, a.with(Fault::BlindCount(0)))?;
+    print_attempt(rt, a.with(Fault::BlindCount(2)))?;
     // Other blinding rows than the commitment's.
-    print_attempt(rt, with_asked_sizes(sound_proof(), blinded(small(), 1)))?;
-    print_attempt(rt, with_asked_sizes(a, blinded(small_blinded(), 0)))?;
-    print_attempt(rt, with_asked_sizes(a, blinded(small_blinded(), 2)))?;
-    with_shorter(rt, a, COEFFICIENTS)?;
-    with_shorter(rt, a, TAILS)?;
-    with_shorter(rt, a, TABLE)?;
-    with_buffer(rt, a, BLINDED_BUFFER - 1)?;
-    with_buffer(rt, a, BLINDED_BUFFER + 1)?;
-    with_spoiled(rt, a, COEFFICIENTS)?;
-    with_spoiled(rt, a, TAILS)?;
-    with_spoiled(rt, a, BLINDS)?;
-    with_spoiled(rt, a, MASKS)?;
-    with_spoiled(rt, a, TABLE)?;
+    print_attempt(
+        rt,
+        sound_proof().with(Fault::AskedSizes(blinded(small(), 1))),
+    )?;
+    print_attempt(rt, a.with(Fault::AskedSizes(blinded(small_blinded(), 0))))?;
+    print_attempt(rt, a.with(Fault::AskedSizes(blinded(small_blinded(), 2))))?;
+    print_attempt(rt, a.with(Fault::Shorter(Slice::Coefficients)))?;
+    print_attempt(rt, a.with(Fault::Shorter(Slice::Tails)))?;
+    print_attempt(rt, a.with(Fault::Shorter(Slice::Table)))?;
+    print_attempt(rt, a.with(Fault::Room(BLINDED_BUFFER - 1)))?;
+    print_attempt(rt, a.with(Fault::Room(BLINDED_BUFFER + 1)))?;
+    print_attempt(rt, a.with(Fault::Spoiled(Slice::Coefficients)))?;
+    print_attempt(rt, a.with(Fault::Spoiled(Slice::Tails)))?;
+    print_attempt(rt, a.with(Fault::Spoiled(Slice::Blinds)))?;
+    print_attempt(rt, a.with(Fault::Spoiled(Slice::Masks)))?;
+    print_attempt(rt, a.with(Fault::Spoiled(Slice::Table)))?;
     // Nothing wrong: accepted, and changed.
     print_attempt(rt, a)
 }
@@ -201,30 +152,40 @@ pub fn print_refused_salted_proofs(rt: &impl Print) -> io::Result<()> {
     let first = salt_at();
     let end = SALT_LENGTH - 1;
     let last = first + end;
-    print_attempt(rt, with_version(a, 1))?;
-    print_attempt(rt, with_version(a, 2))?;
-    print_attempt(rt, with_version(a, 4))?;
-    print_attempt(rt, with_question_length(a, LENGTH_WITHOUT_SALT))?;
-    with_salt_length(rt, a, 0)?;
-    with_shorter(rt, a, SALT)?;
-    with_salt_length(rt, a, SALT_LENGTH + 1)?;
+    print_attempt(rt, a.with(Fault::Version(1)))?;
+    print_attempt(rt, a.with(Fault::Version(2)))?;
+    print_attempt(rt, a.with(Fault::Version(4)))?;
+    print_attempt(rt, a.with(Fault::QuestionLength(LENGTH_WITHOUT_SALT)))?;
+    print_attempt(rt, a.with(Fault::SaltLength(0)))?;
+    print_attempt(rt, a.with(Fault::SaltLength(SALT_LENGTH - 1)))?;
+    print_attempt(rt, a.with(Fault::SaltLength(SALT_LENGTH + 1)))?;
     // Another salt asked for, and a word that is no element.
-    with_spoiled(rt, with_question_raised(a, first), MASKS)?;
+    print_attempt(
+        rt,
+        a.with(Fault::QuestionRaised(first))
+            .with(Fault::Spoiled(Slice::Masks)),
+    )?;
     // Another salt asked for, and another one lent, at the first byte and at the last.
-    with_salt_raised(rt, a, first, NOWHERE)?;
-    with_salt_raised(rt, a, NOWHERE, 0)?;
-    with_salt_raised(rt, a, last, NOWHERE)?;
-    with_salt_raised(rt, a, NOWHERE, end)?;
+    print_attempt(rt, a.with(Fault::QuestionRaised(first)))?;
+    print_attempt(rt, a.with(Fault::SaltRaised(0)))?;
+    print_attempt(rt, a.with(Fault::QuestionRaised(last)))?;
+    print_attempt(rt, a.with(Fault::SaltRaised(end)))?;
     // Another root, too; then no counter, too.
-    let mut both = a;
-    both.tree_at = ROOT_END;
-    with_salt_raised(rt, both, first, NOWHERE)?;
-    let mut none = a;
-    none.limit = 0;
-    with_salt_raised(rt, none, last, NOWHERE)?;
+    let both = a.with(Fault::TreeRaised(ROOT_END));
+    print_attempt(rt, both.with(Fault::QuestionRaised(first)))?;
+    let none = a.with_limit(0);
+    print_attempt(rt, none.with(Fault::QuestionRaised(last)))?;
     // Asked and lent are the same again: accepted, and changed. That the tree has another salt is not looked at.
-    with_salt_raised(rt, a, first, 0)?;
-    with_salt_raised(rt, a, last, end)?;
+    print_attempt(
+        rt,
+        a.with(Fault::QuestionRaised(first))
+            .with(Fault::SaltRaised(0)),
+    )?;
+    print_attempt(
+        rt,
+        a.with(Fault::QuestionRaised(last))
+            .with(Fault::SaltRaised(end)),
+    )?;
     // Nothing wrong.
     print_attempt(rt, a)
 }

@@ -12,7 +12,7 @@ use refused_commits::{
     print_refused_blinded_commits, print_refused_commits, print_refused_salted_commits,
 };
 use refused_opens::{print_refused_blinded_opens, print_refused_opens, print_refused_salted_opens};
-use runs::inputs::OTHER_SALT;
+use runs::inputs::Salt;
 use runs::sizes::{blinded, shape};
 use runs::small::{small, small_blinded};
 use std::io;
@@ -45,8 +45,8 @@ fn print_blinded(rt: &impl Print) -> io::Result<()> {
 
 // What has been committed above, under another salt: tables and answers stay, roots do not.
 fn print_about_salt(rt: &impl Print) -> io::Result<()> {
-    print_salted(rt, small(), 1, 1, 2, OTHER_SALT)?;
-    print_salted(rt, small_blinded(), 1, 1, 2, OTHER_SALT)?;
+    print_salted(rt, small(), 1, 1, 2, Salt::Other)?;
+    print_salted(rt, small_blinded(), 1, 1, 2, Salt::Other)?;
     print_refused_salted_commits(rt)?;
     print_refused_salted_opens(rt)
 }

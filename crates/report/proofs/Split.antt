@@ -12,7 +12,7 @@ use lib.Seq.{take_all, take-take, take-length, drop-length, get_or-take}
 use borrow.Author.Tests.{eq-eqb, ne_eqb, eqb-false, ltb-false, leb-true, leb-false}
 use Rattle.lists.specs.Choice.{pick, tested}
 use Rattle.lists.specs.Bytes.{Bytes}
-use Rattle.lists.specs.Tests.{passed, verdict_stop, within_high}
+use Rattle.lists.specs.Tests.{passed, verdict_of, verdict_stop, within_high}
 use Rattle.scheme.specs.Sizes.{Sizes}
 use Rattle.scheme.specs.Question.{Question, read_question, question_tests, header_tests, header_length, header_sizes, header_points, question_length}
 use Rattle.scheme.specs.Reply.{read_reply}
@@ -22,10 +22,9 @@ use Rattle.scheme.specs.Program.{input_limit, header_verdict, question_part, rep
 use Rattle.scheme.proofs.Accepted.{sizes_in_order}
 use Rattle.scheme.proofs.Replies.{header_sizes_lem}
 use Rattle.commitment.specs.Shape.{sizes_in}
-use Rattle.question.specs.Questioned.{headed}
+use Rattle.question.specs.Asked.{Heads}
 use Rattle.commitment.specs.declared.Shape.{Shape}
-use Rattle.question.specs.declared.Questioned.TheVariants.{WellFormed, Refused}
-use Rattle.question.proofs.Answer.{well_headed, header_refused}
+use Rattle.question.proofs.Answer.{well_headed}
 use Rattle.report.specs.Written.{written, checked_text}
 use Rattle.report.proofs.Text.{text-refused}
 use Rattle.commitment.proofs.Places.{buffer_high}
@@ -143,7 +142,7 @@ module _ (b : Bytes) (few : length b ≤ input_limit) (e : header_verdict b ≡ 
 -- ---- what the code holds of a header
 
 -- the values fit into 2,048 words
-pub few_values : (b : Bytes) (s : Shape) (m : ℕ) → headed b ≡ WellFormed s m → (m ≤ 8) × (s.w ≤ 256) × (s.w * m ≤ 2048)
+pub few_values : (b : Bytes) (s : Shape) (m : ℕ) → Heads b s m → (m ≤ 8) × (s.w ≤ 256) × (s.w * m ≤ 2048)
 few_values b s m e =
     let h = well_headed b s m e in
     let g = sizes_in_order (sizes_in s) h.sizes_ok_lem in
@@ -152,20 +151,19 @@ few_values b s m e =
     let hw : s.w ≤ 256 = omega (arith, g.columns-high) in
     (hm, hw, buffer_high (sizes_in s) g m hm)
 
-pub printed-split : (out b : Bytes) (s : Shape) (m k : ℕ) (buffer : List ℕ) (z : ℕ × Bytes) → length b ≤ input_limit → headed b ≡ WellFormed s m
+pub printed-split : (out b : Bytes) (s : Shape) (m k : ℕ) (buffer : List ℕ) (z : ℕ × Bytes) → length b ≤ input_limit → Heads b s m
     → k ≡ min (question_length (sizes_in s) m) (length b) → length buffer ≡ s.w * m
     → z ≡ written out 0 (checked_text (take (k - 0) b) (take (length b - k) (drop k b)) m s.w buffer) → z ≡ written out 0 (printed b)
 unfolding header_verdict
 printed-split out b s m k buffer z few e cut n f =
-    let h = well_headed b s m e in
-    let same : sizes_in s ≡ header_sizes b = ap sizes_in h.shape in
+    let same : sizes_in s ≡ header_sizes b = ap sizes_in e.shape in
     f
     ∙ ap (written out 0)
     (ap₂ (λ (x y : Bytes). checked_text x y m s.w buffer) (ap (λ (j : ℕ). take j b) (sub-zero k)) (take_all (length b - k) (drop k b) (le_of_eq (length-drop k b)))
-    ∙ ap₂ (λ (t : Sizes) (j : ℕ). checked_text (take k b) (drop k b) j t.w buffer) same h.count
-    ∙ printed-checked b few h.verdict k (cut ∙ ap₂ (λ (t : Sizes) (j : ℕ). min (question_length t j) (length b)) same h.count) buffer
-    (n ∙ ap₂ (λ (t : Sizes) (j : ℕ). t.w * j) same h.count))
+    ∙ ap₂ (λ (t : Sizes) (j : ℕ). checked_text (take k b) (drop k b) j t.w buffer) same e.points
+    ∙ printed-checked b few e.verdict k (cut ∙ ap₂ (λ (t : Sizes) (j : ℕ). min (question_length t j) (length b)) same e.points) buffer
+    (n ∙ ap₂ (λ (t : Sizes) (j : ℕ). t.w * j) same e.points))
 
-pub printed-number : (b : Bytes) (v : ℕ) → length b ≤ input_limit → headed b ≡ Refused v → text v [] ≡ printed b
+pub printed-number : (b : Bytes) (v : ℕ) → length b ≤ input_limit → 0 < v → v ≡ verdict_of (header_tests b) → text v [] ≡ printed b
 unfolding header_verdict
-printed-number b v few e = let h = header_refused b v e in sym (printed-refused b few v h.1 h.0)
+printed-number b v few positive e = sym (printed-refused b few v positive (sym e))

@@ -5,15 +5,18 @@ ghost use Rattle.std.specs.Prelude.{◌≡◌, [], ◌∷◌, ◌+◌, ◌*◌, 
 ghost use Rattle.scheme.specs.Question.{question_length};
 ghost use Rattle.scheme.specs.Program.{input_limit, decimal, value_line, value_lines, text, printed};
 ghost use Rattle.commitment.specs.Shape.{sizes_in};
-ghost use Rattle.question.specs.Questioned.{headed};
-ghost use Rattle.question.specs.declared.Questioned.TheVariants.{WellFormed};
+ghost use Rattle.question.specs.Asked.{Heads};
+ghost use Rattle.report.specs.Read.{Reported};
 ghost use Rattle.report.specs.Written.{written, overwritten, point_lines, checked_text};
 ghost use Rattle.scheme.specs.Sizes.{most_points};
 
 use checker::check;
 use codec::put_bytes;
 use commitment::{Shape, question_length};
-use question::{Questioned, header};
+use inputs::{INPUT_LIMIT, read_full};
+use question::{Heading, header};
+use refusal::number_of;
+use std::io::Read;
 
 // Each of these writes some bytes from place `at` on, and returns the place after them.
 fn put_byte(out: &mut [u8], at: usize, x: u8) -> usize
@@ -110,7 +113,7 @@ fn put_checked(
     ensures { (result, out.new) ≡ written out.old 0 (checked_text question.now reply.now m w values.old) }
 {
     let checked = check(question, reply, values);
-    put_text(out, checked.verdict, m, w, values)
+    put_text(out, number_of(checked.outcome), m, w, values)
 }
 
 // How many bytes of the input are the question: as many as the header gives, or all.
@@ -118,25 +121,19 @@ fn question_end(s: Shape, m: usize, all: usize) -> usize
     requires { m ≤ most_points }
     ensures { result ≡ min (question_length (sizes_in s) m) all }
 {
-    let n = question_length(s, m);
-    if n < all { n } else { all }
-}
-
-// Room for the values. A function of its own, so that a caller's goals do not show 2,048 zeros.
-fn blank() -> [u32; 2048] {
-    [0u32; 2048]
+    question_length(s, m).min(all)
 }
 
 // The text for an input whose header passes its tests.
-fn put_split(out: &mut [u8], input: &[u8], s: Shape, m: u32) -> usize
-    requires { (headed input.now ≡ WellFormed s m) × (length input.now ≤ input_limit) × (length out.old ≡ input_limit) }
+fn put_split(out: &mut [u8], input: &[u8], heading: Heading) -> usize
+    requires { Heads input.now heading.shape heading.m × (length input.now ≤ input_limit) × (length out.old ≡ input_limit) }
     ensures { (result, out.new) ≡ written out.old 0 (printed input.now) }
 {
-    let points = m as usize;
-    let k = question_end(s, points, input.len());
-    let w = s.w as usize;
+    let points = heading.m as usize;
+    let k = question_end(heading.shape, points, input.len());
+    let w = heading.shape.w as usize;
     let n = w * points;
-    let mut values = blank();
+    let mut values = [0; 2048];
     put_checked(out, &input[0..k], &input[k..], points, w, &mut values[0..n])
 }
 
@@ -145,9 +142,19 @@ pub fn report(input: &[u8], out: &mut [u8]) -> usize
     requires { (length input.now ≤ input_limit) × (length out.old ≡ input_limit) }
     ensures { (result, out.new) ≡ overwritten out.old (printed input.now) }
 {
-    let head = header(input);
-    match head {
-        Questioned::WellFormed(s, m) => put_split(out, input, s, m),
-        Questioned::Refused(v) => put_verdict(out, v),
+    match header(input) {
+        Ok(heading) => put_split(out, input, heading),
+        Err(refusal) => put_verdict(out, refusal.number()),
     }
+}
+
+// Reads an input, and puts its text at the front of the buffer; returns the text's length.
+pub fn report_read<R: Read>(input: &mut R, out: &mut [u8]) -> usize
+    requires { length out.old ≡ input_limit }
+    ensures bound { result ≤ length out.new }
+    ensures text { Reported (R.remaining input.old) (R.remaining input.new) out.old (result, out.new) }
+{
+    let mut bytes = [0; INPUT_LIMIT];
+    let n = read_full(input, &mut bytes);
+    report(&bytes[..n], out)
 }

@@ -1,178 +1,88 @@
-// The inputs of all runs, made by two rules, `word_of` and `byte_of`, and the buffers that hold them. Each buffer is large enough for the largest sizes.
-use codec::put_words;
+// The inputs of all runs, made by two rules, that of words and that of bytes, and the room that buffers have for them.
+use field::Q;
+use std::array::from_fn;
 
-// The field's modulus, the least word that is no element.
-pub const Q: u32 = 4294967291;
+// Room for the largest sizes: for coefficients, tails, blinds or masks, and for each of the others.
+pub const WORD_ROOM: usize = 16384;
 
-// The largest word.
-pub const LARGEST: u32 = 4294967295;
+pub const NONCE_ROOM: usize = 131072;
 
-// What is lent and asked, by the tags that the rules take.
-pub const COEFFICIENTS: usize = 1;
+pub const SALT_ROOM: usize = 64;
 
-pub const TAILS: usize = 2;
+pub const TABLE_ROOM: usize = 278528;
 
-pub const MASKS: usize = 3;
+pub const TREE_ROOM: usize = 262112;
 
-pub const NONCES: usize = 4;
-
-const CHALLENGES: usize = 5;
-
-const POINTS: usize = 6;
-
-pub const TABLE: usize = 7;
-
-pub const TREE: usize = 8;
-
-// A reply, or a proof.
-pub const REPLY: usize = 9;
-
-pub const VALUES: usize = 10;
-
-pub const BLINDS: usize = 11;
-
-// With this one the changed proofs of `offline_proofs` are refused by every test.
-pub const SALT: usize = 42;
-
-// The salt of another commitment to the same words.
-pub const OTHER_SALT: usize = 43;
-
-// Case P's salt: zeros.
-pub const ZERO_SALT: usize = 0;
-
-// ---- the rules
-
-pub fn low_byte(n: usize) -> u8 {
-    (n % 256) as u8
-}
-
-// Item i of the slice with this tag, before it is cut to a word or a byte.
-fn item(tag: usize, i: usize) -> usize {
-    i % 1048576 * 2654435761 + tag % 256 * 97 + 12345
-}
-
-fn word_of(tag: usize, i: usize) -> u32 {
-    (item(tag, i) % (Q as usize)) as u32
-}
-
-fn byte_of(tag: usize, i: usize) -> u8 {
-    low_byte(item(tag, i) / 65536)
-}
-
-fn fill_words(tag: usize, out: &mut [u32]) {
-    for i in 0..out.len() {
-        out[i] = word_of(tag, i);
-    }
-}
-
-fn fill_bytes(tag: usize, out: &mut [u8]) {
-    for i in 0..out.len() {
-        out[i] = byte_of(tag, i);
-    }
-}
-
-pub fn filled_challenges() -> [u32; 4] {
-    let mut challenges = [0u32; 4];
-    fill_words(CHALLENGES, &mut challenges);
-    challenges
-}
-
-// They come again after five, 0 among them.
-pub fn filled_points() -> [u32; 8] {
-    let p = word_of(POINTS, 0);
-    let q = word_of(POINTS, 1);
-    let r = word_of(POINTS, 2);
-    [p, q, r, 0, word_of(POINTS, 4), p, q, r]
-}
-
-// The salt with this tag: words as bytes, since `byte_of` hardly depends on the tag.
-pub fn asked_salt(tag: usize) -> [u8; 32] {
-    let mut salt = [0u8; 32];
-    if tag == ZERO_SALT {
-        return salt;
-    }
-    let mut words = [0u32; 8];
-    fill_words(tag, &mut words);
-    put_words(&mut salt, 0, &words);
-    salt
-}
-
-// The same, and bytes after it.
-pub fn filled_salt(tag: usize) -> [u8; 64] {
-    let mut words = [0u32; 16];
-    fill_words(tag, &mut words);
-    let mut salt = blank_salt();
-    put_words(&mut salt, 0, &words);
-    salt
-}
-
-// ---- buffers of zeros
-
-// For coefficients, tails, blinds or masks.
-pub fn blank_words() -> [u32; 16384] {
-    [0u32; 16384]
-}
-
-pub fn blank_nonces() -> [u8; 131072] {
-    [0u8; 131072]
-}
-
-pub fn blank_salt() -> [u8; 64] {
-    [0u8; 64]
-}
-
-pub fn blank_reply() -> [u8; 65536] {
-    [0u8; 65536]
-}
+pub const REPLY_ROOM: usize = 65536;
 
 // For a question, or for the nonces, tree or reply of small sizes.
-pub fn blank_small() -> [u8; 4096] {
-    [0u8; 4096]
+pub const SMALL_ROOM: usize = 4096;
+
+// What is lent and asked, with the numbers that the rules take.
+#[derive(Clone, Copy, PartialEq, Eq)]
+pub enum Slice {
+    Coefficients = 1,
+    Tails = 2,
+    Masks = 3,
+    Nonces = 4,
+    Challenges = 5,
+    Points = 6,
+    Table = 7,
+    Tree = 8,
+    // A reply, or a proof.
+    Reply = 9,
+    Values = 10,
+    Blinds = 11,
 }
 
-pub fn blank_table() -> [u32; 278528] {
-    [0u32; 278528]
+// A commitment's salt, with the numbers that the rule for words takes.
+#[derive(Clone, Copy, PartialEq, Eq)]
+pub enum Salt {
+    // Case P's.
+    Zeros = 0,
+    // With this one the changed proofs of `offline_proofs` are refused by every test.
+    First = 42,
+    // That of another commitment to the same words.
+    Other = 43,
 }
 
-pub fn blank_tree() -> [u8; 262112] {
-    [0u8; 262112]
+// Item i of the slice with this number, before it is cut to a word or a byte.
+fn mixed(number: usize, i: usize) -> usize {
+    i % 1048576 * 2654435761 + number % 256 * 97 + 12345
 }
 
-// ---- buffers filled by the rules
-
-pub fn filled_words(tag: usize) -> [u32; 16384] {
-    let mut words = blank_words();
-    fill_words(tag, &mut words);
-    words
+// What buffers hold: words or bytes, each by its rule.
+pub trait Item: Copy {
+    fn of(number: usize, i: usize) -> Self;
 }
 
-pub fn filled_nonces() -> [u8; 131072] {
-    let mut nonces = blank_nonces();
-    fill_bytes(NONCES, &mut nonces);
-    nonces
+impl Item for u32 {
+    fn of(number: usize, i: usize) -> u32 {
+        (mixed(number, i) % (Q as usize)) as u32
+    }
 }
 
-pub fn filled_table() -> [u32; 278528] {
-    let mut table = blank_table();
-    fill_words(TABLE, &mut table);
-    table
+impl Item for u8 {
+    fn of(number: usize, i: usize) -> u8 {
+        (mixed(number, i) / 65536 % 256) as u8
+    }
 }
 
-pub fn filled_tree() -> [u8; 262112] {
-    let mut tree = blank_tree();
-    fill_bytes(TREE, &mut tree);
-    tree
+// A buffer filled by the rule.
+pub fn filled<T: Item, const N: usize>(slice: Slice) -> [T; N] {
+    from_fn(|i| T::of(slice as usize, i))
 }
 
-pub fn filled_reply() -> [u8; 65536] {
-    let mut reply = blank_reply();
-    fill_bytes(REPLY, &mut reply);
-    reply
+// Five points, 0 among them, and the first ones again.
+pub fn filled_points() -> [u32; 8] {
+    let [p, q, r, _, s]: [u32; 5] = filled(Slice::Points);
+    [p, q, r, 0, s, p, q, r]
 }
 
-// For the nonces, tree or reply of small sizes.
-pub fn filled_bytes(tag: usize) -> [u8; 4096] {
-    let mut bytes = blank_small();
-    fill_bytes(tag, &mut bytes);
-    bytes
+// The salt, and bytes after it where there is room: words as bytes, since the rule for bytes hardly depends on the number.
+pub fn filled_salt<const N: usize>(salt: Salt) -> [u8; N] {
+    if salt == Salt::Zeros {
+        return [0; N];
+    }
+    from_fn(|i| u32::of(salt as usize, i / 4).to_le_bytes()[i % 4])
 }

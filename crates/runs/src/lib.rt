@@ -2,6 +2,7 @@
 #![tactic(auto)]
 
 pub mod calls; // calls.rt: the fronts of buffers, and committing with them
+pub mod faults; // faults.rt: calls about a commitment, and what can be wrong with them
 pub mod inputs; // inputs.rt: the rules by which all inputs are made
 pub mod printing; // printing.rt: digests, and what is printed
 pub mod questions; // questions.rt: questions, made from what is asked

@@ -1,66 +1,56 @@
 // Digests, and what is printed.
-use super::calls::{front_bytes, front_words};
-use super::inputs::blank_small;
+use super::calls::front;
+use super::inputs::{SMALL_ROOM, TABLE_ROOM};
 use codec::put_words;
 use commitment::Shape;
-use std::io;
+use std::fmt::{Display, Formatter, Write};
+use std::{fmt, io};
 
-// Room for the largest table as bytes.
-fn blank_bytes() -> [u8; 1114112] {
-    [0u8; 1114112]
+// Prints bytes as hexadecimal digits.
+#[derive(Drop)]
+pub struct Hex<'a>(pub &'a [u8]);
+
+impl<'a> Display for Hex<'a> {
+    fn fmt<W: Write>(&self, f: &mut Formatter<W>) -> fmt::Result {
+        for b in self.0 {
+            write!(f, "{b:02x}")?;
+        }
+        Ok(())
+    }
+}
+
+// Room for the largest table as bytes. A function of its own, so that a caller's goals do not show the zeros.
+fn blank_bytes() -> [u8; 4 * TABLE_ROOM] {
+    [0; 4 * TABLE_ROOM]
 }
 
 // The digest of words as bytes.
 pub fn word_digest(words: &[u32]) -> [u8; 32] {
-    let front = front_words(words, 278528);
-    let end = 4 * front.len();
+    let front_words = front(words, TABLE_ROOM);
+    let end = 4 * front_words.len();
     let mut bytes = blank_bytes();
-    put_words(&mut bytes, 0, front);
-    sponge::digest(front_bytes(&bytes, end))
-}
-
-pub fn print(rt: &impl Print, text: &[u8]) -> io::Result<()> {
-    rt.write_all(text)
-}
-
-pub fn print_bytes(rt: &impl Print, name: &[u8], bytes: &[u8]) -> io::Result<()> {
-    print(rt, name)?;
-    for b in bytes {
-        print!(rt; "{b:02x}")?;
-    }
-    print(rt, b"\n")
-}
-
-pub fn print_number(rt: &impl Print, name: &[u8], n: u64) -> io::Result<()> {
-    print(rt, name)?;
-    print!(rt; "{n}")
+    put_words(&mut bytes, 0, front_words);
+    sponge::digest(front(&bytes, end))
 }
 
 pub fn print_sizes(rt: &impl Print, s: Shape) -> io::Result<()> {
-    print_number(rt, b"h ", s.h as u64)?;
-    print_number(rt, b" mu ", s.mu as u64)?;
-    print_number(rt, b" nu ", s.nu as u64)?;
-    print_number(rt, b" w ", s.w as u64)?;
-    print_number(rt, b" l ", s.l as u64)?;
-    print_number(rt, b" eta ", s.eta as u64)?;
-    print_number(rt, b" beta ", s.beta as u64)
-}
-
-pub fn print_digest(rt: &impl Print, name: &[u8], bytes: &[u8]) -> io::Result<()> {
-    let d = sponge::digest(bytes);
-    print_bytes(rt, name, &d)
-}
-
-pub fn print_word_digest(rt: &impl Print, name: &[u8], words: &[u32]) -> io::Result<()> {
-    let d = word_digest(words);
-    print_bytes(rt, name, &d)
+    let Shape {
+        h,
+        mu,
+        nu,
+        w,
+        l,
+        eta,
+        beta,
+    } = s;
+    print!(rt; "h {h} mu {mu} nu {nu} w {w} l {l} eta {eta} beta {beta}")
 }
 
 // At most 1024 words, as bytes.
-pub fn print_words(rt: &impl Print, name: &[u8], words: &[u32]) -> io::Result<()> {
-    let front = front_words(words, 1024);
-    let end = 4 * front.len();
-    let mut bytes = blank_small();
-    put_words(&mut bytes, 0, front);
-    print_bytes(rt, name, front_bytes(&bytes, end))
+pub fn print_words(rt: &impl Print, words: &[u32]) -> io::Result<()> {
+    let front_words = front(words, SMALL_ROOM / 4);
+    let end = 4 * front_words.len();
+    let mut bytes = [0; SMALL_ROOM];
+    put_words(&mut bytes, 0, front_words);
+    println!(rt; "{}", Hex(front(&bytes, end)))
 }

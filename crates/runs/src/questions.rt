@@ -1,19 +1,19 @@
 // Questions, made from what is asked.
-use super::calls::front_words;
-use super::inputs::{SALT, asked_salt, filled_challenges, filled_points, low_byte};
+use super::calls::front;
+use super::inputs::{Salt, Slice, filled, filled_points, filled_salt};
 use super::sizes::product;
 use codec::{put_bytes, put_words};
 use commitment::{Shape, challenges_at, root_at, salt_at};
 
 // The version that is not refused.
-pub const VERSION: usize = 3;
+pub const VERSION: u16 = 3;
 
-// The version, the number of points, and the salt by its tag; challenges and points, of which a question holds the first ones; the indices first, first + step, first + 2 step, ..
+// The version, the number of points and the salt; challenges and points, of which a question holds the first ones; the indices first, first + step, first + 2 step, ..
 #[derive(Clone, Copy)]
 pub struct Asked {
-    pub version: usize,
+    pub version: u16,
     pub m: u32,
-    pub salt: usize,
+    pub salt: Salt,
     pub challenges: [u32; 4],
     pub points: [u32; 8],
     pub first: usize,
@@ -24,55 +24,57 @@ pub struct Asked {
 pub fn filled_question(m: u32, first: usize, step: usize) -> Asked {
     Asked {
         version: VERSION,
-        m: m,
-        salt: SALT,
-        challenges: filled_challenges(),
+        m,
+        salt: Salt::First,
+        challenges: filled(Slice::Challenges),
         points: filled_points(),
-        first: first,
-        step: step,
+        first,
+        step,
     }
 }
 
 // The same about a commitment with another salt.
-pub fn with_salt(a: Asked, tag: usize) -> Asked {
-    let mut b = a;
-    b.salt = tag;
-    b
+pub fn with_salt(a: Asked, salt: Salt) -> Asked {
+    Asked { salt, ..a }
 }
 
 fn put_indices(first: usize, step: usize, out: &mut [u8]) {
-    let n = out.len() / 2;
-    for k in 0..n {
+    for (k, index) in out.chunks_exact_mut(2).enumerate() {
         let i = first % 65536 + product(step, k);
-        out[2 * k] = low_byte(i);
-        out[2 * k + 1] = low_byte(i / 256);
+        index.copy_from_slice(&i.to_le_bytes()[..2]);
     }
 }
 
-fn header(version: usize, s: Shape, m: u32) -> [u8; 15] {
-    let nu = s.nu as usize;
-    let w = s.w as usize;
+fn low_byte(n: u32) -> u8 {
+    n.to_le_bytes()[0]
+}
+
+// Sizes that are larger than their places are cut.
+fn header(version: u16, s: Shape, m: u32) -> [u8; 15] {
+    let version = version.to_le_bytes();
+    let nu = s.nu.to_le_bytes();
+    let w = s.w.to_le_bytes();
     [
-        83,
-        87,
-        81,
-        low_byte(version),
-        low_byte(version / 256),
-        low_byte(s.h as usize),
-        low_byte(s.mu as usize),
-        low_byte(nu),
-        low_byte(nu / 256),
-        low_byte(w),
-        low_byte(w / 256),
-        low_byte(s.l as usize),
-        low_byte(s.eta as usize),
-        low_byte(m as usize),
-        low_byte(s.beta as usize),
+        b'S',
+        b'W',
+        b'Q',
+        version[0],
+        version[1],
+        low_byte(s.h),
+        low_byte(s.mu),
+        nu[0],
+        nu[1],
+        w[0],
+        w[1],
+        low_byte(s.l),
+        low_byte(s.eta),
+        low_byte(m),
+        low_byte(s.beta),
     ]
 }
 
 // Header, root (the last 32 bytes of the tree) and salt, to the front of `question`.
-fn put_named(version: usize, s: Shape, m: u32, salt: usize, tree: &[u8], question: &mut [u8]) {
+fn put_named(version: u16, s: Shape, m: u32, salt: Salt, tree: &[u8], question: &mut [u8]) {
     if tree.len() < 32 {
         return;
     }
@@ -80,7 +82,7 @@ fn put_named(version: usize, s: Shape, m: u32, salt: usize, tree: &[u8], questio
         return;
     }
     let head = header(version, s, m);
-    let bytes = asked_salt(salt);
+    let bytes = filled_salt::<32>(salt);
     let last = tree.len() - 32;
     put_bytes(question, 0, &head);
     put_bytes(question, root_at(), &tree[last..]);
@@ -90,7 +92,7 @@ fn put_named(version: usize, s: Shape, m: u32, salt: usize, tree: &[u8], questio
 // The question of a proof, header, root, salt and points, to the front of `question`.
 pub fn put_offline_question(s: Shape, a: Asked, tree: &[u8], question: &mut [u8]) {
     let all_points = a.points;
-    let points = front_words(&all_points, a.m as usize);
+    let points = front(&all_points, a.m as usize);
     if question.len() < challenges_at() + 4 * points.len() {
         return;
     }
@@ -102,8 +104,8 @@ pub fn put_offline_question(s: Shape, a: Asked, tree: &[u8], question: &mut [u8]
 pub fn put_question(s: Shape, a: Asked, tree: &[u8], question: &mut [u8]) {
     let all_challenges = a.challenges;
     let all_points = a.points;
-    let challenges = front_words(&all_challenges, s.eta as usize);
-    let points = front_words(&all_points, a.m as usize);
+    let challenges = front(&all_challenges, s.eta as usize);
+    let points = front(&all_points, a.m as usize);
     let points_at = challenges_at() + 4 * challenges.len();
     let indices_at = points_at + 4 * points.len();
     if question.len() < indices_at {

@@ -1,35 +1,31 @@
 // Sizes, and how many items of each buffer a call at these sizes is lent.
 ghost use Rattle.std.specs.Prelude.{◌≤◌};
 
-use super::inputs::{BLINDS, COEFFICIENTS, LARGEST, MASKS, NONCES, SALT, TABLE, TAILS, TREE};
+use super::inputs::Slice;
 use commitment::{SALT_LENGTH, Shape, challenges_at, leaf_count};
 
 // Without blinding rows.
 pub fn shape(h: u32, mu: u32, nu: u32, w: u32, l: u32, eta: u32) -> Shape {
     Shape {
-        h: h,
-        mu: mu,
-        nu: nu,
-        w: w,
-        l: l,
-        eta: eta,
+        h,
+        mu,
+        nu,
+        w,
+        l,
+        eta,
         beta: 0,
     }
 }
 
 // With so many blinding rows.
 pub fn blinded(s: Shape, beta: u32) -> Shape {
-    let mut b = s;
-    b.beta = beta;
-    b
+    Shape { beta, ..s }
 }
 
 // The largest word for every size.
 pub fn largest() -> Shape {
-    blinded(
-        shape(LARGEST, LARGEST, LARGEST, LARGEST, LARGEST, LARGEST),
-        LARGEST,
-    )
+    let n = u32::MAX;
+    blinded(shape(n, n, n, n, n, n), n)
 }
 
 #[derive(Clone, Copy)]
@@ -49,9 +45,7 @@ pub struct Lengths {
 pub fn product(a: usize, b: usize) -> usize
     ensures { result ≤ 4294836225 }
 {
-    let x = a % 65536;
-    let y = b % 65536;
-    x * y
+    a % 65536 * (b % 65536)
 }
 
 // N, for a depth up to 12.
@@ -59,14 +53,6 @@ fn leaves_of(h: u32) -> usize
     ensures { (1 ≤ result) × (result ≤ 4096) }
 {
     leaf_count(h % 13)
-}
-
-// The number before, or 0.
-pub fn before(n: usize) -> usize {
-    if 0 < n {
-        return n - 1;
-    }
-    n
 }
 
 fn question_length(s: Shape, m: u32) -> usize {
@@ -84,7 +70,7 @@ pub fn lengths_of(s: Shape, m: u32) -> Lengths {
     let rows = s.mu as usize + beta;
     let width = product(w, nu) + l;
     let coefficients = product(s.mu as usize, nu) + beta;
-    let blinds = product(before(nu), beta);
+    let blinds = product(nu.saturating_sub(1), beta);
     Lengths {
         coefficients: product(w, coefficients),
         tails: product(rows, l),
@@ -98,31 +84,23 @@ pub fn lengths_of(s: Shape, m: u32) -> Lengths {
     }
 }
 
-fn less(n: usize, yes: bool) -> usize {
-    if yes {
-        return before(n);
-    }
-    n
-}
-
 // The lengths, that of one slice less by 1.
-pub fn shorter(n: Lengths, slice: usize) -> Lengths {
-    Lengths {
-        coefficients: less(n.coefficients, slice == COEFFICIENTS),
-        tails: less(n.tails, slice == TAILS),
-        blinds: less(n.blinds, slice == BLINDS),
-        masks: less(n.masks, slice == MASKS),
-        nonces: less(n.nonces, slice == NONCES),
-        salt: less(n.salt, slice == SALT),
-        table: less(n.table, slice == TABLE),
-        tree: less(n.tree, slice == TREE),
-        question: n.question,
+pub fn shorter(n: Lengths, slice: Slice) -> Lengths {
+    let mut m = n;
+    match slice {
+        Slice::Coefficients => m.coefficients = n.coefficients.saturating_sub(1),
+        Slice::Tails => m.tails = n.tails.saturating_sub(1),
+        Slice::Blinds => m.blinds = n.blinds.saturating_sub(1),
+        Slice::Masks => m.masks = n.masks.saturating_sub(1),
+        Slice::Nonces => m.nonces = n.nonces.saturating_sub(1),
+        Slice::Table => m.table = n.table.saturating_sub(1),
+        Slice::Tree => m.tree = n.tree.saturating_sub(1),
+        Slice::Challenges | Slice::Points | Slice::Reply | Slice::Values => {}
     }
+    m
 }
 
 // The lengths, with so many bytes of salt.
-pub fn salted(n: Lengths, length: usize) -> Lengths {
-    let mut m = n;
-    m.salt = length;
-    m
+pub fn salted(n: Lengths, salt: usize) -> Lengths {
+    Lengths { salt, ..n }
 }

@@ -8,6 +8,7 @@ ghost use Rattle.std.specs.Prelude.{◌≡◌, ◌+◌, ◌*◌, ◌%◌, ◌≤
 ghost use Rattle.lists.specs.Tabulate.{tabulate};
 
 use node_sets::LeafIndex;
+use std::array::from_fn;
 use std::io;
 
 fn print_bytes(rt: &impl Print, d: &[u8]) -> io::Result<()> {
@@ -23,18 +24,16 @@ fn print_digest_of(rt: &impl Print, m: &[u8]) -> io::Result<()> {
 }
 
 // The pattern: byte i is 7 i + 3, modulo 256.
-fn fill_pattern(m: &mut [u8])
-    ensures { m.new ≡ tabulate (length m.old) (λ i. (i % 256 * 7 + 3) % 256) }
+fn pattern() -> [u8; 408]
+    ensures { result ≡ tabulate 408 (λ i. (i % 256 * 7 + 3) % 256) }
 {
-    for i in 0..m.len() {
-        m[i] = ((i % 256 * 7 + 3) % 256) as u8;
-    }
+    from_fn(|i| ((i % 256 * 7 + 3) % 256) as u8)
 }
 
 // The digests of the first n bytes of m, for n from 0 to its length.
 fn print_all(rt: &impl Print, m: &[u8]) -> io::Result<()> {
     for n in 0..=m.len() {
-        print_digest_of(rt, &m[0..n])?;
+        print_digest_of(rt, &m[..n])?;
     }
     Ok(())
 }
@@ -45,7 +44,7 @@ fn print_leaf(rt: &impl Print, m: &[u8], values: usize) -> io::Result<()>
 {
     let size = 4 * values + 32;
     let mut d = [0u8; 32];
-    digests::leaf_digest(&m[376..408], LeafIndex(4095), &m[0..size], &mut d);
+    digests::leaf_digest(&m[376..408], LeafIndex(4095), &m[..size], &mut d);
     print_bytes(rt, &d)
 }
 
@@ -59,38 +58,35 @@ fn print_leaves(rt: &impl Print, m: &[u8]) -> io::Result<()>
     print_leaf(rt, m, 52)
 }
 
-fn fill_and_print(rt: &impl Print, m: &[u8], out: &mut [u8]) -> io::Result<()> {
-    sponge::draw(m, out);
-    print_bytes(rt, out)
-}
-
-fn print_draw(rt: &impl Print, m: &[u8], n: usize) -> io::Result<()>
-    requires { n ≤ 544 }
+// The first N bytes of the output for m.
+fn print_draw<const N: usize>(rt: &impl Print, m: &[u8]) -> io::Result<()>
+    requires { N ≤ 544 }
 {
-    let mut out = [0u8; 544];
-    fill_and_print(rt, m, &mut out[0..n])
+    let mut out = [0; N];
+    sponge::draw(m, &mut out);
+    print_bytes(rt, &out)
 }
 
 // Outputs below, at and above one block of 136 bytes, two, and four.
 fn print_draws(rt: &impl Print, m: &[u8]) -> io::Result<()> {
-    print_draw(rt, m, 1)?;
-    print_draw(rt, m, 2)?;
-    print_draw(rt, m, 31)?;
-    print_draw(rt, m, 32)?;
-    print_draw(rt, m, 33)?;
-    print_draw(rt, m, 96)?;
-    print_draw(rt, m, 135)?;
-    print_draw(rt, m, 136)?;
-    print_draw(rt, m, 137)?;
-    print_draw(rt, m, 272)?;
-    print_draw(rt, m, 544)
+    print_draw::<1>(rt, m)?;
+    print_draw::<2>(rt, m)?;
+    print_draw::<31>(rt, m)?;
+    print_draw::<32>(rt, m)?;
+    print_draw::<33>(rt, m)?;
+    print_draw::<96>(rt, m)?;
+    print_draw::<135>(rt, m)?;
+    print_draw::<136>(rt, m)?;
+    print_draw::<137>(rt, m)?;
+    print_draw::<272>(rt, m)?;
+    print_draw::<544>(rt, m)
 }
 
 // The output for the first `prefix` + `more` bytes of m, from the state after the full blocks of the first `prefix`.
 fn print_resumed(rt: &impl Print, m: &[u8], prefix: usize, more: usize) -> io::Result<()>
     requires { (prefix ≤ 272) × (more ≤ 136) × (408 ≤ length m.now) }
 {
-    let a = sponge::absorb_prefix(&m[0..prefix]);
+    let a = sponge::absorb_prefix(&m[..prefix]);
     let rest = prefix / 136 * 136;
     let end = prefix + more;
     let mut out = [0u8; 137];
@@ -108,16 +104,15 @@ fn print_tails(rt: &impl Print, m: &[u8], prefix: usize) -> io::Result<()>
 
 fn main(rt: HostRuntime) -> io::Result<()> {
     let example = [0xa3u8; 200];
-    print_digest_of(&rt, &example[0..0])?;
+    print_digest_of(&rt, &example[..0])?;
     print_digest_of(&rt, &example)?;
-    let mut m = [0u8; 408];
-    fill_pattern(&mut m);
-    print_all(&rt, &m[0..339])?;
+    let m = pattern();
+    print_all(&rt, &m[..339])?;
     print_leaves(&rt, &m)?;
-    print_draws(&rt, &m[0..0])?;
-    print_draws(&rt, &m[0..97])?;
-    print_draws(&rt, &m[0..136])?;
-    print_draws(&rt, &m[0..339])?;
+    print_draws(&rt, &m[..0])?;
+    print_draws(&rt, &m[..97])?;
+    print_draws(&rt, &m[..136])?;
+    print_draws(&rt, &m[..339])?;
     print_tails(&rt, &m, 0)?;
     print_tails(&rt, &m, 132)?;
     print_tails(&rt, &m, 135)?;

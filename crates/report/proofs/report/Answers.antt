@@ -1,6 +1,8 @@
 -- `report::report` meets its contract: by the answer of the header's tests.
-use mathlib.Core.Path.{sym, ap, ◌∙◌}
+use mathlib.Core.Path.{ap, ◌∙◌}
 use mathlib.Core.List.{[]}
+use Prim.Native.Nat.{ℕ}
+use Rattle.refusal.specs.Numbers.{number, number_positive}
 use Rattle.scheme.specs.Program.{text, printed}
 use Rattle.report.specs.Written.{overwritten}
 use Rattle.report.proofs.Writing.{written_front}
@@ -9,17 +11,17 @@ use borrow.Author.Rules.{rules}
 use Rattle.report.proofs.report.Goals as goal
 
 pub put_split-requires : goal.put_split-requires
-put_split-requires c = (sym c.header-head.ensures ∙ c.in-WellFormed.is, search rules, search rules)
+put_split-requires c = (c.in-Ok.ensures.header, search rules, search rules)
 
-pub returns-in-WellFormed : goal.returns-in-WellFormed
-returns-in-WellFormed c =
+pub returns-in-Ok : goal.returns-in-Ok
+returns-in-Ok c =
     let s = c.args in
     c.put_split.ensures ∙ written_front s.out.now (printed s.input.now)
 
-pub returns-in-Refused : goal.returns-in-Refused
-returns-in-Refused c =
+pub returns-in-Err : goal.returns-in-Err
+returns-in-Err c =
     let s = c.args in
+    let refusal = c.in-Err.refusal in
     c.put_verdict.ensures
-    ∙ written_front s.out.now (text c.in-Refused.v [])
-    ∙ ap (overwritten s.out.now) (printed-number s.input.now c.in-Refused.v c.requires.0
-    (sym c.header-head.ensures ∙ c.in-Refused.is))
+    ∙ written_front s.out.now (text c.number.result [])
+    ∙ ap (overwritten s.out.now) (ap (λ (n : ℕ). text n []) c.number.ensures ∙ printed-number s.input.now (number refusal) c.requires.0 (number_positive refusal) c.in-Err.ensures.verdict)
