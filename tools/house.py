@@ -36,6 +36,34 @@ ENDS = [
     ("algebra/specs/BarycentricTurns.antt", "weighed_entry", "an entry after a turn"),
     ("algebra/specs/Dot.antt", "four_lengths", "four rows lie within a list"),
     ("algebra/specs/Rests.antt", "rests_held", "rests are small"),
+    ("algebra/specs/Divided.antt", "sub_product", "a difference with a product"),
+    ("algebra/specs/Dot.antt", "low_fits", "sums of lower parts fit a word"),
+    ("algebra/specs/Dot.antt", "high_fits", "and so do those of upper parts"),
+    ("algebra/specs/Dot.antt", "folded_turn", "an entry after a turn"),
+    ("algebra/specs/Numbers.antt", "eval_n_turn", "Horner's rule, a turn"),
+    ("algebra/specs/Numbers.antt", "eval_n_end", "and its end"),
+    ("algebra/specs/Pairs.antt", "pair_small", "the terms of a pair are small"),
+    ("algebra/specs/Quartic.antt", "quartic_first", "the first coefficient"),
+    ("algebra/specs/Spans.antt", "spans_fit", "spans lie within the coefficients"),
+    ("algebra/specs/Spans.antt", "span_back", "one span less"),
+    ("algebra/specs/Sums.antt", "products_none", "small products, at the start"),
+    ("algebra/specs/Sums.antt", "products_next", "and one more"),
+    ("algebra/specs/Sums.antt", "low_next", "a lower part more"),
+    ("algebra/specs/Sums.antt", "high_next", "an upper part more"),
+    ("algebra/specs/Sums.antt", "spare_at", "an entry has room"),
+    ("algebra/specs/Wrapped.antt", "low_left", "what two sums leave"),
+    ("lists/specs/Bytes.antt", "bytes_left", "the bytes left"),
+    ("lists/specs/Bytes.antt", "one_byte", "a byte as a number"),
+    ("lists/specs/Copies.antt", "*", "copies element by element"),
+    ("lists/specs/Fill.antt", "filled_copy", "a list that was copied"),
+    ("lists/specs/Numbers.antt", "half_is", "two bytes as a number"),
+    ("lists/specs/Numbers.antt", "word_is", "and four"),
+    ("lists/specs/Parts.antt", "front_is", "a front that was written"),
+    ("lists/specs/Parts.antt", "read_front", "and read again"),
+    ("lists/specs/Spliced.antt", "copy_next", "a copy, one element more"),
+    ("lists/specs/Spliced.antt", "copy_done", "and its end"),
+    ("lists/specs/Spliced.antt", "word_stores", "four stores"),
+    ("lists/specs/Spliced.antt", "half_stores", "and two"),
     ("report/proofs/Writing.antt", "front_counts", "the text lies within the buffer"),
 ]
 
@@ -297,8 +325,9 @@ def imports_of(lines, ghost):
 
 # ---- .rt
 
-CLAUSE = re.compile(r"\b(?:(?:requires|ensures|invariant|decreases)\*?(?:\s+\w+)?|ghost \w+\s*[:=])\s*\{")
+CLAUSE = re.compile(r"\b(?:(?:requires|ensures|invariant|decreases)\*?(?:\s+\w+)?|ghost \w+\s*[:=]|(?<=\} )by)\s*\{")
 ITEM = re.compile(r"^(?P<pub>pub )?(?:extern \"C\" )?(?P<kind>fn|const|static|struct|enum) (?P<name>\w+)")
+BLOCK = re.compile(r"^(?:impl|trait)\b")
 USE = re.compile(r"^(?:pub )?use ([^;]*);", re.M)
 ENTRY = "#[unsafe(no_mangle)]"
 TRAITS = {"Read", "Write", "BufRead", "Env"}  # the kit's, which code uses by their methods
@@ -341,7 +370,7 @@ class Item:
 
 
 class Code:
-    """An .rt file: its items, and the clauses apart from the code."""
+    """An .rt file: its items, its `impl` and `trait` blocks, and the clauses apart from the code."""
 
     def __init__(self, text):
         text = without_comments(text)
@@ -370,27 +399,33 @@ class Code:
         code.append(body[at:])
         self.code = "".join(code)
         self.clauses = Words(lex("\n".join(clauses)))
-        self.items = []
-        entry = False
+        self.items, self.blocks = [], []
+        entry, last = False, None
         for number, line in enumerate(self.code.split("\n"), 1):
             match = ITEM.match(line)
             if match:
-                self.items.append(Item(match["kind"], match["name"], number, bool(match["pub"]), entry))
+                last = Item(match["kind"], match["name"], number, bool(match["pub"]), entry)
+                self.items.append(last)
                 line = line[match.end():]
+            elif BLOCK.match(line):
+                last = Item("block", "", number, False, False)
+                self.blocks.append(last)
             if line.strip():
                 entry = line.startswith("#[") and (entry or line.startswith(ENTRY))
-            if self.items:
-                self.items[-1].text += line + "\n"
+            if last:
+                last.text += line + "\n"
         self.words = CodeWords(self.code)
-        for item in self.items:
+        for item in self.items + self.blocks:
             item.words = CodeWords(item.text)
+        for block in self.blocks:  # a type is not used by its own methods
+            block.about = set(re.findall(r"\w+", block.text.partition("{")[0]))
 
 
 class CodeWords:
-    """The names in code: called ones (f of f(..)), those behind a name (a::b), and all."""
+    """The names in code: called ones (f of f(..) and of f::<N>(..)), those behind a name (a::b), and all."""
 
     def __init__(self, text):
-        self.called = set(re.findall(r"(?<![.\w])(\w+)\s*\(", text))
+        self.called = set(re.findall(r"(?<![.\w])(\w+)(?:::<[^();]*?>)?\s*\(", text))
         self.behind = set(re.findall(r"(\w+)::(?=(\w+))", text))
         self.all = set(re.findall(r"(?<![.\w])\w+", text))
 
@@ -648,6 +683,7 @@ class Repository:
                 if item.entry or item.name == "main" or item.name in cited_names:
                     continue
                 inside = any(other.words.use(item) for other in file.code.items if other is not item)
+                inside = inside or any(block.words.use(item) for block in file.code.blocks if item.name not in block.about)
                 outside = False
                 for other in self.rt.values():
                     by = file.path.stem if other.crate == file.crate else file.crate
@@ -882,8 +918,10 @@ SAMPLE = {  # a small repository without a finding
     "crates/one/proofs/double/Proof.antt": "use Rattle.one.proofs.Ways.{turned, both as two}\n\nlocal : turned\nlocal = two\n\npub double-spec : local\ndouble-spec = local\n",
     "crates/one/proofs/halve/Answers.antt": "use Rattle.std.specs.Prelude.{ℕ}\nuse Rattle.one.proofs.halve.Goals as goal\n\nstep : ℕ → ℕ\nstep n = n\n\npub loop-i-init : goal.loop-i-init\nloop-i-init c = step c\n",
     "crates/one/src/lib.rt": "ghost use Rattle.std.specs.Prelude.{◌<◌, ◌≡◌};\nghost use Rattle.one.specs.Sets.{twice};\n\nuse std::io::Read;\nuse two::Pair;\n\nconst LIMIT: u32 = 4; // x - y\n\n"
+                             "fn wide<const N: u32>(n: u32) -> u32 {\n    n.min(N)\n}\n\nstruct Step {\n    n: u32,\n}\n\n"
+                             "fn next(n: u32) -> u32 {\n    n\n}\n\nimpl Step {\n    fn over(self) -> Step {\n        Step { n: next(self.n) }\n    }\n}\n\n"
                              "fn small(n: u32) -> bool {\n    n < LIMIT\n}\n\n#[unsafe(no_mangle)]\n#[tactic(auto, using(crate::proofs::More::far))]\npub extern \"C\" fn double(n: u32, p: Pair) -> u32\n    requires { n < 5 }\n"
-                             "    ensures exact { result ≡ twice n }\n{\n    if small(n) { return n + n; }\n    n + n\n}\n",
+                             "    ensures exact { result ≡ twice n }\n{\n    if small(n) { return n + n; }\n    let step = Step { n: wide::<{ 3 + 1 }>(n) };\n    n + n\n}\n",
     "crates/one/must-fail/three_times.edit": "Three times.\nfile: src/lib.rt\nold:     if small(n) { return n + n; }\nnew:     if small(n) { return n; }\n",
     "crates/one/must-fail/four_times.edit": "file: specs/Sets.antt\nold: twice n = n + n\nnew: twice n = n\n",
 }
@@ -908,6 +946,9 @@ BREAKS = [  # what is broken, file, old text, new text, the finding
     ("an unused function", "crates/one/src/lib.rt", "fn small(", "fn idle(n: u32) -> u32 {\n    n\n}\n\nfn small(", "fn `idle` is used by nothing"),
     ("a needless pub of a function", "crates/one/src/lib.rt", "fn small(", "pub fn small(", "`small` is `pub`, and no other crate uses it"),
     ("an unused constant", "crates/one/src/lib.rt", "n < LIMIT", "n < 4", "const `LIMIT` is used by nothing"),
+    ("a function without its call with a const parameter", "crates/one/src/lib.rt", "wide::<{ 3 + 1 }>(n)", "n", "fn `wide` is used by nothing"),
+    ("a function that no method calls any more", "crates/one/src/lib.rt", "next(self.n)", "self.n", "fn `next` is used by nothing"),
+    ("a type that its own methods alone use", "crates/one/src/lib.rt", "let step = Step {", "let step = Other {", "struct `Step` is used by nothing"),
     ("a cited name that is not there", "docs/DECISIONS.md", "`value`", "`worth`", "`worth`: there is no such definition"),
     ("a cited function that is not there", "docs/PROMISES.md", "one::double", "one::triple", "one has no such function"),
     ("a cited file that is not there", "README.md", "docs/PROMISES.md", "docs/PROMISE.md", "there is no such file"),

@@ -24,19 +24,20 @@ find_archive smallwood_c
 
 # The baseline, as far as it occurs, by AMD64 Architecture Programmer's Manual, volumes 3 and 4. Integer instructions
 # may have objdump's ending b, w, l or q; of j, set and cmov there is one for each condition.
-integer='add and call cmp dec div imul inc jmp lea mov movabs movzb movzw mul neg nop not or pop push ret rol shl shr
+integer='adc add and call cmp dec div imul inc jmp lea mov movabs movzb movzw mul neg nop not or pop push ret rol shl shr
     sub test xchg xor'
-sse='movaps movlps movmskps movups shufps xorps'
-sse2='movd movdqa movdqu movq movsd paddd paddq pand pandn pcmpeqb pcmpeqd pcmpgtd pmovmskb pmuludq por pshufd pshuflw
-    pslld psllq psrlq psubd psubq punpckhdq punpckldq punpcklqdq punpcklwd pxor'
+sse='movaps movlps movmskps movups orps shufps xorps'
+sse2='movd movdqa movdqu movq movsd packssdw paddd paddq pand pandn pcmpeqb pcmpeqd pcmpgtd pmovmskb pmuludq por pshufd pshuflw
+    pslld psllq psllw psrlq psubd psubq punpckhdq punpckhwd punpckldq punpcklqdq punpcklwd pxor'
 conditions='a ae b be e g ge l le ne no np ns o p s'
 
 # Where ud2, which stops a program, may stand: once in each of these functions, behind a branch that is taken where a
 # divisor is 0. The contracts exclude that, and the proofs hold every caller to them; the compiler does not know.
-#     evaluation_test::tabled_walk barycentric::inverses in it: q modulo k as a u32, where a table has over 2^32 entries
-#     leaf_draw::draw_leaves       a word modulo leaves - j, where more leaves are drawn than there are
-#     reply_tests::read_verdict    horner::evaluate_by in it: the width divided by a span of 0, where the width is 0
-stops='evaluation_test::tabled_walk leaf_draw::draw_leaves reply_tests::read_verdict'
+#     evaluation_test::choosing_walk  barycentric::inverses in it: q modulo k as a u32, where a table has over 2^32 entries
+#     proof_checker::check_proof      leaf_draw::draw_leaves in it: a word modulo leaves - j, where more leaves are drawn
+#     smallwood_prove                 than there are
+#     reply_tests::words_verdict      horner::evaluate_by in it: the width divided by a span of 0, where the width is 0
+stops='evaluation_test::choosing_walk proof_checker::check_proof smallwood_prove reply_tests::words_verdict'
 
 # list ARCHIVE: its code, a line for each instruction
 list() {
