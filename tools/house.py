@@ -10,7 +10,8 @@
 2. Every definition and law is used, by something that is used itself or is an end; what is `pub` is needed outside
    its file. Ends are contracts, what an attribute `tactic(..)` names, the answers, invariants and measures that rt asks
    of a function's proof, theorems `..-spec`, what a must-fail edit puts in, what README.md, docs/PROMISES.md or
-   docs/DECISIONS.md cite, and ENDS below. The same for functions, types and constants of .rt files.
+   docs/DECISIONS.md cite, and ENDS below. The same for functions, types, constants and traits of .rt files, and for
+   methods, which are told apart by their names alone.
 3. What these three cite in backticks exists, and in the place that they name; so do the must-fail edits.
 4. What a must-fail edit replaces stands once in its file, and the names that it puts in are to be had there.
 5. No file under crates/ has over 500 lines, stored data aside; no line of .rt and .antt files over 400 characters.
@@ -326,8 +327,10 @@ def imports_of(lines, ghost):
 # ---- .rt
 
 CLAUSE = re.compile(r"\b(?:(?:requires|ensures|invariant|decreases)\*?(?:\s+\w+)?|ghost \w+\s*[:=]|(?<=\} )by)\s*\{")
-ITEM = re.compile(r"^(?P<pub>pub )?(?:extern \"C\" )?(?P<kind>fn|const|static|struct|enum) (?P<name>\w+)")
-BLOCK = re.compile(r"^(?:impl|trait)\b")
+ITEM = re.compile(r"^(?P<pub>pub )?(?:extern \"C\" )?(?P<kind>fn|const|static|struct|enum|trait) (?P<name>\w+)")
+BLOCK = re.compile(r"^impl\b")
+OF_TRAIT = re.compile(r"^impl\b[^{]* for ")  # its methods are called by the trait
+METHOD = re.compile(r"^    (?P<pub>pub )?(?:const )?fn (?P<name>\w+)")
 USE = re.compile(r"^(?:pub )?use ([^;]*);", re.M)
 ENTRY = "#[unsafe(no_mangle)]"
 TRAITS = {"Read", "Write", "BufRead", "Env"}  # the kit's, which code uses by their methods
@@ -370,7 +373,7 @@ class Item:
 
 
 class Code:
-    """An .rt file: its items, its `impl` and `trait` blocks, and the clauses apart from the code."""
+    """An .rt file: its items, its `impl` blocks, the methods of these and of traits, and the clauses apart from the code."""
 
     def __init__(self, text):
         text = without_comments(text)
@@ -399,38 +402,51 @@ class Code:
         code.append(body[at:])
         self.code = "".join(code)
         self.clauses = Words(lex("\n".join(clauses)))
-        self.items, self.blocks = [], []
-        entry, last = False, None
+        self.items, self.blocks, self.methods = [], [], []
+        entry, last, home = False, None, None  # home: the block or trait that methods stand in
         for number, line in enumerate(self.code.split("\n"), 1):
             match = ITEM.match(line)
             if match:
                 last = Item(match["kind"], match["name"], number, bool(match["pub"]), entry)
                 self.items.append(last)
                 line = line[match.end():]
+                home = last if last.kind == "trait" else None
             elif BLOCK.match(line):
                 last = Item("block", "", number, False, False)
                 self.blocks.append(last)
+                home = None if OF_TRAIT.match(line) else last
+            elif home and METHOD.match(line):
+                match = METHOD.match(line)
+                last = Item("method", match["name"], number, bool(match["pub"]), False)
+                last.home = home
+                self.methods.append(last)
+                line = line[match.end():]
             if line.strip():
                 entry = line.startswith("#[") and (entry or line.startswith(ENTRY))
             if last:
                 last.text += line + "\n"
         self.words = CodeWords(self.code)
-        for item in self.items + self.blocks:
+        for item in self.items + self.blocks + self.methods:
             item.words = CodeWords(item.text)
+            item.about = set()
         for block in self.blocks:  # a type is not used by its own methods
             block.about = set(re.findall(r"\w+", block.text.partition("{")[0]))
+        for method in self.methods:
+            method.about = method.home.about | {method.home.name}
 
 
 class CodeWords:
-    """The names in code: called ones (f of f(..) and of f::<N>(..)), those behind a name (a::b), and all."""
+    """The names in code: called ones (f of f(..) and of f::<N>(..)), those of methods (f of x.f(..) and of T::f), those
+    behind a name (a::b), and all."""
 
     def __init__(self, text):
         self.called = set(re.findall(r"(?<![.\w])(\w+)(?:::<[^();]*?>)?\s*\(", text))
+        self.methods = set(re.findall(r"\.\s*(\w+)(?:::<[^();]*?>)?\s*\(", text)) | set(re.findall(r"::(\w+)", text))
         self.behind = set(re.findall(r"(\w+)::(?=(\w+))", text))
         self.all = set(re.findall(r"(?<![.\w])\w+", text))
 
     def use(self, item):
-        return item.name in (self.called if item.kind == "fn" else self.all)
+        return item.name in {"fn": self.called, "method": self.methods}.get(item.kind, self.all)
 
 
 # ---- the repository
@@ -679,22 +695,29 @@ class Repository:
     def check_code(self):
         cited_names = self.ends()
         for file in self.rt.values():
-            for item in file.code.items:
+            own = file.code.items + file.code.blocks + file.code.methods
+            for item in file.code.items + file.code.methods:
                 if item.entry or item.name == "main" or item.name in cited_names:
                     continue
-                inside = any(other.words.use(item) for other in file.code.items if other is not item)
-                inside = inside or any(block.words.use(item) for block in file.code.blocks if item.name not in block.about)
+                inside = any(other.words.use(item) for other in own if other is not item and item.name not in other.about)
                 outside = False
                 for other in self.rt.values():
-                    by = file.path.stem if other.crate == file.crate else file.crate
-                    homes = {by, "super::" + by, "%s::%s" % (by, file.path.stem)}
-                    imported = any(crate in homes and name == item.name for _, crate, name in other.code.uses)
-                    if other is not file and (imported and other.code.words.use(item) or (by, item.name) in other.code.words.behind):
+                    if other is not file and self.uses_from(other, file, item):
                         outside = True
-                if item.kind == "fn" and item.pub and not outside:
+                if item.kind in ("fn", "method") and item.pub and not outside:
                     self.find("function", file.name, item.line, "`%s` is `pub`, and %s" % (item.name, "no other crate uses it" if inside else "nothing uses it"), item.name)
                 elif not inside and not outside:
                     self.find("function", file.name, item.line, "%s `%s` is used by nothing" % (item.kind, item.name), item.name)
+
+    @staticmethod
+    def uses_from(other, file, item):
+        """Whether the code of another file uses an item of this one; of methods their names alone are known."""
+        if item.kind == "method":
+            return other.code.words.use(item)
+        by = file.path.stem if other.crate == file.crate else file.crate
+        homes = {by, "super::" + by, "%s::%s" % (by, file.path.stem)}
+        imported = any(crate in homes and name == item.name for _, crate, name in other.code.uses)
+        return imported and other.code.words.use(item) or (by, item.name) in other.code.words.behind
 
     # -- 3
 
@@ -921,7 +944,7 @@ SAMPLE = {  # a small repository without a finding
                              "fn wide<const N: u32>(n: u32) -> u32 {\n    n.min(N)\n}\n\nstruct Step {\n    n: u32,\n}\n\n"
                              "fn next(n: u32) -> u32 {\n    n\n}\n\nimpl Step {\n    fn over(self) -> Step {\n        Step { n: next(self.n) }\n    }\n}\n\n"
                              "fn small(n: u32) -> bool {\n    n < LIMIT\n}\n\n#[unsafe(no_mangle)]\n#[tactic(auto, using(crate::proofs::More::far))]\npub extern \"C\" fn double(n: u32, p: Pair) -> u32\n    requires { n < 5 }\n"
-                             "    ensures exact { result ≡ twice n }\n{\n    if small(n) { return n + n; }\n    let step = Step { n: wide::<{ 3 + 1 }>(n) };\n    n + n\n}\n",
+                             "    ensures exact { result ≡ twice n }\n{\n    if small(n) { return n + n; }\n    let step = Step { n: wide::<{ 3 + 1 }>(n) }.over();\n    n + n\n}\n",
     "crates/one/must-fail/three_times.edit": "Three times.\nfile: src/lib.rt\nold:     if small(n) { return n + n; }\nnew:     if small(n) { return n; }\n",
     "crates/one/must-fail/four_times.edit": "file: specs/Sets.antt\nold: twice n = n + n\nnew: twice n = n\n",
 }
@@ -949,6 +972,11 @@ BREAKS = [  # what is broken, file, old text, new text, the finding
     ("a function without its call with a const parameter", "crates/one/src/lib.rt", "wide::<{ 3 + 1 }>(n)", "n", "fn `wide` is used by nothing"),
     ("a function that no method calls any more", "crates/one/src/lib.rt", "next(self.n)", "self.n", "fn `next` is used by nothing"),
     ("a type that its own methods alone use", "crates/one/src/lib.rt", "let step = Step {", "let step = Other {", "struct `Step` is used by nothing"),
+    ("a method that nothing calls any more", "crates/one/src/lib.rt", ".over()", "", "method `over` is used by nothing"),
+    ("a method that it alone calls", "crates/one/src/lib.rt", "impl Step {\n", "impl Step {\n    fn idle(self) -> Step {\n        self.idle()\n    }\n\n", "method `idle` is used by nothing"),
+    ("a needless pub of a method", "crates/one/src/lib.rt", "    fn over(", "    pub fn over(", "`over` is `pub`, and no other crate uses it"),
+    ("an unused trait", "crates/one/src/lib.rt", "struct Step", "pub trait Idle {\n    fn idle(self);\n}\n\nstruct Step", "trait `Idle` is used by nothing"),
+    ("an unused method of a trait", "crates/one/src/lib.rt", "struct Step", "pub trait Idle {\n    fn idle(self);\n}\n\nstruct Step", "method `idle` is used by nothing"),
     ("a cited name that is not there", "docs/DECISIONS.md", "`value`", "`worth`", "`worth`: there is no such definition"),
     ("a cited function that is not there", "docs/PROMISES.md", "one::double", "one::triple", "one has no such function"),
     ("a cited file that is not there", "README.md", "docs/PROMISES.md", "docs/PROMISE.md", "there is no such file"),

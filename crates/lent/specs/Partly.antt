@@ -1,4 +1,4 @@
--- What is lent, as far as a function is given it: inner functions are lent only what they read, and their contracts say the rest of it.
+-- What is lent, as far as a function is given it: with zeros or nothing in the place of what does not matter.
 use Rattle.std.specs.Prelude.{List, [], ℕ, replicate}
 use Rattle.tree.specs.Leaf.{salt_length}
 use Rattle.scheme.specs.Layers.{Lent, lent_of}

@@ -23,7 +23,7 @@ pub struct OfflineQuery<'a> {
     pub shape: Shape,
     pub m: u32,
     pub kappa: u32,
-    ghost asks: { AsksOffline bytes.now kappa shape m },
+    pub ghost asks: { AsksOffline bytes.now kappa shape m },
 }
 
 // How long the question is; its points stand where a conversation's question has its challenges.

@@ -8,3 +8,5 @@ pub mod Answers
 pub mod Parts
 -- what the search and the whole leave
 pub mod Outcome
+-- that the salt matters to no proof
+pub mod Unsalted

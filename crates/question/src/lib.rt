@@ -31,7 +31,7 @@ pub struct Query<'a> {
     pub bytes: &'a [u8],
     pub shape: Shape,
     pub m: u32,
-    ghost asks: { Asks bytes.now shape m },
+    pub ghost asks: { Asks bytes.now shape m },
 }
 
 // Does a header begin with the mark?

@@ -14,5 +14,5 @@ pub struct Task<'a> {
     pub challenges: &'a [u32],
     pub points: &'a [u32],
     pub indices: &'a [usize],
-    ghost well_posed: { Posed (sizes_in shape) salt.now challenges.now points.now indices.now } by { Posed-prop (sizes_in shape) salt.now challenges.now points.now indices.now },
+    pub ghost well_posed: { Posed (sizes_in shape) salt.now challenges.now points.now indices.now } by { Posed-prop (sizes_in shape) salt.now challenges.now points.now indices.now },
 }
