@@ -53,10 +53,11 @@
  * What stays in memory
  *
  *   The stack that a call used is not wiped, and all that stays there is to be taken for secret. From it can be computed, at ten small
- *   sizes that were looked at: after a commit every mask, and at five of them one to three whole rows; after an open or a prove, at six of
- *   them, the last mask; after an interpolate every value, where it returns 13 too (the handbook has more, "Secrets in memory"). So after
- *   each of these calls, in the same function, call smallwood_wipe_stack of smallwood_wipe.h; or call on a stack of your own and wipe that.
- *   Coefficients, tails, blinds, masks, nonces and the table are the caller's to wipe, by smallwood_wipe; the salt is no secret.
+ *   sizes that were looked at: after a commit every mask, and at five of them one to three whole rows; after an open or a prove nothing in
+ *   this build, and in others the last mask; after an interpolate every value, where it returns 13 too (the handbook has more, "Secrets in
+ *   memory"). So after each of these calls, in the same function, call smallwood_wipe_stack of smallwood_wipe.h; or call on a stack of your
+ *   own and wipe that. Coefficients, tails, blinds, masks, nonces and the table are the caller's to wipe, by smallwood_wipe; the salt is
+ *   no secret.
  *
  * Timing
  *
